@@ -10,17 +10,17 @@ use Rattle.debug_lines.specs.DebugRequests.{DebugRequest, Script, Stepping, Mode
 use Rattle.debug_lines.specs.Repeats.{repeated_text}
 use Rattle.debug_lines.specs.SteppingRequests.{SteppingRequest}
 use Rattle.debug_lines.specs.Tidy.{tidied_line}
-use Rattle.debug_session.specs.DebugScript.{debug_line_told, line_opens, plain_line_told, repeated_told, script_line_told, script_line_told_in, simple_line_told, simple_request_told, stepping_now, tidy_line_told, tidy_line_told_by, unless_quit}
+use Rattle.debug_session.specs.DebugScript.{debug_line_answer, line_opens, plain_line_answer, repeated_answer, script_line_answer, script_line_answer_in, simple_line_answer, simple_request_answer, stepping_now, tidy_line_answer, tidy_line_answer_by, unless_quit}
 use Rattle.debug_session.specs.DebugState.{DebugAnswered, DebugState, then_debugged}
 use Rattle.debug_session.specs.Naming.{if_repeatable, meant_request, naming_of, numbered_line, repeated_with_places, unless_alone}
-use Rattle.debug_session.specs.declared.session.DebugSetting.{DebugSetting}
+use Rattle.debug_session.specs.declared.session.DebugSettings.{DebugSettings}
 use Rattle.debug_session.proofs.LineLemmas.{joined}
 use Rattle.debug_session.proofs.NamingLemmas.{repeatable_alone, unknown_alone}
 
 -- A LINE OF A SCRIPT
 
-plain_alone : (c : DebugSetting) (d : DebugState) (number : ℕ) (r : Request) (block other : List (List ℕ)) → opens_block r ≡ false
-    → plain_line_told c d number r block ≡ plain_line_told c d number r other
+plain_alone : (c : DebugSettings) (d : DebugState) (number : ℕ) (r : Request) (block other : List (List ℕ)) → opens_block r ≡ false
+    → plain_line_answer c d number r block ≡ plain_line_answer c d number r other
 plain_alone c d number (Hex name) block other alone = absurd (cc)
 plain_alone c d number (Asm name origin) block other alone = absurd (cc)
 plain_alone c d number Nothing block other alone = refl
@@ -42,21 +42,21 @@ plain_alone c d number Modules block other alone = refl
 plain_alone c d number Flex block other alone = refl
 plain_alone c d number Unknown block other alone = refl
 
-script_alone_in : (o : Option SteppingRequest) (c : DebugSetting) (d : DebugState) (number : ℕ) (r : Request)
+script_alone_in : (o : Option SteppingRequest) (c : DebugSettings) (d : DebugState) (number : ℕ) (r : Request)
     (block other : List (List ℕ)) → opens_block r ≡ false
-    → script_line_told_in o c d number r block ≡ script_line_told_in o c d number r other
+    → script_line_answer_in o c d number r block ≡ script_line_answer_in o c d number r other
 script_alone_in (Some stepping) c d number r block other alone = refl
 script_alone_in None c d number r block other alone = plain_alone c d number r block other alone
 
-script_alone : (c : DebugSetting) (d : DebugState) (number : ℕ) (r : Request) (block other : List (List ℕ)) → opens_block r ≡ false
-    → script_line_told c d number r block ≡ script_line_told c d number r other
+script_alone : (c : DebugSettings) (d : DebugState) (number : ℕ) (r : Request) (block other : List (List ℕ)) → opens_block r ≡ false
+    → script_line_answer c d number r block ≡ script_line_answer c d number r other
 script_alone c d number r block other alone = script_alone_in (stepping_now d r) c d number r block other alone
 
 -- A TIDY LINE
 
-request_alone : (c : DebugSetting) (d : DebugState) (number : ℕ) (words : List ℕ) (r : DebugRequest) (block other : List (List ℕ))
+request_alone : (c : DebugSettings) (d : DebugState) (number : ℕ) (words : List ℕ) (r : DebugRequest) (block other : List (List ℕ))
     → debug_opens_block r ≡ false
-    → simple_request_told c d number words r block ≡ simple_request_told c d number words r other
+    → simple_request_answer c d number words r block ≡ simple_request_answer c d number words r other
 request_alone c d number words (Script request) block other alone = script_alone c d number request block other alone
 request_alone c d number words (Stepping is_traced request) block other alone = refl
 request_alone c d number words (Mode request) block other alone = refl
@@ -89,9 +89,9 @@ meant_alone : (n : LineNaming) (line : List ℕ) → debug_opens_block (simple_r
 meant_alone n line alone =
     meant_by (is_known (simple_request line)) (simple_request line) (simple_request (numbered_line n line)) alone
 
-simple_alone : (c : DebugSetting) (d : DebugState) (number : ℕ) (line : List ℕ) (block other : List (List ℕ))
+simple_alone : (c : DebugSettings) (d : DebugState) (number : ℕ) (line : List ℕ) (block other : List (List ℕ))
     → debug_opens_block (simple_request line) ≡ false
-    → simple_line_told c d number line block ≡ simple_line_told c d number line other
+    → simple_line_answer c d number line block ≡ simple_line_answer c d number line other
 simple_alone c d number line block other alone =
     request_alone c d number line (meant_request (naming_of d) line) block other (meant_alone (naming_of d) line alone)
 
@@ -151,26 +151,26 @@ places_alone_by false n o = if_repeatable_alone n o
 places_alone : (n : LineNaming) (line : List ℕ) → IfSome (repeated_with_places n line) IsAlone
 places_alone n line = places_alone_by (is_known (simple_request line)) n (repeated_text line)
 
-repeat_alone : (count : ℕ) (c : DebugSetting) (number : ℕ) (line : List ℕ) (block other : List (List ℕ)) (d : DebugState)
+repeat_alone : (count : ℕ) (c : DebugSettings) (number : ℕ) (line : List ℕ) (block other : List (List ℕ)) (d : DebugState)
     → debug_opens_block (simple_request line) ≡ false
-    → repeated_told count c number line block d ≡ repeated_told count c number line other d
-unfolding repeated_told
+    → repeated_answer count c number line block d ≡ repeated_answer count c number line other d
+unfolding repeated_answer
 repeat_alone zero c number line block other d alone = refl
 repeat_alone (suc more) c number line block other d alone =
-    let first : DebugAnswered = simple_line_told c d number line other in
-    ap (λ (told : DebugAnswered). unless_quit d (then_debugged told (λ after. repeated_told more c number line block after)))
+    let first : DebugAnswered = simple_line_answer c d number line other in
+    ap (λ (reported : DebugAnswered). unless_quit d (then_debugged reported (λ after. repeated_answer more c number line block after)))
     (simple_alone c d number line block other alone)
-    ∙ ap (λ (told : DebugAnswered). unless_quit d (joined first told))
+    ∙ ap (λ (reported : DebugAnswered). unless_quit d (joined first reported))
     (repeat_alone more c number line block other first.state alone)
 
 -- A LINE
 
 -- what is repeated by the line itself, or by what it means
-tidy_alone_by : (itself meant : Option (ℕ × List ℕ)) (c : DebugSetting) (d : DebugState) (number : ℕ) (words : List ℕ)
+tidy_alone_by : (itself meant : Option (ℕ × List ℕ)) (c : DebugSettings) (d : DebugState) (number : ℕ) (words : List ℕ)
     (block other : List (List ℕ)) → IfSome itself IsAlone → IfSome meant IsAlone
     → debug_opens_block (own_request_by itself words) ≡ false
-    → tidy_line_told_by (option_or itself meant) c d number words block
-    ≡ tidy_line_told_by (option_or itself meant) c d number words other
+    → tidy_line_answer_by (option_or itself meant) c d number words block
+    ≡ tidy_line_answer_by (option_or itself meant) c d number words other
 unfolding IsAlone
 tidy_alone_by (Some repeated) meant c d number words block other first next alone =
     repeat_alone repeated.0 c number repeated.1 block other d first
@@ -179,21 +179,21 @@ tidy_alone_by None (Some repeated) c d number words block other first next alone
 tidy_alone_by None None c d number words block other first next alone =
     simple_alone c d number words block other alone
 
-tidy_alone : (c : DebugSetting) (d : DebugState) (number : ℕ) (words : List ℕ) (block other : List (List ℕ))
+tidy_alone : (c : DebugSettings) (d : DebugState) (number : ℕ) (words : List ℕ) (block other : List (List ℕ))
     → debug_opens_block (own_request words) ≡ false
-    → tidy_line_told c d number words block ≡ tidy_line_told c d number words other
+    → tidy_line_answer c d number words block ≡ tidy_line_answer c d number words other
 tidy_alone c d number words block other alone =
     tidy_alone_by (repeated_line words) (repeated_with_places (naming_of d) words) c d number words block other
     (repeated_line_alone words) (places_alone (naming_of d) words) alone
 
-line_alone_by : (is_script : Bool) (c : DebugSetting) (d : DebugState) (number : ℕ) (r : Request) (words : List ℕ)
+line_alone_by : (is_script : Bool) (c : DebugSettings) (d : DebugState) (number : ℕ) (r : Request) (words : List ℕ)
     (block other : List (List ℕ)) → debug_opens_block (if is_script then Script r else own_request words) ≡ false
-    → (if is_script then script_line_told c d number r block else tidy_line_told c d number words block)
-    ≡ (if is_script then script_line_told c d number r other else tidy_line_told c d number words other)
+    → (if is_script then script_line_answer c d number r block else tidy_line_answer c d number words block)
+    ≡ (if is_script then script_line_answer c d number r other else tidy_line_answer c d number words other)
 line_alone_by true c d number r words block other alone = script_alone c d number r block other alone
 line_alone_by false c d number r words block other alone = tidy_alone c d number words block other alone
 
-pub line_alone : (c : DebugSetting) (d : DebugState) (number : ℕ) (line : List ℕ) (block other : List (List ℕ))
-    → line_opens line ≡ false → debug_line_told c d number line block ≡ debug_line_told c d number line other
+pub line_alone : (c : DebugSettings) (d : DebugState) (number : ℕ) (line : List ℕ) (block other : List (List ℕ))
+    → line_opens line ≡ false → debug_line_answer c d number line block ≡ debug_line_answer c d number line other
 line_alone c d number line block other alone =
     line_alone_by (is_script_request (request_of line)) c d number (request_of line) (tidied_line line) block other alone

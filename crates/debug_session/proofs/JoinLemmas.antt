@@ -6,11 +6,11 @@ use Rattle.debug_tables.proofs.RunMeterLemmas.ScriptLemmas.{lines_after-shorter,
 use Rattle.command_shell_lines.specs.Blocks.{after_block, block_lines, lines_after, lines_in_block, lines_taken}
 use Rattle.command_shell_lines.specs.Requests.{Hex, Nothing, is_end_of_block}
 use Rattle.debug_lines.specs.WholeDebugRequests.{is_debug_block_open_after_lines}
-use Rattle.debug_session.specs.DebugScript.{debug_line_told, debug_lines_told, line_opens, some_lines_told}
+use Rattle.debug_session.specs.DebugScript.{debug_line_answer, debug_lines_answer, line_opens, some_lines_answer}
 use Rattle.debug_session.specs.DebugState.{DebugAnswered, DebugState, debug_answer}
-use Rattle.debug_session.specs.declared.session.DebugSetting.{DebugSetting}
+use Rattle.debug_session.specs.declared.session.DebugSettings.{DebugSettings}
 use Rattle.debug_session.proofs.AloneLemmas.{line_alone}
-use Rattle.debug_session.proofs.LineLemmas.{joined, none_told, step_told}
+use Rattle.debug_session.proofs.LineLemmas.{joined, none_answer, step_answer}
 
 -- A BLOCK THAT IS WHOLE
 
@@ -92,76 +92,76 @@ next_counted false number more line front counted =
     sym (number_step number (number + 1) (number + 1 + lines_taken false front) more line (line ∷ front) front (lines_after false front)
     Nothing (omega (arith, counted)) refl refl refl refl)
 
-told_front : (opens : Bool) (c : DebugSetting) (d : DebugState) (number : ℕ) (line : List ℕ) (front rest : List (List ℕ))
+answer_front : (opens : Bool) (c : DebugSettings) (d : DebugState) (number : ℕ) (line : List ℕ) (front rest : List (List ℕ))
     → line_opens line ≡ opens → is_debug_block_open_after_lines opens front ≡ false
-    → debug_line_told c d number line (block_lines (front ++ rest)) ≡ debug_line_told c d number line (block_lines front)
-told_front true c d number line front rest is closed = ap (debug_line_told c d number line) (block_front front rest closed)
-told_front false c d number line front rest is closed =
+    → debug_line_answer c d number line (block_lines (front ++ rest)) ≡ debug_line_answer c d number line (block_lines front)
+answer_front true c d number line front rest is closed = ap (debug_line_answer c d number line) (block_front front rest closed)
+answer_front false c d number line front rest is closed =
     line_alone c d number line (block_lines (front ++ rest)) (block_lines front) is
 
 -- REQUESTS THAT ARE WHOLE
 
 join_texts : (first next last : DebugAnswered) → joined first (joined next last) ≡ joined (joined first next) last
 join_texts first next last =
-    ap (λ (text : List ℕ). let told : DebugAnswered = record { state = last.state; text = text } in told)
+    ap (λ (text : List ℕ). let reported : DebugAnswered = record { state = last.state; text = text } in reported)
     (sym (append_assoc first.text next.text last.text))
 
-quit_join : (c : DebugSetting) (number more : ℕ) (d : DebugState) (front rest : List (List ℕ)) → d.has_quit ≡ true
-    → debug_lines_told c number d (front ++ rest)
-    ≡ joined (debug_lines_told c number d front) (debug_lines_told c more (debug_lines_told c number d front).state rest)
+quit_join : (c : DebugSettings) (number more : ℕ) (d : DebugState) (front rest : List (List ℕ)) → d.has_quit ≡ true
+    → debug_lines_answer c number d (front ++ rest)
+    ≡ joined (debug_lines_answer c number d front) (debug_lines_answer c more (debug_lines_answer c number d front).state rest)
 quit_join c number more d front rest quit =
-    none_told (length (front ++ rest)) c number d (front ++ rest) quit
-    ∙ ap (joined (debug_answer d [])) (sym (none_told (length rest) c more d rest quit))
-    ∙ ap (λ (first : DebugAnswered). joined first (debug_lines_told c more first.state rest))
-    (sym (none_told (length front) c number d front quit))
+    none_answer (length (front ++ rest)) c number d (front ++ rest) quit
+    ∙ ap (joined (debug_answer d [])) (sym (none_answer (length rest) c more d rest quit))
+    ∙ ap (λ (first : DebugAnswered). joined first (debug_lines_answer c more first.state rest))
+    (sym (none_answer (length front) c number d front quit))
 
-nothing_first : (c : DebugSetting) (number more : ℕ) (d : DebugState) (rest : List (List ℕ)) → more ≡ number
-    → debug_lines_told c number d rest
-    ≡ joined (debug_lines_told c number d []) (debug_lines_told c more (debug_lines_told c number d []).state rest)
-unfolding some_lines_told
-nothing_first c number more d rest same = ap (λ (n : ℕ). debug_lines_told c n d rest) (sym same)
+nothing_first : (c : DebugSettings) (number more : ℕ) (d : DebugState) (rest : List (List ℕ)) → more ≡ number
+    → debug_lines_answer c number d rest
+    ≡ joined (debug_lines_answer c number d []) (debug_lines_answer c more (debug_lines_answer c number d []).state rest)
+unfolding some_lines_answer
+nothing_first c number more d rest same = ap (λ (n : ℕ). debug_lines_answer c n d rest) (sym same)
 
-first_of_lines : (c : DebugSetting) (number : ℕ) (d : DebugState) (line : List ℕ) (rest : List (List ℕ)) → d.has_quit ≡ false
-    → debug_lines_told c number d (line ∷ rest)
-    ≡ joined (debug_line_told c d (number + 1) line (block_lines rest))
-    (debug_lines_told c (number + 1 + lines_taken (line_opens line) rest)
-    (debug_line_told c d (number + 1) line (block_lines rest)).state (lines_after (line_opens line) rest))
+first_of_lines : (c : DebugSettings) (number : ℕ) (d : DebugState) (line : List ℕ) (rest : List (List ℕ)) → d.has_quit ≡ false
+    → debug_lines_answer c number d (line ∷ rest)
+    ≡ joined (debug_line_answer c d (number + 1) line (block_lines rest))
+    (debug_lines_answer c (number + 1 + lines_taken (line_opens line) rest)
+    (debug_line_answer c d (number + 1) line (block_lines rest)).state (lines_after (line_opens line) rest))
 first_of_lines c number d line rest quit =
-    step_told c c number (number + 1) (number + 1 + lines_taken (line_opens line) rest) d
-    (debug_line_told c d (number + 1) line (block_lines rest)).state line (line ∷ rest) rest (lines_after (line_opens line) rest)
+    step_answer c c number (number + 1) (number + 1 + lines_taken (line_opens line) rest) d
+    (debug_line_answer c d (number + 1) line (block_lines rest)).state line (line ∷ rest) rest (lines_after (line_opens line) rest)
     quit refl refl refl refl refl refl
 
 -- one request, and the others before the rest
-one_join : (c : DebugSetting) (number more : ℕ) (d : DebugState) (line : List ℕ) (front rest : List (List ℕ)) → d.has_quit ≡ false
+one_join : (c : DebugSettings) (number more : ℕ) (d : DebugState) (line : List ℕ) (front rest : List (List ℕ)) → d.has_quit ≡ false
     → is_debug_block_open_after_lines (line_opens line) front ≡ false → more ≡ number + 1 + length front
     → ((next : ℕ) (s : DebugState) → more ≡ next + length (lines_after (line_opens line) front)
-    → debug_lines_told c next s (lines_after (line_opens line) front ++ rest)
-    ≡ joined (debug_lines_told c next s (lines_after (line_opens line) front))
-    (debug_lines_told c more (debug_lines_told c next s (lines_after (line_opens line) front)).state rest))
-    → debug_lines_told c number d (line ∷ (front ++ rest))
-    ≡ joined (debug_lines_told c number d (line ∷ front))
-    (debug_lines_told c more (debug_lines_told c number d (line ∷ front)).state rest)
+    → debug_lines_answer c next s (lines_after (line_opens line) front ++ rest)
+    ≡ joined (debug_lines_answer c next s (lines_after (line_opens line) front))
+    (debug_lines_answer c more (debug_lines_answer c next s (lines_after (line_opens line) front)).state rest))
+    → debug_lines_answer c number d (line ∷ (front ++ rest))
+    ≡ joined (debug_lines_answer c number d (line ∷ front))
+    (debug_lines_answer c more (debug_lines_answer c number d (line ∷ front)).state rest)
 one_join c number more d line front rest quit closed counted others =
     let opens : Bool = line_opens line in
-    let first : DebugAnswered = debug_line_told c d (number + 1) line (block_lines front) in
+    let first : DebugAnswered = debug_line_answer c d (number + 1) line (block_lines front) in
     let next : ℕ = number + 1 + lines_taken opens front in
     let left : List (List ℕ) = lines_after opens front in
-    let middle : DebugAnswered = debug_lines_told c next first.state left in
+    let middle : DebugAnswered = debug_lines_answer c next first.state left in
     first_of_lines c number d line (front ++ rest) quit
-    ∙ ap (λ (told : DebugAnswered). joined told (debug_lines_told c (number + 1 + lines_taken opens (front ++ rest)) told.state
-    (lines_after opens (front ++ rest)))) (told_front opens c d (number + 1) line front rest refl closed)
-    ∙ ap (λ (n : ℕ). joined first (debug_lines_told c (number + 1 + n) first.state (lines_after opens (front ++ rest))))
+    ∙ ap (λ (reported : DebugAnswered). joined reported (debug_lines_answer c (number + 1 + lines_taken opens (front ++ rest)) reported.state
+    (lines_after opens (front ++ rest)))) (answer_front opens c d (number + 1) line front rest refl closed)
+    ∙ ap (λ (n : ℕ). joined first (debug_lines_answer c (number + 1 + n) first.state (lines_after opens (front ++ rest))))
     (count_front opens front rest closed)
-    ∙ ap (λ (ls : List (List ℕ)). joined first (debug_lines_told c next first.state ls)) (left_front opens front rest closed)
+    ∙ ap (λ (ls : List (List ℕ)). joined first (debug_lines_answer c next first.state ls)) (left_front opens front rest closed)
     ∙ ap (joined first) (others next first.state (next_counted opens number more line front counted))
-    ∙ join_texts first middle (debug_lines_told c more middle.state rest)
-    ∙ ap (λ (told : DebugAnswered). joined told (debug_lines_told c more told.state rest))
+    ∙ join_texts first middle (debug_lines_answer c more middle.state rest)
+    ∙ ap (λ (reported : DebugAnswered). joined reported (debug_lines_answer c more reported.state rest))
     (sym (first_of_lines c number d line front quit))
 
-join_by : (n : ℕ) (c : DebugSetting) (number more : ℕ) (d : DebugState) (front rest : List (List ℕ)) → length front ≤ n
+join_by : (n : ℕ) (c : DebugSettings) (number more : ℕ) (d : DebugState) (front rest : List (List ℕ)) → length front ≤ n
     → is_debug_block_open_after_lines false front ≡ false → more ≡ number + length front
-    → debug_lines_told c number d (front ++ rest)
-    ≡ joined (debug_lines_told c number d front) (debug_lines_told c more (debug_lines_told c number d front).state rest)
+    → debug_lines_answer c number d (front ++ rest)
+    ≡ joined (debug_lines_answer c number d front) (debug_lines_answer c more (debug_lines_answer c number d front).state rest)
 unfolding is_debug_block_open_after_lines
 join_by n c number more d [] rest enough closed counted = nothing_first c number more d rest (omega (arith, counted))
 join_by zero c number more d (line ∷ front) rest enough closed counted = absurd (omega (arith, enough))
@@ -176,10 +176,10 @@ join_by (suc n) c number more d (line ∷ front) rest enough closed counted = el
 
 -- Requests that are whole are answered as they are, and then the lines that follow from where these
 -- leave the session.
-pub requests_join : (c : DebugSetting) (number : ℕ) (d : DebugState) (front rest : List (List ℕ))
+pub requests_join : (c : DebugSettings) (number : ℕ) (d : DebugState) (front rest : List (List ℕ))
     → is_debug_block_open_after_lines false front ≡ false
-    → debug_lines_told c number d (front ++ rest)
-    ≡ joined (debug_lines_told c number d front)
-    (debug_lines_told c (number + length front) (debug_lines_told c number d front).state rest)
+    → debug_lines_answer c number d (front ++ rest)
+    ≡ joined (debug_lines_answer c number d front)
+    (debug_lines_answer c (number + length front) (debug_lines_answer c number d front).state rest)
 requests_join c number d front rest closed =
     join_by (length front) c number (number + length front) d front rest (omega arith) closed refl

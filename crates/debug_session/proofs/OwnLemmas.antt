@@ -7,7 +7,7 @@ use Rattle.debug_lines.specs.DebugRequests.{DebugRequest}
 use Rattle.profile.specs.declared.stop.Stop.{Stop}
 use Rattle.profile.specs.Status.{status_after}
 use Rattle.debug_tables.specs.BlockErrorTexts.{text_with_errors}
-use Rattle.debug_tables.specs.run_meter.Script.{request_told}
+use Rattle.debug_tables.specs.run_meter.Script.{request_answer}
 use Rattle.debug_tables.specs.run_meter.State.{Answered, IsAnswered, ScriptState}
 use Rattle.debug_tables.specs.run_meter.Memory.{script_with_budget}
 use Rattle.command_shell_lines.specs.Requests.{Request, Nothing, Hex, Asm, Boot, Run, Regs, Set, Poke, Call, Load, Step, Break, Unbreak, Mem, Code, Heap, Areas, Modules, Flex, Unknown, opens_block}
@@ -15,7 +15,7 @@ use Rattle.debug_modes.specs.expectations.Endings.{ending_of, output_of}
 use Rattle.debug_labels.specs.Labels.{ImageLabels}
 use Rattle.debug_modes.specs.declared.modes.DebugModes.{DebugModes}
 use Rattle.debug_session.specs.Naming.{labels_with_block}
-use Rattle.debug_session.specs.DebugScript.{machine_change_told, checked_told, labels_after, simple_request_told, is_named_image, asks_nothing, is_refused_block, state_after_line, state_with_answer, script_line_told_by, takes_steps, told_or_refused, view_told}
+use Rattle.debug_session.specs.DebugScript.{machine_change_answer, checked_answer, labels_after, simple_request_answer, is_named_image, asks_nothing, is_refused_block, state_after_line, state_with_answer, script_line_answer_by, takes_steps, answer_or_refused, view_answer}
 use Rattle.image_loader.specs.Entries.{Entry}
 use Rattle.debug_tables.specs.run_meter.Session.{script_state}
 use Rattle.debug_session.specs.DebugState.{DebugAnswered, DebugState, IsDebugged}
@@ -26,12 +26,12 @@ use Rattle.debug_modes.specs.expectations.reports.Reports.{answer_in, is_unteste
 use Rattle.debug_session.specs.ExitStatus.{debug_status}
 use Rattle.debug_modes.specs.declared.expectations.reports.reports.ReportForm.{ReportForm}
 use Rattle.debug_modes.specs.declared.expectations.reports.reports.ReportForm.TheVariants.{Answers, Tap}
-use Rattle.debug_session.specs.declared.session.DebugSetting.{DebugSetting}
+use Rattle.debug_session.specs.declared.session.DebugSettings.{DebugSettings}
 
 pub untested_status : (d : DebugState) (untested : Bool) (last : Option Stop) (status : ℕ)
     → untested ≡ is_untested d.tally → untested ≡ true → last ≡ d.script.last → status ≡ status_after last
     → status ≡ debug_status d
-untested_status d untested last status is none same told = rw (sym is ∙ none) (told ∙ ap status_after same)
+untested_status d untested last status is none same reported = rw (sym is ∙ none) (reported ∙ ap status_after same)
 
 -- another script, and no answer
 pub changed_script : (d : DebugState) (s t : ScriptState) (answer : List ℕ) → s ≡ t → answer ≡ []
@@ -41,53 +41,53 @@ changed_script d s t answer same none = rw (same, none) refl
 -- an answer that was gathered in memory
 pub gathered : (held text bytes : List ℕ) (now s t : ScriptState) (number : ℕ) (r : Request) (block : List (List ℕ))
     → held ≡ [] → bytes ≡ text → s ≡ t
-    → IsAnswered (Some held) (Some text) now (request_told s number r block)
-    → IsAnswered (Some []) (Some bytes) now (request_told t number r block)
-gathered held text bytes now s t number r block none same with_budget told =
-    subst (λ (x : ScriptState). IsAnswered (Some []) (Some bytes) now (request_told x number r block)) with_budget
-    (subst (λ (xs : List ℕ). IsAnswered (Some []) (Some xs) now (request_told s number r block)) (sym same)
-    (subst (λ (xs : List ℕ). IsAnswered (Some xs) (Some text) now (request_told s number r block)) none told))
+    → IsAnswered (Some held) (Some text) now (request_answer s number r block)
+    → IsAnswered (Some []) (Some bytes) now (request_answer t number r block)
+gathered held text bytes now s t number r block none same with_budget reported =
+    subst (λ (x : ScriptState). IsAnswered (Some []) (Some bytes) now (request_answer x number r block)) with_budget
+    (subst (λ (xs : List ℕ). IsAnswered (Some []) (Some xs) now (request_answer s number r block)) (sym same)
+    (subst (λ (xs : List ℕ). IsAnswered (Some xs) (Some text) now (request_answer s number r block)) none reported))
 
 -- the tally and the form alone count of the state before
-by_refusal : (c : DebugSetting) (d : DebugState) (number : ℕ) (r : Request) (told : Answered) (block : List (List ℕ)) (shown : List ℕ)
+by_refusal : (c : DebugSettings) (d : DebugState) (number : ℕ) (r : Request) (reported : Answered) (block : List (List ℕ)) (shown : List ℕ)
     (refused : Bool)
-    → told_or_refused c (state_with_answer c d r told block) number refused (state_with_answer c d r told block) shown
-    ≡ told_or_refused c d number refused (state_with_answer c d r told block) shown
-by_refusal c d number r told block shown true = refl
-by_refusal c d number r told block shown false = refl
+    → answer_or_refused c (state_with_answer c d r reported block) number refused (state_with_answer c d r reported block) shown
+    ≡ answer_or_refused c d number refused (state_with_answer c d r reported block) shown
+by_refusal c d number r reported block shown true = refl
+by_refusal c d number r reported block shown false = refl
 
-noted_is : (c : DebugSetting) (d : DebugState) (r : Request) (told : Answered) (block : List (List ℕ)) (nothing : Bool)
+noted_is : (c : DebugSettings) (d : DebugState) (r : Request) (reported : Answered) (block : List (List ℕ)) (nothing : Bool)
     → nothing ≡ asks_nothing r → nothing ≡ false
-    → state_with_answer c d r told block ≡ state_after_line c d r told block
-noted_is c d r told block nothing asks some = rw (sym asks ∙ some) refl
+    → state_with_answer c d r reported block ≡ state_after_line c d r reported block
+noted_is c d r reported block nothing asks some = rw (sym asks ∙ some) refl
 
-pub line_told : (before after : Option (List ℕ)) (c : DebugSetting) (d at_tell now : DebugState) (number : ℕ)
-    (r : Request) (told : Answered) (block : List (List ℕ)) (text shown : List ℕ) (refused nothing : Bool)
-    → at_tell ≡ state_with_answer c d r told block → text ≡ told.text → shown ≡ text_with_errors refused number r block text
+pub line_answer : (before after : Option (List ℕ)) (c : DebugSettings) (d at_print now : DebugState) (number : ℕ)
+    (r : Request) (reported : Answered) (block : List (List ℕ)) (text shown : List ℕ) (refused nothing : Bool)
+    → at_print ≡ state_with_answer c d r reported block → text ≡ reported.text → shown ≡ text_with_errors refused number r block text
     → nothing ≡ asks_nothing r → nothing ≡ false
-    → refused ≡ is_refused_block d.script.images told.state.images r
-    → IsDebugged before after now (told_or_refused c at_tell number refused at_tell shown)
-    → IsDebugged before after now (script_line_told_by c d number r told block)
-line_told before after c d at_tell now number r told block text shown refused nothing note same behind asks some is written =
+    → refused ≡ is_refused_block d.script.images reported.state.images r
+    → IsDebugged before after now (answer_or_refused c at_print number refused at_print shown)
+    → IsDebugged before after now (script_line_answer_by c d number r reported block)
+line_answer before after c d at_print now number r reported block text shown refused nothing note same behind asks some is written =
     subst (λ (x : DebugAnswered). IsDebugged before after now x)
-    (ap (λ (x : DebugState). told_or_refused c x number refused x shown) note
-    ∙ ap (λ (xs : List ℕ). told_or_refused c (state_with_answer c d r told block) number refused (state_with_answer c d r told block) xs)
+    (ap (λ (x : DebugState). answer_or_refused c x number refused x shown) note
+    ∙ ap (λ (xs : List ℕ). answer_or_refused c (state_with_answer c d r reported block) number refused (state_with_answer c d r reported block) xs)
     (behind ∙ ap (λ (xs : List ℕ). text_with_errors refused number r block xs) same)
-    ∙ by_refusal c d number r told block (text_with_errors refused number r block told.text) refused
-    ∙ ap (λ (b : Bool). told_or_refused c d number b (state_with_answer c d r told block) (text_with_errors b number r block told.text)) is
-    ∙ ap (λ (x : DebugState). told_or_refused c d number (is_refused_block d.script.images told.state.images r) x
-    (text_with_errors (is_refused_block d.script.images told.state.images r) number r block told.text))
-    (noted_is c d r told block nothing asks some))
+    ∙ by_refusal c d number r reported block (text_with_errors refused number r block reported.text) refused
+    ∙ ap (λ (b : Bool). answer_or_refused c d number b (state_with_answer c d r reported block) (text_with_errors b number r block reported.text)) is
+    ∙ ap (λ (x : DebugState). answer_or_refused c d number (is_refused_block d.script.images reported.state.images r) x
+    (text_with_errors (is_refused_block d.script.images reported.state.images r) number r block reported.text))
+    (noted_is c d r reported block nothing asks some))
     written
 
 -- the same by other names of the setting and the line
-pub told_with : (before after : Option (List ℕ)) (now at_tell : DebugState) (c e : DebugSetting) (line number : ℕ) (refused : Bool)
+pub answer_with : (before after : Option (List ℕ)) (now at_print : DebugState) (c e : DebugSettings) (line number : ℕ) (refused : Bool)
     (text : List ℕ) → c ≡ e → line ≡ number
-    → IsDebugged before after now (told_or_refused c at_tell line refused at_tell text)
-    → IsDebugged before after now (told_or_refused e at_tell number refused at_tell text)
-told_with before after now at_tell c e line number refused text setting at told =
-    subst (λ (x : DebugSetting). IsDebugged before after now (told_or_refused x at_tell number refused at_tell text)) setting
-    (subst (λ (n : ℕ). IsDebugged before after now (told_or_refused c at_tell n refused at_tell text)) at told)
+    → IsDebugged before after now (answer_or_refused c at_print line refused at_print text)
+    → IsDebugged before after now (answer_or_refused e at_print number refused at_print text)
+answer_with before after now at_print c e line number refused text setting at reported =
+    subst (λ (x : DebugSettings). IsDebugged before after now (answer_or_refused x at_print number refused at_print text)) setting
+    (subst (λ (n : ℕ). IsDebugged before after now (answer_or_refused c at_print n refused at_print text)) at reported)
 
 -- a state by its parts
 made : ScriptState → List ImageLabels → DebugModes → List ℕ → List ℕ → ℕ → CheckTally → Bool → DebugState
@@ -112,36 +112,36 @@ by_takes : {A : Type 0} (takes other : Bool) (x x' y y' : A) → takes ≡ other
 by_takes takes other x x' y y' is first rest = rw (is, first, rest) refl
 
 -- what is kept of an answer, but for the labels
-pub noted_state : DebugSetting → DebugState → Request → Answered → DebugState
-noted_state c d r told = record d {
-  script = told.state;
-  answer = if takes_steps r then ending_of told.text else told.text;
-  output = if takes_steps r then output_of told.text else d.output;
-  steps = if takes_steps r then c.budget - told.state.left else d.steps;
+pub noted_state : DebugSettings → DebugState → Request → Answered → DebugState
+noted_state c d r reported = record d {
+  script = reported.state;
+  answer = if takes_steps r then ending_of reported.text else reported.text;
+  output = if takes_steps r then output_of reported.text else d.output;
+  steps = if takes_steps r then c.budget - reported.state.left else d.steps;
 }
 
 -- what a session keeps of an answer
 pub session_noted : (old mid new : DebugSession) (images after : List Entry) (answer : List ℕ) (takes : Bool)
-    (r : Request) (told : Answered)
-    → mid ≡ record old { session = mid.session; spare = mid.spare }
+    (r : Request) (reported : Answered)
+    → mid ≡ record old { session = mid.session; scratch = mid.scratch }
     → new ≡ record mid { answer = new.answer; output = new.output; steps = new.steps }
     → new.answer.items ≡ (if takes then ending_of answer else answer)
     → new.output.items ≡ (if takes then output_of answer else mid.output.items)
     → new.steps ≡ (if takes then mid.setting.budget - mid.session.left else mid.steps)
-    → takes ≡ takes_steps r → script_state mid.session after ≡ told.state → answer ≡ told.text
-    → debug_state new after ≡ noted_state old.setting (debug_state old images) r told
+    → takes ≡ takes_steps r → script_state mid.session after ≡ reported.state → answer ≡ reported.text
+    → debug_state new after ≡ noted_state old.setting (debug_state old images) r reported
 unfolding made noted_state
-session_noted old mid new images after answer takes r told first next kept printed counted is state text =
+session_noted old mid new images after answer takes r reported first next kept printed counted is state text =
     ap (λ (s : DebugSession). debug_state s after) next
-    ∙ made_same (script_state mid.session after) told.state mid.labels old.labels mid.modes old.modes new.answer.items
-    (if takes_steps r then ending_of told.text else told.text) new.output.items
-    (if takes_steps r then output_of told.text else old.output.items) new.steps
-    (if takes_steps r then old.setting.budget - told.state.left else old.steps) mid.tally old.tally mid.has_quit old.has_quit
+    ∙ made_same (script_state mid.session after) reported.state mid.labels old.labels mid.modes old.modes new.answer.items
+    (if takes_steps r then ending_of reported.text else reported.text) new.output.items
+    (if takes_steps r then output_of reported.text else old.output.items) new.steps
+    (if takes_steps r then old.setting.budget - reported.state.left else old.steps) mid.tally old.tally mid.has_quit old.has_quit
     state (ap (λ (s : DebugSession). s.labels) first) (ap (λ (s : DebugSession). s.modes) first)
-    (kept ∙ by_takes takes (takes_steps r) (ending_of answer) (ending_of told.text) answer told.text is (ap ending_of text) text)
-    (printed ∙ by_takes takes (takes_steps r) (output_of answer) (output_of told.text) mid.output.items old.output.items is
+    (kept ∙ by_takes takes (takes_steps r) (ending_of answer) (ending_of reported.text) answer reported.text is (ap ending_of text) text)
+    (printed ∙ by_takes takes (takes_steps r) (output_of answer) (output_of reported.text) mid.output.items old.output.items is
     (ap output_of text) (ap (λ (s : DebugSession). s.output.items) first))
-    (counted ∙ by_takes takes (takes_steps r) (mid.setting.budget - mid.session.left) (old.setting.budget - told.state.left)
+    (counted ∙ by_takes takes (takes_steps r) (mid.setting.budget - mid.session.left) (old.setting.budget - reported.state.left)
     mid.steps old.steps is
     (ap (λ (s : DebugSession). s.setting.budget - mid.session.left) first
     ∙ ap (λ (s : ScriptState). old.setting.budget - s.left) state)
@@ -150,47 +150,47 @@ session_noted old mid new images after answer takes r told first next kept print
 
 -- the labels that a session takes in
 pub labels_taken : (taken noted : List ImageLabels) (d : DebugState) (refused : Bool) (images : List Entry) (r : Request)
-    (told : Answered) (lines block : List (List ℕ))
+    (reported : Answered) (lines block : List (List ℕ))
     → taken ≡ (if refused then noted else labels_with_block noted images r lines) → noted ≡ d.labels
-    → refused ≡ is_refused_block d.script.images told.state.images r → images ≡ told.state.images → lines ≡ block
-    → taken ≡ labels_after d r told block
-labels_taken taken noted d refused images r told lines block is same refusal there follows = is
+    → refused ≡ is_refused_block d.script.images reported.state.images r → images ≡ reported.state.images → lines ≡ block
+    → taken ≡ labels_after d r reported block
+labels_taken taken noted d refused images r reported lines block is same refusal there follows = is
     ∙ ap (λ (ls : List ImageLabels). if refused then ls else labels_with_block ls images r lines) same
     ∙ ap (λ (b : Bool). if b then d.labels else labels_with_block d.labels images r lines) refusal
-    ∙ ap (λ (es : List Entry). if is_refused_block d.script.images told.state.images r then d.labels
+    ∙ ap (λ (es : List Entry). if is_refused_block d.script.images reported.state.images r then d.labels
     else labels_with_block d.labels es r lines) there
-    ∙ ap (λ (ls : List (List ℕ)). if is_refused_block d.script.images told.state.images r then d.labels
-    else labels_with_block d.labels told.state.images r ls) follows
+    ∙ ap (λ (ls : List (List ℕ)). if is_refused_block d.script.images reported.state.images r then d.labels
+    else labels_with_block d.labels reported.state.images r ls) follows
 
-pub noted_labels : (old mid new : DebugSession) → mid ≡ record old { session = mid.session; spare = mid.spare }
+pub noted_labels : (old mid new : DebugSession) → mid ≡ record old { session = mid.session; scratch = mid.scratch }
     → new ≡ record mid { answer = new.answer; output = new.output; steps = new.steps } → new.labels ≡ old.labels
 noted_labels old mid new first next =
     ap (λ (s : DebugSession). s.labels) next ∙ ap (λ (s : DebugSession). s.labels) first
 
-pub session_labelled : (noted new : DebugSession) (after : List Entry) (c : DebugSetting) (d : DebugState) (r : Request)
-    (told : Answered) (block : List (List ℕ))
-    → new ≡ record noted { labels = new.labels } → debug_state noted after ≡ noted_state c d r told
-    → new.labels ≡ labels_after d r told block → debug_state new after ≡ state_with_answer c d r told block
+pub session_labelled : (noted new : DebugSession) (after : List Entry) (c : DebugSettings) (d : DebugState) (r : Request)
+    (reported : Answered) (block : List (List ℕ))
+    → new ≡ record noted { labels = new.labels } → debug_state noted after ≡ noted_state c d r reported
+    → new.labels ≡ labels_after d r reported block → debug_state new after ≡ state_with_answer c d r reported block
 unfolding noted_state
-session_labelled noted new after c d r told block next state labels =
+session_labelled noted new after c d r reported block next state labels =
     ap (λ (s : DebugSession). debug_state s after) next
     ∙ ap (λ (x : DebugState). let with_labels : DebugState = record x { labels = new.labels } in with_labels) state
-    ∙ ap (λ (ls : List ImageLabels). let with_labels : DebugState = record (noted_state c d r told) { labels = ls } in with_labels)
+    ∙ ap (λ (ls : List ImageLabels). let with_labels : DebugState = record (noted_state c d r reported) { labels = ls } in with_labels)
     labels
 
 -- a session whose script alone is another
 pub session_moved : (old mid : DebugSession) (images after : List Entry) (to : ScriptState)
-    → mid ≡ record old { session = mid.session; spare = mid.spare } → script_state mid.session after ≡ to
+    → mid ≡ record old { session = mid.session; scratch = mid.scratch } → script_state mid.session after ≡ to
     → debug_state mid after ≡ record (debug_state old images) { script = to }
 session_moved old mid images after to first state =
     ap (λ (s : DebugSession). debug_state s after) first
     ∙ ap (λ (t : ScriptState). let moved : DebugState = record (debug_state old images) { script = t } in moved) state
 
 -- whether a block is refused, as the code tests it
-pub refused_as_told : (refused there : Bool) (before after images : List Entry) (r : Request)
+pub refused_as_answer : (refused there : Bool) (before after images : List Entry) (r : Request)
     → refused ≡ (opens_block r && (there || not (is_named_image after r))) → there ≡ is_named_image before r
     → after ≡ images → refused ≡ is_refused_block before images r
-refused_as_told refused there before after images r is was same = is
+refused_as_answer refused there before after images r is was same = is
     ∙ ap (λ (b : Bool). opens_block r && (b || not (is_named_image after r))) was
     ∙ ap (λ (es : List Entry). opens_block r && (is_named_image before r || not (is_named_image es r))) same
 
@@ -199,69 +199,69 @@ empty_in Answers = refl
 empty_in Tap = refl
 
 -- a line that asks for nothing
-pub nothing_told : (c : DebugSetting) (d now : DebugState) (number line : ℕ) (r : Request) (block named : List (List ℕ))
+pub no_answer : (c : DebugSettings) (d now : DebugState) (number line : ℕ) (r : Request) (block named : List (List ℕ))
     (held : Option (List ℕ)) (nothing : Bool) → nothing ≡ asks_nothing r → nothing ≡ true
-    → now ≡ record d { script = (request_told (script_with_budget d.script c.budget) line r block).state }
+    → now ≡ record d { script = (request_answer (script_with_budget d.script c.budget) line r block).state }
     → IsDebugged held held now
-    (script_line_told_by c d number r (request_told (script_with_budget d.script c.budget) line r block) named)
-nothing_told c d now number line Nothing block named held nothing asks none state = record {
+    (script_line_answer_by c d number r (request_answer (script_with_budget d.script c.budget) line r block) named)
+no_answer c d now number line Nothing block named held nothing asks none state = record {
   text = subst (λ (xs : List ℕ). Appends held held xs) (sym (empty_in c.form)) (Appends-nothing held);
   state = state;
 }
-nothing_told c d now number line (Hex name) block named held nothing asks none state = absurd (cc)
-nothing_told c d now number line (Asm name origin) block named held nothing asks none state = absurd (cc)
-nothing_told c d now number line (Boot name) block named held nothing asks none state = absurd (cc)
-nothing_told c d now number line Run block named held nothing asks none state = absurd (cc)
-nothing_told c d now number line Regs block named held nothing asks none state = absurd (cc)
-nothing_told c d now number line (Set register value) block named held nothing asks none state = absurd (cc)
-nothing_told c d now number line (Poke address value) block named held nothing asks none state = absurd (cc)
-nothing_told c d now number line (Call called) block named held nothing asks none state = absurd (cc)
-nothing_told c d now number line (Load text) block named held nothing asks none state = absurd (cc)
-nothing_told c d now number line (Step count) block named held nothing asks none state = absurd (cc)
-nothing_told c d now number line (Break address) block named held nothing asks none state = absurd (cc)
-nothing_told c d now number line (Unbreak address) block named held nothing asks none state = absurd (cc)
-nothing_told c d now number line (Mem address count) block named held nothing asks none state = absurd (cc)
-nothing_told c d now number line (Code address count) block named held nothing asks none state = absurd (cc)
-nothing_told c d now number line (Heap address) block named held nothing asks none state = absurd (cc)
-nothing_told c d now number line Areas block named held nothing asks none state = absurd (cc)
-nothing_told c d now number line Modules block named held nothing asks none state = absurd (cc)
-nothing_told c d now number line Flex block named held nothing asks none state = absurd (cc)
-nothing_told c d now number line Unknown block named held nothing asks none state = absurd (cc)
+no_answer c d now number line (Hex name) block named held nothing asks none state = absurd (cc)
+no_answer c d now number line (Asm name origin) block named held nothing asks none state = absurd (cc)
+no_answer c d now number line (Boot name) block named held nothing asks none state = absurd (cc)
+no_answer c d now number line Run block named held nothing asks none state = absurd (cc)
+no_answer c d now number line Regs block named held nothing asks none state = absurd (cc)
+no_answer c d now number line (Set register value) block named held nothing asks none state = absurd (cc)
+no_answer c d now number line (Poke address value) block named held nothing asks none state = absurd (cc)
+no_answer c d now number line (Call called) block named held nothing asks none state = absurd (cc)
+no_answer c d now number line (Load text) block named held nothing asks none state = absurd (cc)
+no_answer c d now number line (Step count) block named held nothing asks none state = absurd (cc)
+no_answer c d now number line (Break address) block named held nothing asks none state = absurd (cc)
+no_answer c d now number line (Unbreak address) block named held nothing asks none state = absurd (cc)
+no_answer c d now number line (Mem address count) block named held nothing asks none state = absurd (cc)
+no_answer c d now number line (Code address count) block named held nothing asks none state = absurd (cc)
+no_answer c d now number line (Heap address) block named held nothing asks none state = absurd (cc)
+no_answer c d now number line Areas block named held nothing asks none state = absurd (cc)
+no_answer c d now number line Modules block named held nothing asks none state = absurd (cc)
+no_answer c d now number line Flex block named held nothing asks none state = absurd (cc)
+no_answer c d now number line Unknown block named held nothing asks none state = absurd (cc)
 
 -- a view by its text
-pub view_of_text : (before after : Option (List ℕ)) (now d : DebugState) (c : DebugSetting) (text shown : List ℕ)
-    → text ≡ shown → IsDebugged before after now (view_told c d text) → IsDebugged before after now (view_told c d shown)
-view_of_text before after now d c text shown same told =
-    subst (λ (xs : List ℕ). IsDebugged before after now (view_told c d xs)) same told
+pub view_of_text : (before after : Option (List ℕ)) (now d : DebugState) (c : DebugSettings) (text shown : List ℕ)
+    → text ≡ shown → IsDebugged before after now (view_answer c d text) → IsDebugged before after now (view_answer c d shown)
+view_of_text before after now d c text shown same reported =
+    subst (λ (xs : List ℕ). IsDebugged before after now (view_answer c d xs)) same reported
 
--- what is told of a request, told of a line that asks for it
-pub asked : (before after : Option (List ℕ)) (now d : DebugState) (c : DebugSetting) (number : ℕ) (words : List ℕ)
+-- what is shown of a request, shown of a line that asks for it
+pub asked : (before after : Option (List ℕ)) (now d : DebugState) (c : DebugSettings) (number : ℕ) (words : List ℕ)
     (block : List (List ℕ)) (r asks : DebugRequest)
-    → r ≡ asks → IsDebugged before after now (simple_request_told c d number words r block)
-    → IsDebugged before after now (simple_request_told c d number words asks block)
-asked before after now d c number words block r asks is told =
-    subst (λ (x : DebugRequest). IsDebugged before after now (simple_request_told c d number words x block)) is told
+    → r ≡ asks → IsDebugged before after now (simple_request_answer c d number words r block)
+    → IsDebugged before after now (simple_request_answer c d number words asks block)
+asked before after now d c number words block r asks is reported =
+    subst (λ (x : DebugRequest). IsDebugged before after now (simple_request_answer c d number words x block)) is reported
 
-pub asked_if : {A E : Type 0} (result : Result A E) (before after : Option (List ℕ)) (now d : DebugState) (c : DebugSetting)
+pub asked_if : {A E : Type 0} (result : Result A E) (before after : Option (List ℕ)) (now d : DebugState) (c : DebugSettings)
     (number : ℕ) (words : List ℕ) (block : List (List ℕ)) (r asks : DebugRequest)
-    → r ≡ asks → OnOk result (IsDebugged before after now (simple_request_told c d number words r block))
-    → OnOk result (IsDebugged before after now (simple_request_told c d number words asks block))
-asked_if result before after now d c number words block r asks is told =
-    subst (λ (x : DebugRequest). OnOk result (IsDebugged before after now (simple_request_told c d number words x block))) is told
+    → r ≡ asks → OnOk result (IsDebugged before after now (simple_request_answer c d number words r block))
+    → OnOk result (IsDebugged before after now (simple_request_answer c d number words asks block))
+asked_if result before after now d c number words block r asks is reported =
+    subst (λ (x : DebugRequest). OnOk result (IsDebugged before after now (simple_request_answer c d number words x block))) is reported
 
 -- an expectation by its reason
-pub checked_by : {A E : Type 0} (result : Result A E) (before after : Option (List ℕ)) (now d : DebugState) (c : DebugSetting)
-    (line number : ℕ) (words : List ℕ) (reason told : Option (List ℕ))
-    → line ≡ number → reason ≡ told → OnOk result (IsDebugged before after now (checked_told c d line words reason))
-    → OnOk result (IsDebugged before after now (checked_told c d number words told))
-checked_by result before after now d c line number words reason told at is written =
-    subst (λ (x : Option (List ℕ)). OnOk result (IsDebugged before after now (checked_told c d number words x))) is
-    (subst (λ (n : ℕ). OnOk result (IsDebugged before after now (checked_told c d n words reason))) at written)
+pub checked_by : {A E : Type 0} (result : Result A E) (before after : Option (List ℕ)) (now d : DebugState) (c : DebugSettings)
+    (line number : ℕ) (words : List ℕ) (reason reported : Option (List ℕ))
+    → line ≡ number → reason ≡ reported → OnOk result (IsDebugged before after now (checked_answer c d line words reason))
+    → OnOk result (IsDebugged before after now (checked_answer c d number words reported))
+checked_by result before after now d c line number words reason reported at is written =
+    subst (λ (x : Option (List ℕ)). OnOk result (IsDebugged before after now (checked_answer c d number words x))) is
+    (subst (λ (n : ℕ). OnOk result (IsDebugged before after now (checked_answer c d n words reason))) at written)
 
 -- a change that writes nothing
-pub changed_quietly : (held : Option (List ℕ)) (now d : DebugState) (script : ScriptState)
-    → now ≡ (machine_change_told d script).state → IsDebugged held held now (machine_change_told d script)
-changed_quietly held now d script is = record { text = Appends-nothing held; state = is }
+pub changed_silently : (held : Option (List ℕ)) (now d : DebugState) (script : ScriptState)
+    → now ≡ (machine_change_answer d script).state → IsDebugged held held now (machine_change_answer d script)
+changed_silently held now d script is = record { text = Appends-nothing held; state = is }
 
 -- a session whose images and labels are others
 pub without_image : (d : DebugState) (images after : List Entry) (labels left : List ImageLabels) → after ≡ images → labels ≡ left
@@ -270,10 +270,10 @@ pub without_image : (d : DebugState) (images after : List Entry) (labels left : 
 without_image d images after labels left stay go = rw (stay, go) refl
 
 -- a view of another state
-pub view_after : (before after : Option (List ℕ)) (now d e : DebugState) (c f : DebugSetting) (text shown : List ℕ)
-    → c ≡ f → d ≡ e → text ≡ shown → IsDebugged before after now (view_told c d text)
-    → IsDebugged before after now (view_told f e shown)
-view_after before after now d e c f text shown setting state same told =
-    subst (λ (x : DebugSetting). IsDebugged before after now (view_told x e shown)) setting
-    (subst (λ (x : DebugState). IsDebugged before after now (view_told c x shown)) state
-    (view_of_text before after now d c text shown same told))
+pub view_after : (before after : Option (List ℕ)) (now d e : DebugState) (c f : DebugSettings) (text shown : List ℕ)
+    → c ≡ f → d ≡ e → text ≡ shown → IsDebugged before after now (view_answer c d text)
+    → IsDebugged before after now (view_answer f e shown)
+view_after before after now d e c f text shown setting state same reported =
+    subst (λ (x : DebugSettings). IsDebugged before after now (view_answer x e shown)) setting
+    (subst (λ (x : DebugState). IsDebugged before after now (view_answer c x shown)) state
+    (view_of_text before after now d c text shown same reported))

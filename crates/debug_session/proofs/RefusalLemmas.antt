@@ -7,12 +7,12 @@ use Rattle.debug_modes.specs.declared.expectations.reports.reports.ReportForm.{R
 use Rattle.debug_modes.specs.expectations.reports.Reports.{report_of_refusal}
 use Rattle.debug_modes.specs.declared.expectations.reports.reports.ReportForm.TheVariants.{Answers}
 use Rattle.debug_session.specs.AsBefore.{BlockAnsweredAsBefore, LineRefusedAsBefore, RefusedAsBefore}
-use Rattle.debug_session.specs.DebugScript.{is_refused_block, state_after_line, told_or_refused}
+use Rattle.debug_session.specs.DebugScript.{is_refused_block, state_after_line, answer_or_refused}
 use Rattle.debug_session.specs.DebugState.{DebugState}
 use Rattle.debug_session.specs.Naming.{naming_of}
 use Rattle.debug_modes.specs.OwnAnswers.{reasoned_text}
 use Rattle.debug_session.specs.Refusals.{GoesOnBehind}
-use Rattle.debug_session.specs.declared.session.DebugSetting.{DebugSetting}
+use Rattle.debug_session.specs.declared.session.DebugSettings.{DebugSettings}
 use Rattle.debug_labels.specs.Reasons.{refusal_reason}
 use Rattle.debug_tables.specs.BlockErrorTexts.{block_errors_text, text_with_errors}
 use Rattle.command_shell_lines.specs.Requests.{Request}
@@ -28,19 +28,19 @@ line_refused c d number words form =
     }
 
 -- an answer, refused or not, and what stands behind it
-told_by : (c : DebugSetting) (d after : DebugState) (number : ℕ) (r : Request) (block : List (List ℕ)) (text : List ℕ)
+answer_by : (c : DebugSettings) (d after : DebugState) (number : ℕ) (r : Request) (block : List (List ℕ)) (text : List ℕ)
     (refused : Bool) → c.form ≡ Answers
-    → GoesOnBehind text (told_or_refused c d number refused after (text_with_errors refused number r block text)).text
-told_by c d after number r block text true form = record {
+    → GoesOnBehind text (answer_or_refused c d number refused after (text_with_errors refused number r block text)).text
+answer_by c d after number r block text true form = record {
   more = block_errors_text number r block;
   debugging = rw form refl;
 }
-told_by c d after number r block text false form = record { more = []; debugging = rw form (sym (append-nil text)) }
+answer_by c d after number r block text false form = record { more = []; debugging = rw form (sym (append-nil text)) }
 
 block_answered : BlockAnsweredAsBefore
-block_answered c d number r told block form =
-    told_by c d (state_after_line c d r told block) number r block told.text
-    (is_refused_block d.script.images told.state.images r) form
+block_answered c d number r reported block form =
+    answer_by c d (state_after_line c d r reported block) number r block reported.text
+    (is_refused_block d.script.images reported.state.images r) form
 
 pub refused_as_before : RefusedAsBefore
 refused_as_before = (line_refused, block_answered)

@@ -12,12 +12,12 @@ use Rattle.command_shell_lines.specs.Requests.{Request, Nothing, Hex, Asm, Boot,
 use Rattle.debug_lines.specs.SteppingRequests.{SteppingRequest, stepping_in}
 use Rattle.debug_modes.specs.declared.modes.DebugModes.{DebugModes}
 use Rattle.debug_modes.specs.OwnAnswers.{put_text}
-use Rattle.debug_session.specs.DebugScript.{put_done, stepping_told_by, view_told, write_done}
+use Rattle.debug_session.specs.DebugScript.{put_done, stepping_answer_by, view_answer, write_done}
 use Rattle.debug_session.specs.DebugState.{DebugAnswered, DebugState, IsDebugged}
 use Rattle.debug_modes.specs.expectations.reports.Reports.{answer_in}
 use Rattle.debug_modes.specs.declared.expectations.reports.reports.ReportForm.{ReportForm}
 use Rattle.debug_modes.specs.declared.expectations.reports.reports.ReportForm.TheVariants.{Answers, Tap}
-use Rattle.debug_session.specs.declared.session.DebugSetting.{DebugSetting}
+use Rattle.debug_session.specs.declared.session.DebugSettings.{DebugSettings}
 
 -- a line that takes steps opens no block
 stepping_opens : (r : Request) (asked : SteppingRequest) → Some asked ≡ stepping_in r → opens_block r ≡ false
@@ -63,49 +63,49 @@ written_both a b c form xs ys first next =
     subst (λ (text : List ℕ). Appends a c text) (answers_joined form xs ys)
     (Appends-join a b c (answer_in form xs) (answer_in form ys) first next)
 
--- what steps left, told from the state and in the modes after them
-pub steps_told : (before after : Option (List ℕ)) (c : DebugSetting) (d now : DebugState) (mid : ScriptState) (modes kept : DebugModes)
+-- what steps left, shown from the state and in the modes after them
+pub answer_of_steps : (before after : Option (List ℕ)) (c : DebugSettings) (d now : DebugState) (mid : ScriptState) (modes kept : DebugModes)
     (s : ScriptState) (text text' printed printed' ending ending' : List ℕ)
     → modes ≡ kept → mid ≡ s → text ≡ text' → printed ≡ printed' → ending ≡ ending'
     → IsDebugged before after now
-    (stepping_told_by c (record d { script = mid; modes = modes }) mid text printed ending)
-    → IsDebugged before after now (stepping_told_by c (record d { modes = kept }) s text' printed' ending')
-steps_told before after c d now mid modes kept s text text' printed printed' ending ending' same is told prints ends written =
-    subst (λ (x : DebugAnswered). IsDebugged before after now x) (rw (same, is, told, prints, ends) refl) written
+    (stepping_answer_by c (record d { script = mid; modes = modes }) mid text printed ending)
+    → IsDebugged before after now (stepping_answer_by c (record d { modes = kept }) s text' printed' ending')
+answer_of_steps before after c d now mid modes kept s text text' printed printed' ending ending' same is reported prints ends written =
+    subst (λ (x : DebugAnswered). IsDebugged before after now x) (rw (same, is, reported, prints, ends) refl) written
 
 -- the bytes of an image written, or refused
-pub put_ok : (before after : Option (List ℕ)) (c : DebugSetting) (d now : DebugState) (name : List ℕ) (address : ℕ)
+pub put_ok : (before after : Option (List ℕ)) (c : DebugSettings) (d now : DebugState) (name : List ℕ) (address : ℕ)
     (old new : ScriptState) (o : Result ScriptState Fault) (u : Unit {0}) (text : List ℕ) → Leaves {U = Unit {0}} old o (Ok u) new
     → text ≡ put_text name address
-    → IsDebugged before after now (view_told c (record d { script = new }) text)
+    → IsDebugged before after now (view_answer c (record d { script = new }) text)
     → IsDebugged before after now (put_done c d name address o)
-put_ok before after c d now name address old new (Ok s) u text leaves same told =
-    subst (λ (x : DebugAnswered). IsDebugged before after now x) (rw (leaves, same) refl) told
-put_ok before after c d now name address old new (Err fault) u text leaves same told = absurd leaves
+put_ok before after c d now name address old new (Ok s) u text leaves same reported =
+    subst (λ (x : DebugAnswered). IsDebugged before after now x) (rw (leaves, same) refl) reported
+put_ok before after c d now name address old new (Err fault) u text leaves same reported = absurd leaves
 
-pub put_refused : (before after : Option (List ℕ)) (c : DebugSetting) (d now : DebugState) (name : List ℕ) (address : ℕ)
+pub put_refused : (before after : Option (List ℕ)) (c : DebugSettings) (d now : DebugState) (name : List ℕ) (address : ℕ)
     (new : ScriptState) (o : Result ScriptState Fault) (fault : Fault) (text : List ℕ)
     → Leaves {U = Unit {0}} d.script o (Err fault) new → text ≡ refused_text (fault_name fault)
-    → IsDebugged before after now (view_told c (record d { script = new }) text)
+    → IsDebugged before after now (view_answer c (record d { script = new }) text)
     → IsDebugged before after now (put_done c d name address o)
-put_refused before after c d now name address new (Ok s) fault text leaves same told = absurd leaves
-put_refused before after c d now name address new (Err f) fault text leaves same told =
-    subst (λ (x : DebugAnswered). IsDebugged before after now x) (rw (leaves.1, same, leaves.0) refl) told
+put_refused before after c d now name address new (Ok s) fault text leaves same reported = absurd leaves
+put_refused before after c d now name address new (Err f) fault text leaves same reported =
+    subst (λ (x : DebugAnswered). IsDebugged before after now x) (rw (leaves.1, same, leaves.0) refl) reported
 
 -- bytes that a line names, written or refused
-pub write_ok : (before after : Option (List ℕ)) (c : DebugSetting) (d now : DebugState) (old new : ScriptState)
+pub write_ok : (before after : Option (List ℕ)) (c : DebugSettings) (d now : DebugState) (old new : ScriptState)
     (o : Result ScriptState Fault) (u : Unit {0}) (text : List ℕ) → Leaves {U = Unit {0}} old o (Ok u) new
-    → text ≡ [] → IsDebugged before after now (view_told c (record d { script = new }) text)
+    → text ≡ [] → IsDebugged before after now (view_answer c (record d { script = new }) text)
     → IsDebugged before after now (write_done c d o)
-write_ok before after c d now old new (Ok s) u text leaves none told =
-    subst (λ (x : DebugAnswered). IsDebugged before after now x) (rw (leaves, none) refl) told
-write_ok before after c d now old new (Err fault) u text leaves none told = absurd leaves
+write_ok before after c d now old new (Ok s) u text leaves none reported =
+    subst (λ (x : DebugAnswered). IsDebugged before after now x) (rw (leaves, none) refl) reported
+write_ok before after c d now old new (Err fault) u text leaves none reported = absurd leaves
 
-pub write_refused : (before after : Option (List ℕ)) (c : DebugSetting) (d now : DebugState) (new : ScriptState)
+pub write_refused : (before after : Option (List ℕ)) (c : DebugSettings) (d now : DebugState) (new : ScriptState)
     (o : Result ScriptState Fault) (fault : Fault) (text : List ℕ)
     → Leaves {U = Unit {0}} d.script o (Err fault) new → text ≡ refused_text (fault_name fault)
-    → IsDebugged before after now (view_told c (record d { script = new }) text)
+    → IsDebugged before after now (view_answer c (record d { script = new }) text)
     → IsDebugged before after now (write_done c d o)
-write_refused before after c d now new (Ok s) fault text leaves same told = absurd leaves
-write_refused before after c d now new (Err f) fault text leaves same told =
-    subst (λ (x : DebugAnswered). IsDebugged before after now x) (rw (leaves.1, same, leaves.0) refl) told
+write_refused before after c d now new (Ok s) fault text leaves same reported = absurd leaves
+write_refused before after c d now new (Err f) fault text leaves same reported =
+    subst (λ (x : DebugAnswered). IsDebugged before after now x) (rw (leaves.1, same, leaves.0) refl) reported

@@ -13,11 +13,11 @@ use Rattle.profile.specs.text_lines.WholeLines.{line_of_some, unended_line, whol
 use Rattle.profile.specs.text_lines.Lines.{ReadingPlace}
 use Rattle.profile.proofs.TextLinesLemmas.WholeLineLemmas.{all_unended, lines_at_most, lines_cut, lines_whole_or_last, unended_line_goes_on, whole_at_place, whole_lines_go_on}
 use Rattle.debug_lines.specs.WholeDebugRequests.{AreWholeDebugRequests, is_debug_block_open_after, is_debug_block_open_after_lines, is_debug_block_open_throughout}
-use Rattle.debug_session.specs.DebugScript.{debug_lines_told}
+use Rattle.debug_session.specs.DebugScript.{debug_lines_answer}
 use Rattle.debug_session.specs.DebugState.{DebugAnswered, DebugState, IsDebugged}
 use Rattle.debug_session.specs.Session.{debug_state}
 use Rattle.debug_session.specs.Typing.{IsTaken, TypedPieceThenRest, TypedPiecesJoin, TypedTextTakenOneWay}
-use Rattle.debug_session.specs.declared.session.DebugSetting.{DebugSetting}
+use Rattle.debug_session.specs.declared.session.DebugSettings.{DebugSettings}
 use Rattle.debug_session.specs.declared.typing.DebugTyping.{DebugTyping}
 use Rattle.debug_session.specs.Failing.{IsTakenInPart}
 use Rattle.debug_session.proofs.FailLemmas.{front_then}
@@ -105,13 +105,13 @@ lines_closed requests ends =
     (lines_whole_or_last requests ∙ ap (λ (line : List ℕ). whole_lines requests ++ line_of_some line) ends
     ∙ append-nil (whole_lines requests))
 
-two_told : (c : DebugSetting) (number : ℕ) (d : DebugState) (requests next : List ℕ) → unended_line requests ≡ []
+two_answer : (c : DebugSettings) (number : ℕ) (d : DebugState) (requests next : List ℕ) → unended_line requests ≡ []
     → is_debug_block_open_after_lines false (whole_lines requests) ≡ false
-    → debug_lines_told c number d (lines (requests ++ next))
-    ≡ joined (debug_lines_told c number d (lines requests))
-    (debug_lines_told c (number + length (lines requests)) (debug_lines_told c number d (lines requests)).state (lines next))
-two_told c number d requests next ends closed =
-    ap (debug_lines_told c number d) (lines_of_both requests next ends)
+    → debug_lines_answer c number d (lines (requests ++ next))
+    ≡ joined (debug_lines_answer c number d (lines requests))
+    (debug_lines_answer c (number + length (lines requests)) (debug_lines_answer c number d (lines requests)).state (lines next))
+two_answer c number d requests next ends closed =
+    ap (debug_lines_answer c number d) (lines_of_both requests next ends)
     ∙ requests_join c number d (lines requests) (lines next) (lines_closed requests ends ∙ closed)
 
 count_of_two : (requests next : List ℕ) → unended_line requests ≡ []
@@ -119,17 +119,17 @@ count_of_two : (requests next : List ℕ) → unended_line requests ≡ []
 count_of_two requests next ends =
     ap length (lines_of_both requests next ends) ∙ length-append (lines requests) (lines next)
 
-told_by : (c e : DebugSetting) (number more : ℕ) (d s now : DebugState) (left : List (List ℕ)) (before after : Option (List ℕ))
+answer_by : (c e : DebugSettings) (number more : ℕ) (d s now : DebugState) (left : List (List ℕ)) (before after : Option (List ℕ))
     → e ≡ c → more ≡ number → s ≡ d
-    → IsDebugged before after now (debug_lines_told e more s left) → IsDebugged before after now (debug_lines_told c number d left)
-told_by c e number more d s now left before after setting counted state told =
-    subst (λ (x : DebugSetting). IsDebugged before after now (debug_lines_told x number d left)) setting
-    (subst (λ (n : ℕ). IsDebugged before after now (debug_lines_told e n d left)) counted
-    (subst (λ (t : DebugState). IsDebugged before after now (debug_lines_told e more t left)) state told))
+    → IsDebugged before after now (debug_lines_answer e more s left) → IsDebugged before after now (debug_lines_answer c number d left)
+answer_by c e number more d s now left before after setting counted state reported =
+    subst (λ (x : DebugSettings). IsDebugged before after now (debug_lines_answer x number d left)) setting
+    (subst (λ (n : ℕ). IsDebugged before after now (debug_lines_answer e n d left)) counted
+    (subst (λ (t : DebugState). IsDebugged before after now (debug_lines_answer e more t left)) state reported))
 
 pub pieces_join : TypedPiecesJoin
 pieces_join first mid last images images_mid images_last before between after piece next taken setting more =
-    let c : DebugSetting = first.session.setting in
+    let c : DebugSettings = first.session.setting in
     let d : DebugState = debug_state first.session images in
     let all : List ℕ = first.pending.items ++ piece in
     let here : List ℕ = take taken.count all in
@@ -145,23 +145,23 @@ pieces_join first mid last images images_mid images_last before between after pi
     subst (λ (xs : List ℕ). HasRequests xs (here ++ then_here) waiting) joins
     (parts_join all here (drop taken.count all) next then_here waiting one two) in
     let front = front_of both (here ++ then_here) waiting has.parts in
-    let answered : DebugAnswered = debug_lines_told c first.number d (lines here) in
-    let told : IsDebugged between after (debug_state last.session images_last)
-    (debug_lines_told c (first.number + length (lines here)) answered.state (lines then_here)) =
-    told_by c mid.session.setting (first.number + length (lines here)) mid.number answered.state
+    let answered : DebugAnswered = debug_lines_answer c first.number d (lines here) in
+    let reported : IsDebugged between after (debug_state last.session images_last)
+    (debug_lines_answer c (first.number + length (lines here)) answered.state (lines then_here)) =
+    answer_by c mid.session.setting (first.number + length (lines here)) mid.number answered.state
     (debug_state mid.session images_mid) (debug_state last.session images_last) (lines then_here) between after setting
-    taken.number taken.told.state more.told in
-    let all_told = two_told c first.number d here then_here one.at_an_end one.closed in
+    taken.number taken.reported.state more.reported in
+    let all_answer = two_answer c first.number d here then_here one.at_an_end one.closed in
     record {
       count = length (here ++ then_here);
       whole = whole_of both (here ++ then_here) waiting has;
-      told = subst (λ (xs : List ℕ). IsDebugged before after (debug_state last.session images_last)
-          (debug_lines_told c first.number d (lines xs))) (sym front)
-          (subst (λ (a : DebugAnswered). IsDebugged before after (debug_state last.session images_last) a) (sym all_told)
+      reported = subst (λ (xs : List ℕ). IsDebugged before after (debug_state last.session images_last)
+          (debug_lines_answer c first.number d (lines xs))) (sym front)
+          (subst (λ (a : DebugAnswered). IsDebugged before after (debug_state last.session images_last) a) (sym all_answer)
           (record {
             text = Appends-join before between after answered.text
-                (debug_lines_told c (first.number + length (lines here)) answered.state (lines then_here)).text taken.told.text told.text;
-            state = told.state;
+                (debug_lines_answer c (first.number + length (lines here)) answered.state (lines then_here)).text taken.reported.text reported.text;
+            state = reported.state;
           }));
       waits = more.waits ∙ sym (back_of both (here ++ then_here) waiting has.parts);
       number =
@@ -169,67 +169,67 @@ pieces_join first mid last images images_mid images_last before between after pi
     }
 
 -- what all that is left is answered, before a piece is taken and after it
-pub piece_told : (first mid : DebugTyping) (images images_mid : List Entry) (before between : Option (List ℕ)) (piece rest : List ℕ)
+pub piece_answer : (first mid : DebugTyping) (images images_mid : List Entry) (before between : Option (List ℕ)) (piece rest : List ℕ)
     → (taken : IsTaken first mid images images_mid before between (first.pending.items ++ piece))
     → mid.session.setting ≡ first.session.setting
-    → debug_lines_told first.session.setting first.number (debug_state first.session images)
+    → debug_lines_answer first.session.setting first.number (debug_state first.session images)
     (lines (first.pending.items ++ (piece ++ rest)))
-    ≡ joined (debug_lines_told first.session.setting first.number (debug_state first.session images)
+    ≡ joined (debug_lines_answer first.session.setting first.number (debug_state first.session images)
     (lines (take taken.count (first.pending.items ++ piece))))
-    (debug_lines_told mid.session.setting mid.number (debug_state mid.session images_mid) (lines (mid.pending.items ++ rest)))
-piece_told first mid images images_mid before between piece rest taken setting =
-    let c : DebugSetting = first.session.setting in
+    (debug_lines_answer mid.session.setting mid.number (debug_state mid.session images_mid) (lines (mid.pending.items ++ rest)))
+piece_answer first mid images images_mid before between piece rest taken setting =
+    let c : DebugSettings = first.session.setting in
     let d : DebugState = debug_state first.session images in
     let all : List ℕ = first.pending.items ++ piece in
     let here : List ℕ = take taken.count all in
     let left : List ℕ = drop taken.count all in
-    let answered : DebugAnswered = debug_lines_told c first.number d (lines here) in
+    let answered : DebugAnswered = debug_lines_answer c first.number d (lines here) in
     let parts : first.pending.items ++ (piece ++ rest) ≡ here ++ (left ++ rest) =
     sym (append_assoc first.pending.items piece rest)
     ∙ ap (λ (xs : List ℕ). xs ++ rest) (sym (take-append-drop taken.count all)) ∙ append_assoc here left rest in
-    ap (λ (xs : List ℕ). debug_lines_told c first.number d (lines xs)) parts
-    ∙ two_told c first.number d here (left ++ rest) taken.whole.at_an_end taken.whole.closed
+    ap (λ (xs : List ℕ). debug_lines_answer c first.number d (lines xs)) parts
+    ∙ two_answer c first.number d here (left ++ rest) taken.whole.at_an_end taken.whole.closed
     ∙ ap (joined answered)
-    (ap (λ (n : ℕ). debug_lines_told c n answered.state (lines (left ++ rest))) (sym taken.number)
-    ∙ ap (λ (s : DebugState). debug_lines_told c mid.number s (lines (left ++ rest))) (sym taken.told.state)
-    ∙ ap (λ (xs : List ℕ). debug_lines_told c mid.number (debug_state mid.session images_mid) (lines (xs ++ rest))) (sym taken.waits)
-    ∙ ap (λ (x : DebugSetting). debug_lines_told x mid.number (debug_state mid.session images_mid) (lines (mid.pending.items ++ rest)))
+    (ap (λ (n : ℕ). debug_lines_answer c n answered.state (lines (left ++ rest))) (sym taken.number)
+    ∙ ap (λ (s : DebugState). debug_lines_answer c mid.number s (lines (left ++ rest))) (sym taken.reported.state)
+    ∙ ap (λ (xs : List ℕ). debug_lines_answer c mid.number (debug_state mid.session images_mid) (lines (xs ++ rest))) (sym taken.waits)
+    ∙ ap (λ (x : DebugSettings). debug_lines_answer x mid.number (debug_state mid.session images_mid) (lines (mid.pending.items ++ rest)))
     (sym setting))
 
 -- a front of what a piece is answered is one of what all is answered
-pub part_told : (first : DebugTyping) (images : List Entry) (before after : Option (List ℕ)) (piece rest : List ℕ)
+pub part_answer : (first : DebugTyping) (images : List Entry) (before after : Option (List ℕ)) (piece rest : List ℕ)
     → IsTakenInPart first images before after (first.pending.items ++ piece)
-    → AddsFront before after (debug_lines_told first.session.setting first.number (debug_state first.session images)
+    → AddsFront before after (debug_lines_answer first.session.setting first.number (debug_state first.session images)
     (lines (first.pending.items ++ (piece ++ rest)))).text
-part_told first images before after piece rest part =
-    let c : DebugSetting = first.session.setting in
+part_answer first images before after piece rest part =
+    let c : DebugSettings = first.session.setting in
     let d : DebugState = debug_state first.session images in
     let all : List ℕ = first.pending.items ++ piece in
     let here : List ℕ = take part.count all in
     let left : List ℕ = drop part.count all in
-    let answered : DebugAnswered = debug_lines_told c first.number d (lines here) in
+    let answered : DebugAnswered = debug_lines_answer c first.number d (lines here) in
     let then_left : DebugAnswered =
-    debug_lines_told c (first.number + length (lines here)) answered.state (lines (left ++ rest)) in
+    debug_lines_answer c (first.number + length (lines here)) answered.state (lines (left ++ rest)) in
     let parts : first.pending.items ++ (piece ++ rest) ≡ here ++ (left ++ rest) =
     sym (append_assoc first.pending.items piece rest)
     ∙ ap (λ (xs : List ℕ). xs ++ rest) (sym (take-append-drop part.count all)) ∙ append_assoc here left rest in
-    let told : List ℕ = (debug_lines_told c first.number d (lines (first.pending.items ++ (piece ++ rest)))).text in
-    let split : told ≡ answered.text ++ then_left.text =
-    ap (λ (xs : List ℕ). (debug_lines_told c first.number d (lines xs)).text) parts
-    ∙ ap (λ (a : DebugAnswered). a.text) (two_told c first.number d here (left ++ rest) part.whole.at_an_end part.whole.closed) in
-    front_then before before after told answered.text then_left.text told (AddsAllBut-start before told) split part.front
+    let reported : List ℕ = (debug_lines_answer c first.number d (lines (first.pending.items ++ (piece ++ rest)))).text in
+    let split : reported ≡ answered.text ++ then_left.text =
+    ap (λ (xs : List ℕ). (debug_lines_answer c first.number d (lines xs)).text) parts
+    ∙ ap (λ (a : DebugAnswered). a.text) (two_answer c first.number d here (left ++ rest) part.whole.at_an_end part.whole.closed) in
+    front_then before before after reported answered.text then_left.text reported (AddsAllBut-start before reported) split part.front
 
 pub piece_then_rest : TypedPieceThenRest
 piece_then_rest first mid images images_mid now before between after piece rest taken setting last =
     let answered : DebugAnswered =
-    debug_lines_told first.session.setting first.number (debug_state first.session images)
+    debug_lines_answer first.session.setting first.number (debug_state first.session images)
     (lines (take taken.count (first.pending.items ++ piece))) in
     let left : DebugAnswered =
-    debug_lines_told mid.session.setting mid.number (debug_state mid.session images_mid) (lines (mid.pending.items ++ rest)) in
+    debug_lines_answer mid.session.setting mid.number (debug_state mid.session images_mid) (lines (mid.pending.items ++ rest)) in
     subst (λ (a : DebugAnswered). IsDebugged before after now a)
-    (sym (piece_told first mid images images_mid before between piece rest taken setting))
+    (sym (piece_answer first mid images images_mid before between piece rest taken setting))
     (record {
-      text = Appends-join before between after answered.text left.text taken.told.text last.text;
+      text = Appends-join before between after answered.text left.text taken.reported.text last.text;
       state = last.state;
     })
 
@@ -335,17 +335,17 @@ same_written (Some held) (Some now) (Some there) text one two = ap Some (two ∙
 pub taken_one_way : TypedTextTakenOneWay
 taken_one_way first one other images images_one images_other before after after_other text taken too =
     let same = counts_same text taken.count too.count taken.whole too.whole in
-    let told : IsDebugged before after_other (debug_state other.session images_other)
-    (debug_lines_told first.session.setting first.number (debug_state first.session images) (lines (take taken.count text))) =
+    let reported : IsDebugged before after_other (debug_state other.session images_other)
+    (debug_lines_answer first.session.setting first.number (debug_state first.session images) (lines (take taken.count text))) =
     subst (λ (n : ℕ). IsDebugged before after_other (debug_state other.session images_other)
-    (debug_lines_told first.session.setting first.number (debug_state first.session images) (lines (take n text))))
-    (sym same) too.told in
+    (debug_lines_answer first.session.setting first.number (debug_state first.session images) (lines (take n text))))
+    (sym same) too.reported in
     record {
-      state = told.state ∙ sym taken.told.state;
+      state = reported.state ∙ sym taken.reported.state;
       waits = too.waits ∙ sym (ap (λ (n : ℕ). drop n text) same) ∙ sym taken.waits;
       number =
           too.number ∙ sym (ap (λ (n : ℕ). first.number + length (lines (take n text))) same) ∙ sym taken.number;
-      written = same_written before after after_other _ taken.told.text told.text;
+      written = same_written before after after_other _ taken.reported.text reported.text;
     }
 
 -- THE NUMBER OF LINES

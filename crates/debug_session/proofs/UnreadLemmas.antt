@@ -17,19 +17,19 @@ use Rattle.debug_tables.specs.run_meter.Writes.{machine_after_poke}
 use Rattle.debug_tables.specs.run_meter.Answers.{break_text, unbreak_text}
 use Rattle.debug_tables.specs.run_meter.Images.{asm_block, boot_done, boot_found, hex_block, image_added, image_opened}
 use Rattle.debug_tables.specs.run_meter.Memory.{poke_done, script_with_budget}
-use Rattle.debug_tables.specs.run_meter.Script.{request_told}
+use Rattle.debug_tables.specs.run_meter.Script.{request_answer}
 use Rattle.debug_tables.specs.run_meter.State.{Answered, ScriptState}
 use Rattle.debug_tables.specs.run_meter.Stepping.{breaks_changed}
-use Rattle.debug_tables.specs.run_meter.Views.{flex_told, heap_told, shown_or}
+use Rattle.debug_tables.specs.run_meter.Views.{flex_answer, heap_answer, shown_or}
 use Rattle.command_shell_lines.specs.Blocks.{block_bytes}
 use Rattle.command_shell_lines.specs.Requests.{Request, Nothing, Hex, Asm, Boot, Run, Regs, Set, Poke, Call, Load, Step, Break, Unbreak, Mem, Code, Heap, Areas, Modules, Flex, Unknown}
 use Rattle.debug_session.specs.DebugScript.{takes_steps}
 
 -- an answer, and the same with another budget
-pub record IsUnread (s : ScriptState) (b : ℕ) (told other : Answered) : Type 0 where
-  pub text : other.text ≡ told.text
-  pub state : other.state ≡ script_with_budget told.state b
-  pub left : told.state.left ≡ s.left
+pub record IsUnread (s : ScriptState) (b : ℕ) (reported other : Answered) : Type 0 where
+  pub text : other.text ≡ reported.text
+  pub state : other.state ≡ script_with_budget reported.state b
+  pub left : reported.state.left ≡ s.left
 
 added : (s : ScriptState) (b : ℕ) (word name bytes : List ℕ) (o : Option ImageError)
     → IsUnread s b (image_added s word name bytes o) (image_added (script_with_budget s b) word name bytes o)
@@ -77,16 +77,16 @@ shown : (s : ScriptState) (b : ℕ) (refusal : List ℕ) (o : Option (List ℕ))
 shown s b refusal None = record { text = refl; state = refl; left = refl }
 shown s b refusal (Some text) = record { text = refl; state = refl; left = refl }
 
-heap : (s : ScriptState) (b address : ℕ) → IsUnread s b (heap_told s address) (heap_told (script_with_budget s b) address)
-unfolding heap_told
+heap : (s : ScriptState) (b address : ℕ) → IsUnread s b (heap_answer s address) (heap_answer (script_with_budget s b) address)
+unfolding heap_answer
 heap s b address = shown s b (codes "NoHeap") (heap_blocks_text s.machine.store address)
 
-flex : (s : ScriptState) (b : ℕ) → IsUnread s b (flex_told s) (flex_told (script_with_budget s b))
-unfolding flex_told
+flex : (s : ScriptState) (b : ℕ) → IsUnread s b (flex_answer s) (flex_answer (script_with_budget s b))
+unfolding flex_answer
 flex s b = shown s b (codes "NoFlex") (flex_text s.machine.store.bytes s.machine.tables.flex)
 
 pub budget_unread : (s : ScriptState) (b number : ℕ) (r : Request) (block : List (List ℕ)) → takes_steps r ≡ false
-    → IsUnread s b (request_told s number r block) (request_told (script_with_budget s b) number r block)
+    → IsUnread s b (request_answer s number r block) (request_answer (script_with_budget s b) number r block)
 budget_unread s b number (Hex name) block none =
     opened s b (codes "hex ") name _ _ (refusal_for s.images name 0) (hex s b name (block_bytes 0 block))
 budget_unread s b number (Asm name origin) block none =

@@ -11,18 +11,18 @@ use Rattle.profile.specs.declared.fault.Fault.{Fault}
 use Rattle.debug_tables.specs.BlockErrorTexts.{text_with_errors}
 use Rattle.debug_tables.specs.run_meter.Answers.{refused_text, unknown_text}
 use Rattle.debug_tables.specs.run_meter.Memory.{script_at, script_started_anew, script_with_budget, script_with_status}
-use Rattle.debug_tables.specs.run_meter.Script.{request_told}
+use Rattle.debug_tables.specs.run_meter.Script.{request_answer}
 use Rattle.debug_tables.specs.run_meter.State.{Answered, ScriptState}
 use Rattle.command_shell_lines.specs.Blocks.{block_lines, lines_after, lines_taken}
 use Rattle.command_shell_lines.specs.Requests.{Request, Nothing, Hex, Asm, Run, Call, Load, Step, opens_block, request_of}
-use Rattle.debug_modes.specs.expectations.Checks.{Seen, check_told, status_after_pattern}
+use Rattle.debug_modes.specs.expectations.Checks.{Seen, check_answer, status_after_pattern}
 use Rattle.debug_modes.specs.expectations.Halted.{halted_at_text, halting_fault}
 use Rattle.debug_modes.specs.expectations.Endings.{ending_of, output_of}
 use Rattle.debug_lines.specs.DebugRequests.{DebugRequest, Script, Stepping, Mode, Remark, SetPc, SetPsr, Put, Write, Forget, Counts, Reset, Quit, Expect, Repeat, NotKnown, debug_opens_block, debug_request, is_script_request, ViewRequest, View, Words, Where, Banks, Stack, Frames, Labels, Dump, Why, Help, Find, Form}
 use Rattle.debug_tables.specs.run_meter.MachineState.{MachineState, stop_of}
 use Rattle.debug_lines.specs.ModeRequests.{ModeRequest}
 use Rattle.debug_lines.specs.SteppingRequests.{SteppingRequest, stepping_in}
-use Rattle.debug_modes.specs.Changes.{ModeTold, mode_told}
+use Rattle.debug_modes.specs.Changes.{ModeAnswer, mode_answer}
 use Rattle.debug_modes.specs.Counting.{counts_text}
 use Rattle.debug_modes.specs.Modes.{takes_over}
 use Rattle.debug_modes.specs.Stepping.{modes_after, stepping_in_modes}
@@ -41,7 +41,7 @@ use Rattle.debug_session.specs.Naming.{labels_with_block, meant_request, naming_
 use Rattle.debug_modes.specs.OwnAnswers.{forget_text, put_text, reasoned_text}
 use Rattle.debug_labels.specs.Reasons.{refusal_reason}
 use Rattle.debug_modes.specs.declared.help.TheConstants.{HELP}
-use Rattle.debug_session.specs.declared.session.DebugSetting.{DebugSetting}
+use Rattle.debug_session.specs.declared.session.DebugSettings.{DebugSettings}
 use Rattle.debug_modes.specs.expectations.reports.Reports.{answer_in, fail_text, pass_text, report_of_refusal, summary_text, with_fail, with_pass, with_refusal}
 
 -- LINES OF A SCRIPT
@@ -70,52 +70,55 @@ asks_nothing request = false
 
 -- the labels after a line of a script: with those of the image that it has made
 abbrev pub labels_after : DebugState → Request → Answered → List (List ℕ) → List ImageLabels
-labels_after d request told block =
-    if is_refused_block d.script.images told.state.images request then d.labels
-    else labels_with_block d.labels told.state.images request block
+labels_after d request reported block =
+    if is_refused_block d.script.images reported.state.images request then d.labels
+    else labels_with_block d.labels reported.state.images request block
 
 -- What is kept of an answer: of one to a line that takes steps, apart, what the guest printed and how
 -- the steps ended.
-abbrev pub state_with_answer : DebugSetting → DebugState → Request → Answered → List (List ℕ) → DebugState
-state_with_answer c d request told block = record d {
-  script = told.state;
-  labels = labels_after d request told block;
-  answer = if takes_steps request then ending_of told.text else told.text;
-  output = if takes_steps request then output_of told.text else d.output;
-  steps = if takes_steps request then c.budget - told.state.left else d.steps;
+abbrev pub state_with_answer : DebugSettings → DebugState → Request → Answered → List (List ℕ) → DebugState
+state_with_answer c d request reported block = record d {
+  script = reported.state;
+  labels = labels_after d request reported block;
+  answer = if takes_steps request then ending_of reported.text else reported.text;
+  output = if takes_steps request then output_of reported.text else d.output;
+  steps = if takes_steps request then c.budget - reported.state.left else d.steps;
 }
 
 -- The state after the answer to a line of a script. After an empty line the last answer is the one
 -- before it.
-abbrev pub state_after_line : DebugSetting → DebugState → Request → Answered → List (List ℕ) → DebugState
-state_after_line c d request told block = if asks_nothing request then record d { script = told.state }
-    else state_with_answer c d request told block
+abbrev pub state_after_line : DebugSettings → DebugState → Request → Answered → List (List ℕ) → DebugState
+state_after_line c d request reported block = if asks_nothing request then record d
+    { script = reported.state }
+    else state_with_answer c d request reported block
 
-abbrev pub told_or_refused : DebugSetting → DebugState → ℕ → Bool → DebugState → List ℕ → DebugAnswered
-told_or_refused c d number true after text = debug_answer (record after { tally = with_refusal d.tally })
+abbrev pub answer_or_refused : DebugSettings → DebugState → ℕ → Bool → DebugState → List ℕ → DebugAnswered
+answer_or_refused c d number true after text = debug_answer (record after { tally = with_refusal d.tally })
     (report_of_refusal c.form d.tally number text)
-told_or_refused c d number false after text = debug_answer after (answer_in c.form text)
+answer_or_refused c d number false after text = debug_answer after (answer_in c.form text)
 
 -- Where an ASM block is refused, its errors stand behind what a script answers.
-abbrev pub script_line_told_by : DebugSetting → DebugState → ℕ → Request → Answered → List (List ℕ)
+abbrev pub script_line_answer_by : DebugSettings → DebugState → ℕ → Request → Answered → List (List ℕ)
     → DebugAnswered
-script_line_told_by c d number request told block =
-    told_or_refused c d number (is_refused_block d.script.images told.state.images request)
-    (state_after_line c d request told block)
-    (text_with_errors (is_refused_block d.script.images told.state.images request) number request block told.text)
+script_line_answer_by c d number request reported block =
+    answer_or_refused c d number (is_refused_block d.script.images reported.state.images request)
+    (state_after_line c d request reported block)
+    (text_with_errors (is_refused_block d.script.images reported.state.images request) number request block
+    reported.text)
 
 -- A line of a script may take the whole budget.
-abbrev pub plain_line_told : DebugSetting → DebugState → ℕ → Request → List (List ℕ) → DebugAnswered
-plain_line_told c d number request block =
-    script_line_told_by c d number request
-    (request_told (script_with_budget d.script c.budget) number request block) block
+abbrev pub plain_line_answer : DebugSettings → DebugState → ℕ → Request → List (List ℕ) → DebugAnswered
+plain_line_answer c d number request block =
+    script_line_answer_by c d number request
+    (request_answer (script_with_budget d.script c.budget) number request block) block
 
 -- LINES THAT TAKE STEPS IN MODES
 
--- what is kept and written of a line that took steps: the state, what is told of the steps, what the
+-- what is kept and written of a line that took steps: the state, what is shown of the steps, what the
 -- guest printed, and the line's usual ending
-abbrev pub stepping_told_by : DebugSetting → DebugState → ScriptState → List ℕ → List ℕ → List ℕ → DebugAnswered
-stepping_told_by c d now text printed ending = debug_answer
+abbrev pub stepping_answer_by : DebugSettings → DebugState → ScriptState → List ℕ → List ℕ → List ℕ →
+    DebugAnswered
+stepping_answer_by c d now text printed ending = debug_answer
     (record d {
       script = now;
       answer = ending;
@@ -125,25 +128,25 @@ stepping_told_by c d now text printed ending = debug_answer
     (answer_in c.form (text ++ ending))
 
 -- It may take the whole budget, too.
-abbrev pub stepping_line_told : DebugSetting → DebugState → Bool → SteppingRequest → DebugAnswered
-stepping_line_told c d is_traced request =
+abbrev pub stepping_line_answer : DebugSettings → DebugState → Bool → SteppingRequest → DebugAnswered
+stepping_line_answer c d is_traced request =
     let s = script_with_budget d.script c.budget in
-    let told = stepping_in_modes d.modes d.labels is_traced s request in
+    let reported = stepping_in_modes d.modes d.labels is_traced s request in
     let after = record d { modes = modes_after d.modes s request } in
-    stepping_told_by c after told.now told.text told.printed told.ending
+    stepping_answer_by c after reported.now reported.text reported.printed reported.ending
 
 -- what a line of a script asks for, where modes are set in which its steps are answered otherwise
 abbrev pub stepping_now : DebugState → Request → Option SteppingRequest
 stepping_now d request = if takes_over d.modes then stepping_in request else None
 
-abbrev pub script_line_told_in : Option SteppingRequest → DebugSetting → DebugState → ℕ → Request
+abbrev pub script_line_answer_in : Option SteppingRequest → DebugSettings → DebugState → ℕ → Request
     → List (List ℕ) → DebugAnswered
-script_line_told_in (Some stepping) c d number request block = stepping_line_told c d false stepping
-script_line_told_in None c d number request block = plain_line_told c d number request block
+script_line_answer_in (Some stepping) c d number request block = stepping_line_answer c d false stepping
+script_line_answer_in None c d number request block = plain_line_answer c d number request block
 
-abbrev pub script_line_told : DebugSetting → DebugState → ℕ → Request → List (List ℕ) → DebugAnswered
-script_line_told c d number request block =
-    script_line_told_in (stepping_now d request) c d number request block
+abbrev pub script_line_answer : DebugSettings → DebugState → ℕ → Request → List (List ℕ) → DebugAnswered
+script_line_answer c d number request block =
+    script_line_answer_in (stepping_now d request) c d number request block
 
 -- LINES OF ITS OWN
 
@@ -163,29 +166,29 @@ view_text labels s (Find address count named) =
 view_text labels s (Form form) = form ++ codes "\n"
 
 -- a view: its text is the answer
-abbrev pub view_told : DebugSetting → DebugState → List ℕ → DebugAnswered
-view_told c d text = debug_answer (record d { answer = text }) (answer_in c.form text)
+abbrev pub view_answer : DebugSettings → DebugState → List ℕ → DebugAnswered
+view_answer c d text = debug_answer (record d { answer = text }) (answer_in c.form text)
 
 -- a change of the machine, which is answered nothing
-abbrev pub machine_change_told : DebugState → ScriptState → DebugAnswered
-machine_change_told d script = debug_answer (record d { script = script; answer = [] }) []
+abbrev pub machine_change_answer : DebugState → ScriptState → DebugAnswered
+machine_change_answer d script = debug_answer (record d { script = script; answer = [] }) []
 
--- SET PC: a machine that a fault has halted stays where the fault was, which is told.
-abbrev pub set_pc_by : Option Fault → DebugSetting → DebugState → ℕ → DebugAnswered
-set_pc_by (Some fault) c d address = view_told c d (halted_at_text fault d.script.machine.cpu.pc)
-set_pc_by None c d address = machine_change_told d (script_at d.script address)
+-- SET PC: a machine that a fault has halted stays where the fault was, which is shown.
+abbrev pub set_pc_by : Option Fault → DebugSettings → DebugState → ℕ → DebugAnswered
+set_pc_by (Some fault) c d address = view_answer c d (halted_at_text fault d.script.machine.cpu.pc)
+set_pc_by None c d address = machine_change_answer d (script_at d.script address)
 
-abbrev pub set_pc_told : DebugSetting → DebugState → ℕ → DebugAnswered
-set_pc_told c d address =
+abbrev pub set_pc_answer : DebugSettings → DebugState → ℕ → DebugAnswered
+set_pc_answer c d address =
     set_pc_by (halting_fault (option_map stop_of d.script.machine.halt)) c d address
 
-abbrev pub reset_told : DebugSetting → DebugState → DebugAnswered
-reset_told c d = view_told c (record d { script = script_started_anew d.script c.config c.budget })
+abbrev pub reset_answer : DebugSettings → DebugState → DebugAnswered
+reset_answer c d = view_answer c (record d { script = script_started_anew d.script c.config c.budget })
     (codes "reset\n")
 
 -- FORGET: the image of that name goes, if there is one, and its labels.
-abbrev pub forget_told : DebugSetting → DebugState → List ℕ → DebugAnswered
-forget_told c d name = view_told c
+abbrev pub forget_answer : DebugSettings → DebugState → List ℕ → DebugAnswered
+forget_answer c d name = view_answer c
     (record d {
       script = record d.script { images = without_entry d.script.images name };
       labels = without_labels d.labels name;
@@ -193,37 +196,37 @@ forget_told c d name = view_told c
     (forget_text (is_some (bytes_of_image d.script.images name)) name)
 
 -- COUNTS
-abbrev pub counts_told : DebugSetting → DebugState → List ℕ → DebugAnswered
-counts_told c d name =
-    view_told c d (counts_text d.modes.counts (naming_of d).names d.script.machine.store.bytes name)
+abbrev pub counts_answer : DebugSettings → DebugState → List ℕ → DebugAnswered
+counts_answer c d name =
+    view_answer c d (counts_text d.modes.counts (naming_of d).names d.script.machine.store.bytes name)
 
-abbrev pub put_done : DebugSetting → DebugState → List ℕ → ℕ → Result ScriptState Fault → DebugAnswered
-put_done c d name address (Ok script) = view_told c (record d { script = script }) (put_text name address)
-put_done c d name address (Err fault) = view_told c d (refused_text (fault_name fault))
+abbrev pub put_done : DebugSettings → DebugState → List ℕ → ℕ → Result ScriptState Fault → DebugAnswered
+put_done c d name address (Ok script) = view_answer c (record d { script = script }) (put_text name address)
+put_done c d name address (Err fault) = view_answer c d (refused_text (fault_name fault))
 
 -- PUT: the bytes of the image of that name are written, whole or not at all.
-abbrev pub put_found : DebugSetting → DebugState → List ℕ → ℕ → Option (List ℕ) → DebugAnswered
-put_found c d name address None = view_told c d (refused_text (codes "NoImage"))
+abbrev pub put_found : DebugSettings → DebugState → List ℕ → ℕ → Option (List ℕ) → DebugAnswered
+put_found c d name address None = view_answer c d (refused_text (codes "NoImage"))
 put_found c d name address (Some bytes) = put_done c d name address (script_after_put d.script address bytes)
 
-abbrev pub put_told : DebugSetting → DebugState → List ℕ → ℕ → DebugAnswered
-put_told c d name address = put_found c d name address (bytes_of_image d.script.images name)
+abbrev pub put_answer : DebugSettings → DebugState → List ℕ → ℕ → DebugAnswered
+put_answer c d name address = put_found c d name address (bytes_of_image d.script.images name)
 
 -- POKE and FILL of bytes: whole, with no answer, or not at all.
-abbrev pub write_done : DebugSetting → DebugState → Result ScriptState Fault → DebugAnswered
-write_done c d (Ok script) = view_told c (record d { script = script }) []
-write_done c d (Err fault) = view_told c d (refused_text (fault_name fault))
+abbrev pub write_done : DebugSettings → DebugState → Result ScriptState Fault → DebugAnswered
+write_done c d (Ok script) = view_answer c (record d { script = script }) []
+write_done c d (Err fault) = view_answer c d (refused_text (fault_name fault))
 
-abbrev pub write_told : DebugSetting → DebugState → ℕ → Option ℕ → List ℕ → DebugAnswered
-write_told c d address count named = write_done c d
+abbrev pub write_answer : DebugSettings → DebugState → ℕ → Option ℕ → List ℕ → DebugAnswered
+write_answer c d address count named = write_done c d
     (script_after_put d.script address (bytes_written count (or_no_bytes (named_bytes named))))
 
 -- a change of modes, and its answer
-abbrev pub mode_told_by : DebugSetting → DebugState → ModeTold → DebugAnswered
-mode_told_by c d told = view_told c (record d { modes = told.modes }) told.text
+abbrev pub mode_answer_by : DebugSettings → DebugState → ModeAnswer → DebugAnswered
+mode_answer_by c d reported = view_answer c (record d { modes = reported.modes }) reported.text
 
-abbrev pub mode_line_told : DebugSetting → DebugState → ModeRequest → DebugAnswered
-mode_line_told c d request = mode_told_by c d (mode_told d.script.machine d.modes request)
+abbrev pub mode_line_answer : DebugSettings → DebugState → ModeRequest → DebugAnswered
+mode_line_answer c d request = mode_answer_by c d (mode_answer d.script.machine d.modes request)
 
 abbrev pub seen_of : DebugState → Seen
 seen_of d = record {
@@ -235,74 +238,76 @@ seen_of d = record {
 }
 
 -- an expectation that is met, or why it isn't
-abbrev pub checked_told : DebugSetting → DebugState → ℕ → List ℕ → Option (List ℕ) → DebugAnswered
-checked_told c d number words None = debug_answer (record d { tally = with_pass d.tally })
+abbrev pub checked_answer : DebugSettings → DebugState → ℕ → List ℕ → Option (List ℕ) → DebugAnswered
+checked_answer c d number words None = debug_answer (record d { tally = with_pass d.tally })
     (pass_text c.form d.tally number words)
-checked_told c d number words (Some reason) = debug_answer (record d { tally = with_fail d.tally })
+checked_answer c d number words (Some reason) = debug_answer (record d { tally = with_fail d.tally })
     (fail_text c.form d.tally number words reason)
 
--- A line that means nothing: the reason is told, and lines EXPECT find a script's answer.
-abbrev pub unknown_told : DebugSetting → DebugState → ℕ → List ℕ → DebugAnswered
-unknown_told c d number line = debug_answer
+-- A line that means nothing: the reason is shown, and lines EXPECT find a script's answer.
+abbrev pub unknown_answer : DebugSettings → DebugState → ℕ → List ℕ → DebugAnswered
+unknown_answer c d number line = debug_answer
     (record d { answer = unknown_text number; tally = with_refusal d.tally })
     (report_of_refusal c.form d.tally number (reasoned_text number (refusal_reason (naming_of d) line)))
 
 -- A line at that number that is no REPEAT: its words, made tidy, what it asks for, and the lines of
 -- its block.
-abbrev pub simple_request_told : DebugSetting → DebugState → ℕ → List ℕ → DebugRequest → List (List ℕ)
+abbrev pub simple_request_answer : DebugSettings → DebugState → ℕ → List ℕ → DebugRequest → List (List ℕ)
     → DebugAnswered
-simple_request_told c d number words (Script request) block = script_line_told c d number request block
-simple_request_told c d number words (Stepping is_traced request) block =
-    stepping_line_told c d is_traced request
-simple_request_told c d number words (Mode request) block = mode_line_told c d request
-simple_request_told c d number words Remark block = debug_answer d []
-simple_request_told c d number words (View shown) block = view_told c d (view_text d.labels d.script.machine shown)
-simple_request_told c d number words (SetPc address) block = set_pc_told c d address
-simple_request_told c d number words (SetPsr pattern) block = machine_change_told d
+simple_request_answer c d number words (Script request) block = script_line_answer c d number request block
+simple_request_answer c d number words (Stepping is_traced request) block =
+    stepping_line_answer c d is_traced request
+simple_request_answer c d number words (Mode request) block = mode_line_answer c d request
+simple_request_answer c d number words Remark block = debug_answer d []
+simple_request_answer c d number words (View shown) block = view_answer c d
+    (view_text d.labels d.script.machine shown)
+simple_request_answer c d number words (SetPc address) block = set_pc_answer c d address
+simple_request_answer c d number words (SetPsr pattern) block = machine_change_answer d
     (script_with_status d.script (status_after_pattern pattern d.script.machine.cpu.psr))
-simple_request_told c d number words (Put name address) block = put_told c d name address
-simple_request_told c d number words (Write address count named) block = write_told c d address count named
-simple_request_told c d number words (Forget name) block = forget_told c d name
-simple_request_told c d number words (Counts name) block = counts_told c d name
-simple_request_told c d number words Reset block = reset_told c d
-simple_request_told c d number words Quit block = debug_answer (record d { has_quit = true }) []
-simple_request_told c d number words (Expect expected) block =
-    checked_told c d number words (check_told (seen_of d) expected)
-simple_request_told c d number words (Repeat count line) block = unknown_told c d number words
-simple_request_told c d number words NotKnown block = unknown_told c d number words
+simple_request_answer c d number words (Put name address) block = put_answer c d name address
+simple_request_answer c d number words (Write address count named) block = write_answer c d address count
+    named
+simple_request_answer c d number words (Forget name) block = forget_answer c d name
+simple_request_answer c d number words (Counts name) block = counts_answer c d name
+simple_request_answer c d number words Reset block = reset_answer c d
+simple_request_answer c d number words Quit block = debug_answer (record d { has_quit = true }) []
+simple_request_answer c d number words (Expect expected) block =
+    checked_answer c d number words (check_answer (seen_of d) expected)
+simple_request_answer c d number words (Repeat count line) block = unknown_answer c d number words
+simple_request_answer c d number words NotKnown block = unknown_answer c d number words
 
 -- nothing is answered after QUIT
 abbrev pub unless_quit : DebugState → DebugAnswered → DebugAnswered
-unless_quit d told = if d.has_quit then debug_answer d [] else told
+unless_quit d reported = if d.has_quit then debug_answer d [] else reported
 
 -- A tidy line that is no REPEAT, by what it means now.
-abbrev pub simple_line_told : DebugSetting → DebugState → ℕ → List ℕ → List (List ℕ) → DebugAnswered
-simple_line_told c d number line block =
-    simple_request_told c d number line (meant_request (naming_of d) line) block
+abbrev pub simple_line_answer : DebugSettings → DebugState → ℕ → List ℕ → List (List ℕ) → DebugAnswered
+simple_line_answer c d number line block =
+    simple_request_answer c d number line (meant_request (naming_of d) line) block
 
 -- a tidy line, so many times, each by what it means then
-unfoldable pub repeated_told : ℕ → DebugSetting → ℕ → List ℕ → List (List ℕ) → DebugState → DebugAnswered
-repeated_told zero c number line block d = debug_answer d []
-repeated_told (suc more) c number line block d = unless_quit d
-    (then_debugged (simple_line_told c d number line block)
-    (λ after. repeated_told more c number line block after))
+unfoldable pub repeated_answer : ℕ → DebugSettings → ℕ → List ℕ → List (List ℕ) → DebugState → DebugAnswered
+repeated_answer zero c number line block d = debug_answer d []
+repeated_answer (suc more) c number line block d = unless_quit d
+    (then_debugged (simple_line_answer c d number line block)
+    (λ after. repeated_answer more c number line block after))
 
 -- a tidy line, by what is repeated, and how often
-abbrev pub tidy_line_told_by : Option (ℕ × List ℕ) → DebugSetting → DebugState → ℕ → List ℕ → List (List ℕ)
+abbrev pub tidy_line_answer_by : Option (ℕ × List ℕ) → DebugSettings → DebugState → ℕ → List ℕ → List (List ℕ)
     → DebugAnswered
-tidy_line_told_by (Some repeated) c d number words block =
-    repeated_told repeated.0 c number repeated.1 block d
-tidy_line_told_by None c d number words block = simple_line_told c d number words block
+tidy_line_answer_by (Some repeated) c d number words block =
+    repeated_answer repeated.0 c number repeated.1 block d
+tidy_line_answer_by None c d number words block = simple_line_answer c d number words block
 
-abbrev pub tidy_line_told : DebugSetting → DebugState → ℕ → List ℕ → List (List ℕ) → DebugAnswered
-tidy_line_told c d number words block =
-    tidy_line_told_by (repeated_now (naming_of d) words) c d number words block
+abbrev pub tidy_line_answer : DebugSettings → DebugState → ℕ → List ℕ → List (List ℕ) → DebugAnswered
+tidy_line_answer c d number words block =
+    tidy_line_answer_by (repeated_now (naming_of d) words) c d number words block
 
 -- A line as it stands: one of a script is that line, and any other is made tidy.
-abbrev pub debug_line_told : DebugSetting → DebugState → ℕ → List ℕ → List (List ℕ) → DebugAnswered
-debug_line_told c d number line block =
-    if is_script_request (request_of line) then script_line_told c d number (request_of line) block
-    else tidy_line_told c d number (tidied_line line) block
+abbrev pub debug_line_answer : DebugSettings → DebugState → ℕ → List ℕ → List (List ℕ) → DebugAnswered
+debug_line_answer c d number line block =
+    if is_script_request (request_of line) then script_line_answer c d number (request_of line) block
+    else tidy_line_answer c d number (tidied_line line) block
 
 -- THE SCRIPT
 
@@ -310,23 +315,24 @@ abbrev pub line_opens : List ℕ → Bool
 line_opens line = debug_opens_block (debug_request line)
 
 -- At most so many lines and blocks of a text, where so many lines came before.
-unfoldable pub some_lines_told : ℕ → DebugSetting → ℕ → DebugState → List (List ℕ) → DebugAnswered
-some_lines_told zero c number d left = debug_answer d []
-some_lines_told (suc more) c number d [] = debug_answer d []
-some_lines_told (suc more) c number d (line ∷ rest) = unless_quit d
-    (then_debugged (debug_line_told c d (number + 1) line (block_lines rest))
-    (λ after. some_lines_told more c (number + 1 + lines_taken (line_opens line) rest) after
+unfoldable pub some_lines_answer : ℕ → DebugSettings → ℕ → DebugState → List (List ℕ) → DebugAnswered
+some_lines_answer zero c number d left = debug_answer d []
+some_lines_answer (suc more) c number d [] = debug_answer d []
+some_lines_answer (suc more) c number d (line ∷ rest) = unless_quit d
+    (then_debugged (debug_line_answer c d (number + 1) line (block_lines rest))
+    (λ after. some_lines_answer more c (number + 1 + lines_taken (line_opens line) rest) after
     (lines_after (line_opens line) rest)))
 
 -- all of them
-abbrev pub debug_lines_told : DebugSetting → ℕ → DebugState → List (List ℕ) → DebugAnswered
-debug_lines_told c number d left = some_lines_told (length left) c number d left
+abbrev pub debug_lines_answer : DebugSettings → ℕ → DebugState → List (List ℕ) → DebugAnswered
+debug_lines_answer c number d left = some_lines_answer (length left) c number d left
 
 -- what stands after the last of them
-abbrev pub then_summary : DebugSetting → DebugAnswered → DebugAnswered
-then_summary c told = debug_answer told.state (told.text ++ summary_text c.form told.state.tally)
+abbrev pub then_summary : DebugSettings → DebugAnswered → DebugAnswered
+then_summary c reported = debug_answer reported.state (reported.text ++ summary_text c.form
+    reported.state.tally)
 
 -- a whole script
-unfoldable pub debug_script_told : DebugSetting → List Entry → List ℕ → DebugAnswered
-debug_script_told c images script =
-    then_summary c (debug_lines_told c 0 (debug_start_state c images) (lines script))
+unfoldable pub debug_script_answer : DebugSettings → List Entry → List ℕ → DebugAnswered
+debug_script_answer c images script =
+    then_summary c (debug_lines_answer c 0 (debug_start_state c images) (lines script))

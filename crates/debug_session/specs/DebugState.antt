@@ -10,7 +10,7 @@ use Rattle.debug_modes.specs.Modes.{no_modes}
 use Rattle.debug_modes.specs.declared.modes.DebugModes.{DebugModes}
 use Rattle.debug_modes.specs.expectations.reports.Reports.{no_tally}
 use Rattle.debug_modes.specs.declared.expectations.reports.reports.CheckTally.{CheckTally}
-use Rattle.debug_session.specs.declared.session.DebugSetting.{DebugSetting}
+use Rattle.debug_session.specs.declared.session.DebugSettings.{DebugSettings}
 
 -- What a debugging script works on: what a script does, the labels of the images that were assembled,
 -- the modes in which lines that take steps are answered, the last answer of a line that is no EXPECT, without what the guest printed, what it printed in the
@@ -35,9 +35,10 @@ debug_answer d text = record { state = d; text = text }
 
 -- A writer and a debugging script after an answer: what was written is its text, and the script
 -- stands in its state.
-pub record IsDebugged (before after : Option (List ℕ)) (now : DebugState) (told : DebugAnswered) : Type 0 where
-  pub text : Appends before after told.text
-  pub state : now ≡ told.state
+pub record IsDebugged (before after : Option (List ℕ)) (now : DebugState) (reported : DebugAnswered) : Type
+    0 where
+  pub text : Appends before after reported.text
+  pub state : now ≡ reported.state
 
 -- an answer, and then those of the lines that follow
 abbrev pub then_debugged : DebugAnswered → (DebugState → DebugAnswered) → DebugAnswered
@@ -47,7 +48,7 @@ then_debugged first next = record {
 }
 
 -- where a debugging script begins
-abbrev pub debug_start_state : DebugSetting → List Entry → DebugState
+abbrev pub debug_start_state : DebugSettings → List Entry → DebugState
 debug_start_state setting images = record {
   script = script_start_state setting.config images setting.budget;
   labels = [];

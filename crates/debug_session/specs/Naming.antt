@@ -54,7 +54,8 @@ if_repeatable n None = None
 
 -- what is repeated, and how often, of a line that means nothing as it stands
 abbrev pub repeated_with_places : LineNaming → List ℕ → Option (ℕ × List ℕ)
-repeated_with_places n line = if is_known (simple_request line) then None else if_repeatable n (repeated_text line)
+repeated_with_places n line = if is_known (simple_request line) then None else if_repeatable n
+    (repeated_text line)
 
 -- what is repeated, and how often, of a tidy line
 abbrev pub repeated_now : LineNaming → List ℕ → Option (ℕ × List ℕ)

@@ -4,12 +4,12 @@ use Rattle.std.specs.Fmt.{decimal}
 use Rattle.debug_tables.specs.run_meter.Answers.{unknown_text}
 
 -- an answer, and what stands behind it
-pub record GoesOnBehind (answer told : List ℕ) : Type 0 where
+pub record GoesOnBehind (answer reported : List ℕ) : Type 0 where
   pub more : List ℕ
-  pub debugging : told ≡ answer ++ more
+  pub debugging : reported ≡ answer ++ more
 
 -- what is answered begins as a script's answer, and behind that stands the reason
-pub record BeginsAsInScript (number : ℕ) (told : List ℕ) : Type 0 where
+pub record BeginsAsInScript (number : ℕ) (reported : List ℕ) : Type 0 where
   pub reason : List ℕ
   pub script : unknown_text number ≡ (codes "? line " ++ decimal number) ++ codes "\n"
-  pub debugging : told ≡ (codes "? line " ++ decimal number) ++ (codes ": " ++ (reason ++ codes "\n"))
+  pub debugging : reported ≡ (codes "? line " ++ decimal number) ++ (codes ": " ++ (reason ++ codes "\n"))

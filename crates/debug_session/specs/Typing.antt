@@ -4,7 +4,7 @@ use Rattle.std.specs.Str.Lines.{lines}
 use Rattle.image_loader.specs.Entries.{Entry}
 use Rattle.debug_lines.specs.BlockEnds.{missing_ends_if, shown_beyond}
 use Rattle.debug_lines.specs.WholeDebugRequests.{AreWholeDebugRequests}
-use Rattle.debug_session.specs.DebugScript.{debug_lines_told}
+use Rattle.debug_session.specs.DebugScript.{debug_lines_answer}
 use Rattle.debug_session.specs.DebugState.{DebugState, IsDebugged}
 use Rattle.debug_session.specs.Session.{debug_state}
 use Rattle.debug_session.specs.declared.typing.DebugTyping.{DebugTyping}
@@ -14,8 +14,9 @@ pub record IsTaken (old new : DebugTyping) (images images_after : List Entry) (b
     (text : List ℕ) : Type 0 where
   pub count : ℕ
   pub whole : AreWholeDebugRequests text count
-  pub told : IsDebugged before after (debug_state new.session images_after)
-      (debug_lines_told old.session.setting old.number (debug_state old.session images) (lines (take count text)))
+  pub reported : IsDebugged before after (debug_state new.session images_after)
+      (debug_lines_answer old.session.setting old.number (debug_state old.session images)
+      (lines (take count text)))
   pub waits : new.pending.items ≡ drop count text
   pub number : new.number ≡ old.number + length (lines (take count text))
 
@@ -42,9 +43,9 @@ TypedPieceThenRest = (first mid : DebugTyping) (images images_mid : List Entry) 
     (before between after : Option (List ℕ)) (piece rest : List ℕ)
     → IsTaken first mid images images_mid before between (first.pending.items ++ piece)
     → mid.session.setting ≡ first.session.setting
-    → IsDebugged between after now (debug_lines_told mid.session.setting mid.number
+    → IsDebugged between after now (debug_lines_answer mid.session.setting mid.number
     (debug_state mid.session images_mid) (lines (mid.pending.items ++ rest)))
-    → IsDebugged before after now (debug_lines_told first.session.setting first.number
+    → IsDebugged before after now (debug_lines_answer first.session.setting first.number
     (debug_state first.session images) (lines (first.pending.items ++ (piece ++ rest))))
 
 -- A text is taken in one way.

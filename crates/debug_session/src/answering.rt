@@ -24,7 +24,7 @@ impl DebugSession {
     ghost use Rattle.image_loader.specs.Entries.{Entry};
     ghost use Rattle.debug_lines.specs.DebugRequests.{debug_opens_block, debug_request_of_command, is_known, is_repeatable, own_request, simple_request};
     ghost use Rattle.debug_lines.specs.Repeats.{count_and_line};
-    ghost use Rattle.debug_session.specs.DebugScript.{debug_line_told, line_opens, repeated_told, simple_line_told, simple_request_told, tidy_line_told};
+    ghost use Rattle.debug_session.specs.DebugScript.{debug_line_answer, line_opens, repeated_answer, simple_line_answer, simple_request_answer, tidy_line_answer};
     ghost use Rattle.debug_session.specs.DebugState.{IsDebugged};
     ghost use Rattle.debug_session.specs.Naming.{if_repeatable, meant_request, naming_of, numbered_line, repeated_now, repeated_with_places};
     ghost use Rattle.debug_session.specs.Session.{debug_state};
@@ -41,9 +41,9 @@ impl DebugSession {
         line: &[u8],
         script: &mut Lines,
     ) -> Result<(), RunError>
-        ensures told { OnOk result (IsDebugged (W.contents sink.old) (W.contents sink.new)
+        ensures reported { OnOk result (IsDebugged (W.contents sink.old) (W.contents sink.new)
             (debug_state self.new images.new)
-            (debug_line_told self.old.setting (debug_state self.old images.old) script.old.number
+            (debug_line_answer self.old.setting (debug_state self.old images.old) script.old.number
             line.now (block_lines script.old.left))) }
         ensures left { OnOk result (script.new.left ≡ lines_after (line_opens line.now) script.old.left) }
         ensures number { OnOk result (script.new.number
@@ -51,7 +51,7 @@ impl DebugSession {
         ensures setting { self.new.setting ≡ self.old.setting }
         ensures memory { result ≡ Err RunError.Memory
             → AddsFront (W.contents sink.old) (W.contents sink.new)
-            (debug_line_told self.old.setting (debug_state self.old images.old) script.old.number
+            (debug_line_answer self.old.setting (debug_state self.old images.old) script.old.number
             line.now (block_lines script.old.left)).text }
         ensures write_fault { ReportsWriteFault W.has_failed sink.old sink.new result }
         ensures errors { IfErr result IsLineError }
@@ -73,9 +73,9 @@ impl DebugSession {
         words: &[u8],
         script: &mut Lines,
     ) -> Result<(), RunError>
-        ensures told { OnOk result (IsDebugged (W.contents sink.old) (W.contents sink.new)
+        ensures reported { OnOk result (IsDebugged (W.contents sink.old) (W.contents sink.new)
             (debug_state self.new images.new)
-            (tidy_line_told self.old.setting (debug_state self.old images.old) script.old.number
+            (tidy_line_answer self.old.setting (debug_state self.old images.old) script.old.number
             words.now (block_lines script.old.left))) }
         ensures left { OnOk result (script.new.left
             ≡ lines_after (debug_opens_block (own_request words.now)) script.old.left) }
@@ -84,7 +84,7 @@ impl DebugSession {
         ensures setting { self.new.setting ≡ self.old.setting }
         ensures memory { result ≡ Err RunError.Memory
             → AddsFront (W.contents sink.old) (W.contents sink.new)
-            (tidy_line_told self.old.setting (debug_state self.old images.old) script.old.number
+            (tidy_line_answer self.old.setting (debug_state self.old images.old) script.old.number
             words.now (block_lines script.old.left)).text }
         ensures write_fault { ReportsWriteFault W.has_failed sink.old sink.new result }
         ensures errors { IfErr result IsLineError }
@@ -101,7 +101,7 @@ impl DebugSession {
         &self,
         words: &'a [u8],
     ) -> Result<Option<RepeatedLine<'a>>, AllocError>
-        ensures told { (images : List Entry) → IfOk result (λ repeated. option_map count_and_line repeated
+        ensures reported { (images : List Entry) → IfOk result (λ repeated. option_map count_and_line repeated
             ≡ repeated_now (naming_of (debug_state self.now images)) words.now) }
         ensures alone { IfOk result (λ repeated. IfSome repeated
             (λ r. debug_opens_block (simple_request r.line.now) ≡ false)) }
@@ -121,7 +121,7 @@ impl DebugSession {
         &self,
         words: &'a [u8],
     ) -> Result<Option<RepeatedLine<'a>>, AllocError>
-        ensures told { (images : List Entry) → IfOk result (λ repeated. option_map count_and_line repeated
+        ensures reported { (images : List Entry) → IfOk result (λ repeated. option_map count_and_line repeated
             ≡ repeated_with_places (naming_of (debug_state self.now images)) words.now) }
         ensures alone { IfOk result (λ repeated. IfSome repeated
             (λ r. debug_opens_block (simple_request r.line.now) ≡ false)) }
@@ -142,7 +142,7 @@ impl DebugSession {
         &self,
         repeated: RepeatedLine<'a>,
     ) -> Result<Option<RepeatedLine<'a>>, AllocError>
-        ensures told { (images : List Entry) → IfOk result (λ found. option_map count_and_line found
+        ensures reported { (images : List Entry) → IfOk result (λ found. option_map count_and_line found
             ≡ if_repeatable (naming_of (debug_state self.now images))
             (Some (count_and_line repeated.entry))) }
         ensures alone { IfOk result (λ found. IfSome found
@@ -157,7 +157,7 @@ impl DebugSession {
 
     // Whether a tidy line asks for something now, and opens no block.
     fn is_repeatable_now(&self, line: &[u8]) -> Result<bool, AllocError>
-        ensures told { (images : List Entry) → IfOk result (λ is. is
+        ensures reported { (images : List Entry) → IfOk result (λ is. is
             ≡ is_repeatable (meant_request (naming_of (debug_state self.now images)) line.now)) }
         ensures alone { IfOk result (λ is. is ≡ true → debug_opens_block (simple_request line.now) ≡ false) }
     {
@@ -190,16 +190,16 @@ impl DebugSession {
         script: &mut Lines,
     ) -> Result<(), RunError>
         requires { debug_opens_block (simple_request line.now) ≡ false }
-        ensures told { OnOk result (IsDebugged (W.contents sink.old) (W.contents sink.new)
+        ensures reported { OnOk result (IsDebugged (W.contents sink.old) (W.contents sink.new)
             (debug_state self.new images.new)
-            (repeated_told count self.old.setting script.old.number line.now
+            (repeated_answer count self.old.setting script.old.number line.now
             (block_lines script.old.left) (debug_state self.old images.old))) }
         ensures left { OnOk result (script.new.left ≡ script.old.left) }
         ensures number { OnOk result (script.new.number ≡ script.old.number) }
         ensures setting { self.new.setting ≡ self.old.setting }
         ensures memory { result ≡ Err RunError.Memory
             → AddsFront (W.contents sink.old) (W.contents sink.new)
-            (repeated_told count self.old.setting script.old.number line.now
+            (repeated_answer count self.old.setting script.old.number line.now
             (block_lines script.old.left) (debug_state self.old images.old)).text }
         ensures write_fault { ReportsWriteFault W.has_failed sink.old sink.new result }
         ensures errors { IfErr result IsLineError }
@@ -224,9 +224,9 @@ impl DebugSession {
         words: &[u8],
         script: &mut Lines,
     ) -> Result<(), RunError>
-        ensures told { OnOk result (IsDebugged (W.contents sink.old) (W.contents sink.new)
+        ensures reported { OnOk result (IsDebugged (W.contents sink.old) (W.contents sink.new)
             (debug_state self.new images.new)
-            (simple_line_told self.old.setting (debug_state self.old images.old) script.old.number
+            (simple_line_answer self.old.setting (debug_state self.old images.old) script.old.number
             words.now (block_lines script.old.left))) }
         ensures left { OnOk result (script.new.left
             ≡ lines_after (debug_opens_block (simple_request words.now)) script.old.left) }
@@ -256,9 +256,9 @@ impl DebugSession {
         command: DebugCommand<'_>,
         script: &mut Lines,
     ) -> Result<(), RunError>
-        ensures told { OnOk result (IsDebugged (W.contents sink.old) (W.contents sink.new)
+        ensures reported { OnOk result (IsDebugged (W.contents sink.old) (W.contents sink.new)
             (debug_state self.new images.new)
-            (simple_request_told self.old.setting (debug_state self.old images.old) script.old.number
+            (simple_request_answer self.old.setting (debug_state self.old images.old) script.old.number
             words.now (debug_request_of_command command.entry) (block_lines script.old.left))) }
         ensures left { OnOk result (script.new.left
             ≡ lines_after (debug_opens_block (debug_request_of_command command.entry)) script.old.left) }
@@ -293,7 +293,7 @@ impl DebugSession {
             }
             DebugCommand::Expect(expected) => {
                 let reason = self.reason_against(&expected)?;
-                self.tell_check(sink, reason, words, script.number())
+                self.print_check(sink, reason, words, script.number())
             }
             DebugCommand::Unknown => self.refuse(sink, words, script.number()),
         }

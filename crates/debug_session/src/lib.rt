@@ -19,5 +19,5 @@ pub use debug_modes::expectations::reports::{CheckTally, ReportForm};
 pub use debug_tables::Stub;
 pub use debug_tables::byte_writes::put_bytes;
 pub use debug_tables::run_meter::RunMeter;
-pub use session::{DebugSession, DebugSetting};
+pub use session::{DebugSession, DebugSettings};
 pub use typing::{DebugTyping, TypedPiece};

@@ -2,7 +2,7 @@
 //! tally; and how it reads and answers a line.
 
 ghost use Rattle.std.specs.Prelude.{◌≡◌, List, IfOk};
-ghost use Rattle.debug_tables.specs.run_meter.Parts.{state_of};
+ghost use Rattle.debug_tables.specs.run_meter.GuestState.{state_of};
 
 use crate::session::DebugSession;
 use debug_lines::is_known_line;
@@ -11,7 +11,7 @@ use debug_tables::run_meter::Machine;
 use std::alloc::{AllocError, Global};
 
 impl DebugSession {
-    ghost use Rattle.debug_modes.specs.Modes.{told_of_line};
+    ghost use Rattle.debug_modes.specs.Modes.{answer_of_line};
     ghost use Rattle.image_loader.specs.Entries.{Entry};
     ghost use Rattle.debug_session.specs.Looking.{words_meant};
     ghost use Rattle.debug_session.specs.Naming.{naming_of};
@@ -25,12 +25,12 @@ impl DebugSession {
         self.session.machine()
     }
 
-    /// How many steps are told of a line that takes steps, `None` where they are not told: told they are
+    /// How many steps are shown of a line that takes steps, `None` where they are not shown: shown they are
     /// behind TRACE, and where the steps of all lines are.
-    pub fn told_steps(&self, is_traced: bool) -> Option<u64>
-        ensures { result ≡ told_of_line self.now.modes is_traced }
+    pub fn answer_steps(&self, is_traced: bool) -> Option<u64>
+        ensures { result ≡ answer_of_line self.now.modes is_traced }
     {
-        self.modes.told(is_traced)
+        self.modes.reported(is_traced)
     }
 
     /// A tidy line as it is read now: as it stands where it means something so, else with numbers in

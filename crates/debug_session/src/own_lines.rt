@@ -28,14 +28,14 @@ use std::alloc::AllocError;
 impl DebugSession {
     ghost use Rattle.image_loader.specs.Entries.{Entry};
     ghost use Rattle.debug_tables.specs.run_meter.Memory.{script_at, script_started_anew, script_with_status};
-    ghost use Rattle.debug_modes.specs.expectations.Checks.{check_told, status_after_pattern};
+    ghost use Rattle.debug_modes.specs.expectations.Checks.{check_answer, status_after_pattern};
     ghost use Rattle.debug_lines.specs.Expectations.{expect_request_of};
     ghost use Rattle.debug_lines.specs.DebugRequests.{Find, Form, view_request_of};
-    ghost use Rattle.debug_session.specs.DebugScript.{checked_told, forget_told, machine_change_told, put_told, reset_told, seen_of, set_pc_told, view_text, view_told, write_told};
+    ghost use Rattle.debug_session.specs.DebugScript.{checked_answer, forget_answer, machine_change_answer, put_answer, reset_answer, seen_of, set_pc_answer, view_text, view_answer, write_answer};
     ghost use Rattle.debug_session.specs.DebugState.{IsDebugged};
     ghost use Rattle.debug_session.specs.Session.{debug_state};
     ghost use Rattle.debug_tables.specs.run_meter.MachineState.{stop_of};
-    ghost use Rattle.debug_tables.specs.run_meter.Parts.{state_of};
+    ghost use Rattle.debug_tables.specs.run_meter.GuestState.{state_of};
 
     /// Writes what a line shows that only looks.
     fn show_view<W: Sink>(&self, sink: &mut W, view: DebugView) -> Result<(), WriteFault>
@@ -73,9 +73,9 @@ impl DebugSession {
 
     /// Answers a line that only looks.
     pub(crate) fn look<W: Sink>(&mut self, sink: &mut W, view: DebugView) -> Result<(), RunError>
-        ensures told { (images : List Entry) → OnOk result
+        ensures reported { (images : List Entry) → OnOk result
             (IsDebugged (W.contents sink.old) (W.contents sink.new) (debug_state self.new images)
-            (view_told self.old.setting (debug_state self.old images)
+            (view_answer self.old.setting (debug_state self.old images)
             (view_text (debug_state self.old images).labels (debug_state self.old images).script.machine
             (view_request_of view)))) }
         ensures setting { self.new.setting ≡ self.old.setting }
@@ -87,9 +87,9 @@ impl DebugSession {
 
     /// Shows what the lines of a word need.
     pub(crate) fn show_form<W: Sink>(&mut self, sink: &mut W, form: &[u8]) -> Result<(), RunError>
-        ensures told { (images : List Entry) → OnOk result
+        ensures reported { (images : List Entry) → OnOk result
             (IsDebugged (W.contents sink.old) (W.contents sink.new) (debug_state self.new images)
-            (view_told self.old.setting (debug_state self.old images)
+            (view_answer self.old.setting (debug_state self.old images)
             (view_text (debug_state self.old images).labels (debug_state self.old images).script.machine
             (Form form.now)))) }
         ensures setting { self.new.setting ≡ self.old.setting }
@@ -106,9 +106,9 @@ impl DebugSession {
         sink: &mut W,
         name: &[u8],
     ) -> Result<(), RunError>
-        ensures told { OnOk result (IsDebugged (W.contents sink.old) (W.contents sink.new)
+        ensures reported { OnOk result (IsDebugged (W.contents sink.old) (W.contents sink.new)
             (debug_state self.new images.new)
-            (forget_told self.old.setting (debug_state self.old images.old) name.now)) }
+            (forget_answer self.old.setting (debug_state self.old images.old) name.now)) }
         ensures setting { self.new.setting ≡ self.old.setting }
         ensures ends { EndsAtOnce W.has_failed sink.old sink.new result }
     {
@@ -127,9 +127,9 @@ impl DebugSession {
         name: &[u8],
         address: u32,
     ) -> Result<(), RunError>
-        ensures told { OnOk result (IsDebugged (W.contents sink.old) (W.contents sink.new)
+        ensures reported { OnOk result (IsDebugged (W.contents sink.old) (W.contents sink.new)
             (debug_state self.new images.now)
-            (put_told self.old.setting (debug_state self.old images.now) name.now address)) }
+            (put_answer self.old.setting (debug_state self.old images.now) name.now address)) }
         ensures setting { self.new.setting ≡ self.old.setting }
         ensures ends { EndsAtOnce W.has_failed sink.old sink.new result }
     {
@@ -156,9 +156,9 @@ impl DebugSession {
         count: Option<u32>,
         named: &[u8],
     ) -> Result<(), RunError>
-        ensures told { (images : List Entry) → OnOk result
+        ensures reported { (images : List Entry) → OnOk result
             (IsDebugged (W.contents sink.old) (W.contents sink.new) (debug_state self.new images)
-            (write_told self.old.setting (debug_state self.old images) address count named.now)) }
+            (write_answer self.old.setting (debug_state self.old images) address count named.now)) }
         ensures setting { self.new.setting ≡ self.old.setting }
         ensures ends { EndsAtOnce W.has_failed sink.old sink.new result }
     {
@@ -181,9 +181,9 @@ impl DebugSession {
         count: u32,
         named: &[u8],
     ) -> Result<(), RunError>
-        ensures told { (images : List Entry) → OnOk result
+        ensures reported { (images : List Entry) → OnOk result
             (IsDebugged (W.contents sink.old) (W.contents sink.new) (debug_state self.new images)
-            (view_told self.old.setting (debug_state self.old images)
+            (view_answer self.old.setting (debug_state self.old images)
             (view_text (debug_state self.old images).labels (debug_state self.old images).script.machine
             (Find address count named.now)))) }
         ensures setting { self.new.setting ≡ self.old.setting }
@@ -213,9 +213,9 @@ impl DebugSession {
 
     /// Begins anew on a fresh machine; images, labels, breaks and modes stay.
     pub(crate) fn reset<W: Sink>(&mut self, sink: &mut W) -> Result<(), RunError>
-        ensures told { (images : List Entry) → OnOk result
+        ensures reported { (images : List Entry) → OnOk result
             (IsDebugged (W.contents sink.old) (W.contents sink.new) (debug_state self.new images)
-            (reset_told self.old.setting (debug_state self.old images))) }
+            (reset_answer self.old.setting (debug_state self.old images))) }
         ensures setting { self.new.setting ≡ self.old.setting }
         ensures ends { EndsAtOnce W.has_failed sink.old sink.new result }
     {
@@ -226,9 +226,9 @@ impl DebugSession {
 
     /// Writes a view, which is the last answer then.
     pub(crate) fn view<W: Sink>(&mut self, sink: &mut W, text: Vec<u8>) -> Result<(), WriteFault>
-        ensures told { (images : List Entry) → OnOk result
+        ensures reported { (images : List Entry) → OnOk result
             (IsDebugged (W.contents sink.old) (W.contents sink.new) (debug_state self.new images)
-            (view_told self.old.setting (debug_state self.old images) text.items)) }
+            (view_answer self.old.setting (debug_state self.old images) text.items)) }
         ensures setting { self.new.setting ≡ self.old.setting }
         ensures flag { OnErr result (W.has_failed sink.new ≡ true) }
         ensures same_flag { OnOk result (W.has_failed sink.new ≡ W.has_failed sink.old) }
@@ -240,8 +240,8 @@ impl DebugSession {
 
     /// Sets the program counter.
     pub(crate) fn set_pc(&mut self, address: Origin)
-        ensures told { (images : List Entry) → debug_state self.new images
-            ≡ (machine_change_told (debug_state self.old images)
+        ensures reported { (images : List Entry) → debug_state self.new images
+            ≡ (machine_change_answer (debug_state self.old images)
             (script_at (debug_state self.old images).script address)).state }
         ensures setting { self.new.setting ≡ self.old.setting }
     {
@@ -249,11 +249,11 @@ impl DebugSession {
         self.answer = Vec::new(self.alloc);
     }
 
-    /// Sets the program counter; where a fault has halted the machine, it stays, and is told.
+    /// Sets the program counter; where a fault has halted the machine, it stays, and is shown.
     pub(crate) fn move_pc<W: Sink>(&mut self, sink: &mut W, address: Origin) -> Result<(), RunError>
-        ensures told { (images : List Entry) → OnOk result
+        ensures reported { (images : List Entry) → OnOk result
             (IsDebugged (W.contents sink.old) (W.contents sink.new) (debug_state self.new images)
-            (set_pc_told self.old.setting (debug_state self.old images) address)) }
+            (set_pc_answer self.old.setting (debug_state self.old images) address)) }
         ensures setting { self.new.setting ≡ self.old.setting }
         ensures ends { EndsAtOnce W.has_failed sink.old sink.new result }
     {
@@ -289,10 +289,10 @@ impl DebugSession {
         }
     }
 
-    /// Sets what a pattern tells of the status.
+    /// Sets what a pattern reports the status.
     pub(crate) fn set_psr(&mut self, pattern: StatusPattern)
-        ensures told { (images : List Entry) → debug_state self.new images
-            ≡ (machine_change_told (debug_state self.old images)
+        ensures reported { (images : List Entry) → debug_state self.new images
+            ≡ (machine_change_answer (debug_state self.old images)
             (script_with_status (debug_state self.old images).script (status_after_pattern pattern
             (debug_state self.old images).script.machine.cpu.psr))).state }
         ensures setting { self.new.setting ≡ self.old.setting }
@@ -302,18 +302,18 @@ impl DebugSession {
         self.answer = Vec::new(self.alloc);
     }
 
-    /// Tells whether what should be so is so; `reason` tells why it isn't, and `words` are the line,
+    /// Says whether what should be so is so; `reason` shows why it isn't, and `words` are the line,
     /// made tidy.
-    pub(crate) fn tell_check<W: Sink>(
+    pub(crate) fn print_check<W: Sink>(
         &mut self,
         sink: &mut W,
         reason: Option<Vec<u8>>,
         words: &[u8],
         number: usize,
     ) -> Result<(), RunError>
-        ensures told { (images : List Entry) → OnOk result
+        ensures reported { (images : List Entry) → OnOk result
             (IsDebugged (W.contents sink.old) (W.contents sink.new) (debug_state self.new images)
-            (checked_told self.old.setting (debug_state self.old images) number words.now
+            (checked_answer self.old.setting (debug_state self.old images) number words.now
             (option_map (λ text. text.items) reason))) }
         ensures setting { self.new.setting ≡ self.old.setting }
         ensures ends { EndsAtOnce W.has_failed sink.old sink.new result }
@@ -342,7 +342,7 @@ impl DebugSession {
         expected: &Expectation<'_>,
     ) -> Result<Option<Vec<u8>>, AllocError>
         ensures { (images : List Entry) → IfOk result (λ reason. option_map (λ text. text.items) reason
-            ≡ check_told (seen_of (debug_state self.now images)) (expect_request_of expected.now)) }
+            ≡ check_answer (seen_of (debug_state self.now images)) (expect_request_of expected.now)) }
     {
         let seen = SeenMachine {
             machine: self.session.machine(),

@@ -1,6 +1,6 @@
 //! What those need of a debugging session who record its steps one by one.
 
-ghost use Rattle.std.specs.Prelude.{◌≡◌, ◌<◌};
+ghost use Rattle.std.specs.Prelude.{◌≡◌, ◌<◌, List, option_map, IfOk};
 
 use crate::session::DebugSession;
 use debug_labels::ImagePlace;
@@ -12,7 +12,11 @@ use profile::{Sink, WriteFault};
 use std::alloc::AllocError;
 
 impl DebugSession {
+    ghost use Rattle.debug_lines.specs.Repeats.{count_and_line};
+    ghost use Rattle.debug_session.specs.Naming.{naming_of, repeated_now};
+    ghost use Rattle.debug_session.specs.Session.{debug_state};
     ghost use Rattle.debug_tables.specs.run_meter.Session.{script_state};
+    ghost use Rattle.image_loader.specs.Entries.{Entry};
 
     /// Where the image of a name stands now, of those that were assembled.
     pub fn image_place(&self, name: &[u8]) -> Option<ImagePlace> {
@@ -45,7 +49,10 @@ impl DebugSession {
     /// # Errors
     ///
     /// Memory ran out.
-    pub fn repeated<'a>(&self, words: &'a [u8]) -> Result<Option<RepeatedLine<'a>>, AllocError> {
+    pub fn repeated<'a>(&self, words: &'a [u8]) -> Result<Option<RepeatedLine<'a>>, AllocError>
+        ensures { (images : List Entry) → IfOk result (λ repeated. option_map count_and_line repeated
+            ≡ repeated_now (naming_of (debug_state self.now images)) words.now) }
+    {
         self.repeated_now(words)
     }
 }

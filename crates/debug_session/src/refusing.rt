@@ -14,29 +14,35 @@ use std::alloc::AllocError;
 
 impl DebugSession {
     ghost use Rattle.image_loader.specs.Entries.{Entry};
-    ghost use Rattle.debug_session.specs.DebugScript.{unknown_told};
+    ghost use Rattle.debug_session.specs.DebugScript.{unknown_answer};
     ghost use Rattle.debug_session.specs.DebugState.{IsDebugged};
     ghost use Rattle.debug_session.specs.Naming.{naming_of};
     ghost use Rattle.debug_labels.specs.Reasons.{refusal_reason};
     ghost use Rattle.debug_session.specs.Session.{debug_state};
 
-    /// Tells that a tidy line is none of the language, and why. Lines EXPECT find a script's answer.
+    /// Says that a tidy line is none of the language, and why. Lines EXPECT find a script's answer.
     pub(crate) fn refuse<W: Sink>(
         &mut self,
         sink: &mut W,
         words: &[u8],
         number: usize,
     ) -> Result<(), RunError>
-        ensures told { (images : List Entry) → OnOk result
+        ensures reported { (images : List Entry) → OnOk result
             (IsDebugged (W.contents sink.old) (W.contents sink.new) (debug_state self.new images)
-            (unknown_told self.old.setting (debug_state self.old images) number words.now)) }
+            (unknown_answer self.old.setting (debug_state self.old images) number words.now)) }
         ensures setting { self.new.setting ≡ self.old.setting }
         ensures ends { EndsAtOnce W.has_failed sink.old sink.new result }
     {
         let reason = self.refusal_reason(words)?;
-        let told = refusal_line(self.alloc, number, reason.as_slice())?;
+        let reported = refusal_line(self.alloc, number, reason.as_slice())?;
         let answer = unknown_line(self.alloc, number)?;
-        push_refusal(sink, self.setting.form, self.tally, number, told.as_slice())?;
+        push_refusal(
+            sink,
+            self.setting.form,
+            self.tally,
+            number,
+            reported.as_slice(),
+        )?;
         self.answer = answer;
         self.tally = self.tally.with_refusal();
         Ok(())

@@ -3,7 +3,7 @@
 
 ghost use Rattle.std.specs.Prelude.{◌≡◌, ◌+◌, ◌-◌, ◌&&◌, ◌||◌, not, false, true, List, Some, [], IfOk, IfErr, OnOk, OnErr, if◌then◌else◌};
 ghost use Rattle.debug_session.specs.Failing.{EndsAtOnce};
-ghost use Rattle.debug_tables.specs.run_meter.Script.{request_told};
+ghost use Rattle.debug_tables.specs.run_meter.Script.{request_answer};
 ghost use Rattle.command_shell_lines.specs.Blocks.{block_lines, lines_after, lines_taken};
 ghost use Rattle.debug_modes.specs.expectations.Endings.{ending_of, output_of};
 ghost use Rattle.command_shell_lines.specs.Requests.{opens_block, request_of_command};
@@ -30,7 +30,7 @@ impl DebugSession {
     ghost use Rattle.debug_tables.specs.run_meter.Session.{script_state};
     ghost use Rattle.debug_tables.specs.run_meter.State.{IsAnswered};
     ghost use Rattle.image_loader.specs.Entries.{Entry};
-    ghost use Rattle.debug_session.specs.DebugScript.{plain_line_told, script_line_told_by, told_or_refused};
+    ghost use Rattle.debug_session.specs.DebugScript.{plain_line_answer, script_line_answer_by, answer_or_refused};
     ghost use Rattle.debug_session.specs.DebugState.{IsDebugged};
     ghost use Rattle.debug_session.specs.Session.{debug_state};
 
@@ -42,9 +42,9 @@ impl DebugSession {
         command: &ScriptCommand<'_>,
         script: &mut Lines,
     ) -> Result<(), RunError>
-        ensures told { OnOk result (IsDebugged (W.contents sink.old) (W.contents sink.new)
+        ensures reported { OnOk result (IsDebugged (W.contents sink.old) (W.contents sink.new)
             (debug_state self.new images.new)
-            (plain_line_told self.old.setting (debug_state self.old images.old) script.old.number
+            (plain_line_answer self.old.setting (debug_state self.old images.old) script.old.number
             (request_of_command command.now) (block_lines script.old.left))) }
         ensures left { OnOk result (script.new.left
             ≡ lines_after (opens_block (request_of_command command.now)) script.old.left) }
@@ -69,9 +69,9 @@ impl DebugSession {
         script: &mut Lines,
     ) -> Result<(), RunError>
         requires { opens_block (request_of_command command.now) ≡ false }
-        ensures told { OnOk result (IsDebugged (W.contents sink.old) (W.contents sink.new)
+        ensures reported { OnOk result (IsDebugged (W.contents sink.old) (W.contents sink.new)
             (debug_state self.new images.new)
-            (plain_line_told self.old.setting (debug_state self.old images.old) script.old.number
+            (plain_line_answer self.old.setting (debug_state self.old images.old) script.old.number
             (request_of_command command.now) (block_lines script.old.left))) }
         ensures left { OnOk result (script.new.left
             ≡ lines_after (opens_block (request_of_command command.now)) script.old.left) }
@@ -86,7 +86,7 @@ impl DebugSession {
             self.note(takes_steps(command), text)?;
             push_line_answer(sink, self.setting.form, takes_steps(command), text)?;
         }
-        self.spare = answer;
+        self.scratch = answer;
         Ok(())
     }
 
@@ -100,10 +100,10 @@ impl DebugSession {
         script: &mut Lines,
         named: &Lines,
     ) -> Result<(), RunError>
-        ensures told { OnOk result (IsDebugged (W.contents sink.old) (W.contents sink.new)
+        ensures reported { OnOk result (IsDebugged (W.contents sink.old) (W.contents sink.new)
             (debug_state self.new images.new)
-            (script_line_told_by self.old.setting (debug_state self.old images.old) named.now.number
-            (request_of_command command.now) (request_told (script_with_budget
+            (script_line_answer_by self.old.setting (debug_state self.old images.old) named.now.number
+            (request_of_command command.now) (request_answer (script_with_budget
             (debug_state self.old images.old).script self.old.setting.budget) script.old.number
             (request_of_command command.now) (block_lines script.old.left))
             (block_lines named.now.left))) }
@@ -125,8 +125,8 @@ impl DebugSession {
         self.take_labels(images, command, named, is_refused)?;
         let explained = with_errors(self.alloc, is_refused, command, named, text)?;
         let shown = explained.as_slice();
-        self.tell(sink, named.number(), is_refused, shown)?;
-        self.spare = answer;
+        self.print(sink, named.number(), is_refused, shown)?;
+        self.scratch = answer;
         Ok(())
     }
 
@@ -137,9 +137,9 @@ impl DebugSession {
         command: &ScriptCommand<'_>,
         script: &mut Lines,
     ) -> Result<Vec<u8>, RunError>
-        ensures told { IfOk result (λ answer. IsAnswered (Some []) (Some answer.items)
+        ensures reported { IfOk result (λ answer. IsAnswered (Some []) (Some answer.items)
             (script_state self.new.session images.new)
-            (request_told (script_with_budget (script_state self.old.session images.old)
+            (request_answer (script_with_budget (script_state self.old.session images.old)
             self.old.setting.budget) script.old.number (request_of_command command.now)
             (block_lines script.old.left))) }
         ensures left { OnOk result (script.new.left
@@ -148,12 +148,12 @@ impl DebugSession {
             + lines_taken (opens_block (request_of_command command.now)) script.old.left) }
         ensures rest { self.new ≡ record self.old {
           session = self.new.session;
-          spare = self.new.spare;
+          scratch = self.new.scratch;
         } }
         ensures errors { IfErr result (λ error. error ≡ RunError.Memory) }
     {
         self.session.set_budget(self.setting.budget);
-        let memory = replace(&mut self.spare, Vec::new(self.alloc));
+        let memory = replace(&mut self.scratch, Vec::new(self.alloc));
         let mut answer = TextSink::over(memory);
         let meter = self.setting.meter;
         match answer_metered(
@@ -251,16 +251,16 @@ impl DebugSession {
     }
 
     // Writes an answer, or that of a block that is refused.
-    fn tell<W: Sink>(
+    fn print<W: Sink>(
         &mut self,
         sink: &mut W,
         number: usize,
         is_refused: bool,
         text: &[u8],
     ) -> Result<(), WriteFault>
-        ensures told { (images : List Entry) → OnOk result (IsDebugged (W.contents sink.old)
+        ensures reported { (images : List Entry) → OnOk result (IsDebugged (W.contents sink.old)
             (W.contents sink.new) (debug_state self.new images)
-            (told_or_refused self.old.setting (debug_state self.old images) number is_refused
+            (answer_or_refused self.old.setting (debug_state self.old images) number is_refused
             (debug_state self.old images) text.now)) }
         ensures setting { self.new.setting ≡ self.old.setting }
         ensures flag { OnErr result (W.has_failed sink.new ≡ true) }

@@ -16,14 +16,14 @@ use std::alloc::{AllocError, Global};
 
 /// What a debugging script is answered on.
 #[derive(Clone, Copy, Debug)]
-pub struct DebugSetting {
+pub struct DebugSettings {
     /// The sizes of its machines.
     pub config: Config,
     /// How many steps each of its lines may take.
     pub budget: u64,
     /// The form of its answers.
     pub form: ReportForm,
-    /// What RUN and STEP tell how far they are.
+    /// What RUN and STEP say how far they are.
     pub meter: RunMeter,
 }
 
@@ -31,7 +31,7 @@ pub struct DebugSetting {
 #[derive(Drop)]
 pub struct DebugSession {
     pub(crate) alloc: Global,
-    pub(crate) setting: DebugSetting,
+    pub(crate) setting: DebugSettings,
     /// The script's own session, which a face may move on by itself.
     pub session: Session,
     pub(crate) labels: LabelTable,
@@ -42,13 +42,13 @@ pub struct DebugSession {
     pub(crate) tally: CheckTally,
     pub(crate) has_quit: bool,
     /// Memory for the answer to a line, used again for that to the next.
-    pub(crate) spare: Vec<u8>,
+    pub(crate) scratch: Vec<u8>,
 }
 
 impl DebugSession {
     ghost use Rattle.debug_tables.specs.run_meter.Memory.{script_with_budget};
     ghost use Rattle.image_loader.specs.Entries.{Entry};
-    ghost use Rattle.debug_session.specs.DebugScript.{debug_lines_told};
+    ghost use Rattle.debug_session.specs.DebugScript.{debug_lines_answer};
     ghost use Rattle.debug_session.specs.DebugState.{IsDebugged, debug_start_state};
     ghost use Rattle.debug_session.specs.Failing.{ReportsWriteFault};
     ghost use Rattle.debug_modes.specs.expectations.reports.Reports.{summary_text};
@@ -60,7 +60,7 @@ impl DebugSession {
     /// # Errors
     ///
     /// Memory ran out.
-    pub fn new(alloc: Global, setting: DebugSetting) -> Result<DebugSession, AllocError>
+    pub fn new(alloc: Global, setting: DebugSettings) -> Result<DebugSession, AllocError>
         ensures state { IfOk result (λ session. (images : List Entry)
             → debug_state session images ≡ debug_start_state setting images) }
         ensures setting { IfOk result (λ session. session.setting ≡ setting) }
@@ -76,7 +76,7 @@ impl DebugSession {
             steps: 0,
             tally: CheckTally::new(),
             has_quit: false,
-            spare: Vec::new(alloc),
+            scratch: Vec::new(alloc),
         })
     }
 
@@ -96,7 +96,7 @@ impl DebugSession {
 
     /// Lines are answered again, where QUIT was among those before.
     pub fn go_on(&mut self)
-        ensures told { (images : List Entry) → debug_state self.new images
+        ensures reported { (images : List Entry) → debug_state self.new images
             ≡ record (debug_state self.old images) { has_quit = false } }
         ensures setting { self.new.setting ≡ self.old.setting }
     {
@@ -105,7 +105,7 @@ impl DebugSession {
 
     /// The steps that come next may take the whole budget.
     pub fn renew_budget(&mut self)
-        ensures told { (images : List Entry) → debug_state self.new images
+        ensures reported { (images : List Entry) → debug_state self.new images
             ≡ record (debug_state self.old images) {
               script = script_with_budget (debug_state self.old images).script self.old.setting.budget;
             } }
@@ -129,7 +129,7 @@ impl DebugSession {
     }
 
     /// Writes what stands after the last line.
-    pub fn tell_summary<W: Sink>(&self, sink: &mut W) -> Result<(), WriteFault>
+    pub fn print_summary<W: Sink>(&self, sink: &mut W) -> Result<(), WriteFault>
         ensures { (images : List Entry) → Writes W.contents W.has_failed sink.old sink.new result
             (summary_text self.now.setting.form (debug_state self.now images).tally) }
     {
@@ -147,16 +147,16 @@ impl DebugSession {
         sink: &mut W,
         script: &mut Lines,
     ) -> Result<(), RunError>
-        ensures told { OnOk result (IsDebugged (W.contents sink.old) (W.contents sink.new)
+        ensures reported { OnOk result (IsDebugged (W.contents sink.old) (W.contents sink.new)
             (debug_state self.new images.new)
-            (debug_lines_told self.old.setting script.old.number (debug_state self.old images.old)
+            (debug_lines_answer self.old.setting script.old.number (debug_state self.old images.old)
             script.old.left)) }
         ensures counted { OnOk result (script.new.number + length script.new.left
             ≡ script.old.number + length script.old.left) }
         ensures setting { self.new.setting ≡ self.old.setting }
         ensures memory { result ≡ Err RunError.Memory
             → AddsFront (W.contents sink.old) (W.contents sink.new)
-            (debug_lines_told self.old.setting script.old.number (debug_state self.old images.old)
+            (debug_lines_answer self.old.setting script.old.number (debug_state self.old images.old)
             script.old.left).text }
         ensures write_fault { ReportsWriteFault W.has_failed sink.old sink.new result }
         ensures errors { IfErr result IsLineError }

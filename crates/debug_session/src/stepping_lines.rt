@@ -18,7 +18,7 @@ use profile::{Sink, WriteFault};
 
 impl DebugSession {
     ghost use Rattle.image_loader.specs.Entries.{Entry};
-    ghost use Rattle.debug_session.specs.DebugScript.{counts_told, mode_line_told, script_line_told, stepping_line_told, stepping_now, stepping_told_by};
+    ghost use Rattle.debug_session.specs.DebugScript.{counts_answer, mode_line_answer, script_line_answer, stepping_line_answer, stepping_now, stepping_answer_by};
     ghost use Rattle.debug_session.specs.DebugState.{IsDebugged};
     ghost use Rattle.debug_session.specs.Session.{debug_state};
 
@@ -30,9 +30,9 @@ impl DebugSession {
         command: &ScriptCommand<'_>,
         script: &mut Lines,
     ) -> Result<(), RunError>
-        ensures told { OnOk result (IsDebugged (W.contents sink.old) (W.contents sink.new)
+        ensures reported { OnOk result (IsDebugged (W.contents sink.old) (W.contents sink.new)
             (debug_state self.new images.new)
-            (script_line_told self.old.setting (debug_state self.old images.old) script.old.number
+            (script_line_answer self.old.setting (debug_state self.old images.old) script.old.number
             (request_of_command command.now) (block_lines script.old.left))) }
         ensures left { OnOk result (script.new.left
             ≡ lines_after (opens_block (request_of_command command.now)) script.old.left) }
@@ -67,15 +67,15 @@ impl DebugSession {
         is_traced: bool,
         command: &SteppingCommand<'_>,
     ) -> Result<(), RunError>
-        ensures told { OnOk result (IsDebugged (W.contents sink.old) (W.contents sink.new)
+        ensures reported { OnOk result (IsDebugged (W.contents sink.old) (W.contents sink.new)
             (debug_state self.new images.now)
-            (stepping_line_told self.old.setting (debug_state self.old images.now) is_traced
+            (stepping_line_answer self.old.setting (debug_state self.old images.now) is_traced
             (stepping_request_of command.now))) }
         ensures setting { self.new.setting ≡ self.old.setting }
         ensures ends { EndsAtOnce W.has_failed sink.old sink.new result }
     {
         self.session.set_budget(self.setting.budget);
-        let told = self.modes.answer(
+        let reported = self.modes.answer(
             self.alloc,
             &mut self.session,
             images,
@@ -83,21 +83,21 @@ impl DebugSession {
             is_traced,
             command,
         )?;
-        Ok(self.tell_steps(sink, told.text, told.printed, told.ending)?)
+        Ok(self.print_steps(sink, reported.text, reported.printed, reported.ending)?)
     }
 
     // Writes what a line that took steps left to write, and keeps it for the lines that expect
     // something.
-    fn tell_steps<W: Sink>(
+    fn print_steps<W: Sink>(
         &mut self,
         sink: &mut W,
         text: Vec<u8>,
         printed: Vec<u8>,
         ending: Vec<u8>,
     ) -> Result<(), WriteFault>
-        ensures told { (images : List Entry) → OnOk result
+        ensures reported { (images : List Entry) → OnOk result
             (IsDebugged (W.contents sink.old) (W.contents sink.new) (debug_state self.new images)
-            (stepping_told_by self.old.setting (debug_state self.old images)
+            (stepping_answer_by self.old.setting (debug_state self.old images)
             (debug_state self.old images).script text.items printed.items ending.items)) }
         ensures setting { self.new.setting ≡ self.old.setting }
         ensures flag { OnErr result (W.has_failed sink.new ≡ true) }
@@ -114,9 +114,9 @@ impl DebugSession {
 
     /// Shows how often the steps of the words of the image of that name were taken, where it stands now.
     pub(crate) fn counts<W: Sink>(&mut self, sink: &mut W, name: &[u8]) -> Result<(), RunError>
-        ensures told { (images : List Entry) → OnOk result
+        ensures reported { (images : List Entry) → OnOk result
             (IsDebugged (W.contents sink.old) (W.contents sink.new) (debug_state self.new images)
-            (counts_told self.old.setting (debug_state self.old images) name.now)) }
+            (counts_answer self.old.setting (debug_state self.old images) name.now)) }
         ensures setting { self.new.setting ≡ self.old.setting }
         ensures ends { EndsAtOnce W.has_failed sink.old sink.new result }
     {
@@ -127,15 +127,15 @@ impl DebugSession {
         Ok(self.view(sink, text)?)
     }
 
-    /// Changes the modes, and tells what has become of them.
+    /// Changes the modes, and says what has become of them.
     pub(crate) fn mode_line<W: Sink>(
         &mut self,
         sink: &mut W,
         command: &ModeCommand,
     ) -> Result<(), RunError>
-        ensures told { (images : List Entry) → OnOk result
+        ensures reported { (images : List Entry) → OnOk result
             (IsDebugged (W.contents sink.old) (W.contents sink.new) (debug_state self.new images)
-            (mode_line_told self.old.setting (debug_state self.old images) (mode_request_of command.now))) }
+            (mode_line_answer self.old.setting (debug_state self.old images) (mode_request_of command.now))) }
         ensures setting { self.new.setting ≡ self.old.setting }
         ensures ends { EndsAtOnce W.has_failed sink.old sink.new result }
     {

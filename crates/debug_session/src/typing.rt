@@ -9,7 +9,7 @@ ghost use Rattle.debug_session.specs.DebugState.{IsDebugTypingError};
 ghost use Rattle.debug_tables.specs.run_meter.Error.{IsLineError};
 ghost use Rattle.profile.specs.Output.{AddsFront};
 
-use crate::session::{DebugSession, DebugSetting};
+use crate::session::{DebugSession, DebugSettings};
 use debug_lines::{missing_ends, read_requests};
 use debug_tables::run_meter::RunError;
 use image_loader::Images;
@@ -53,7 +53,7 @@ impl TypedPiece {
 
 impl DebugTyping {
     ghost use Rattle.image_loader.specs.Entries.{Entry};
-    ghost use Rattle.debug_session.specs.DebugScript.{debug_lines_told};
+    ghost use Rattle.debug_session.specs.DebugScript.{debug_lines_answer};
     ghost use Rattle.debug_session.specs.DebugState.{IsDebugged, debug_start_state};
     ghost use Rattle.debug_session.specs.Failing.{HasTooLong, IsTakenInPart, ReportsWriteFault};
     ghost use Rattle.debug_session.specs.Session.{debug_state};
@@ -65,7 +65,7 @@ impl DebugTyping {
     /// # Errors
     ///
     /// Memory ran out.
-    pub fn new(alloc: Global, setting: DebugSetting) -> Result<DebugTyping, AllocError>
+    pub fn new(alloc: Global, setting: DebugSettings) -> Result<DebugTyping, AllocError>
         ensures state { IfOk result (λ typing. (images : List Entry)
             → debug_state typing.session images ≡ debug_start_state setting images) }
         ensures setting { IfOk result (λ typing. typing.session.setting ≡ setting) }
@@ -210,13 +210,13 @@ impl DebugTyping {
     ///
     /// `Memory` and `WriteFault`, when a part of the answer may stand written.
     pub fn end<W: Sink>(self, images: &mut Images, sink: &mut W) -> Result<DebugSession, RunError>
-        ensures told { IfOk result (λ session. IsDebugged (W.contents sink.old) (W.contents sink.new)
+        ensures reported { IfOk result (λ session. IsDebugged (W.contents sink.old) (W.contents sink.new)
             (debug_state session images.new)
-            (debug_lines_told self.session.setting self.number (debug_state self.session images.old)
+            (debug_lines_answer self.session.setting self.number (debug_state self.session images.old)
             (lines self.pending.items))) }
         ensures setting { IfOk result (λ session. session.setting ≡ self.session.setting) }
         ensures memory { result ≡ Err RunError.Memory → AddsFront (W.contents sink.old) (W.contents sink.new)
-            (debug_lines_told self.session.setting self.number (debug_state self.session images.old)
+            (debug_lines_answer self.session.setting self.number (debug_state self.session images.old)
             (lines self.pending.items)).text }
         ensures write_fault { ReportsWriteFault W.has_failed sink.old sink.new result }
         ensures errors { IfErr result IsLineError }

@@ -7,13 +7,13 @@ use Rattle.debug_session.proofs.LineLemmas.{line_as_script, opens_as_script}
 use Rattle.debug_session.proofs.FailLemmas.{front_start, unwritten}
 use Rattle.debug_session.proofs.session.DebugSession.answer_line.Goals as goal
 
-pub returns-then-is_script_command-clause-told : goal.returns-then-is_script_command-clause-told
-returns-then-is_script_command-clause-told g c =
+pub returns-then-is_script_command-clause-reported : goal.returns-then-is_script_command-clause-reported
+returns-then-is_script_command-clause-reported g c =
     let read = c.command_of-command.ensures in
     line_as_script c.script_line.result (g.W.Sink.contents c.args.sink.now) (g.W.Sink.contents c.script_line.new.sink)
     (debug_state c.script_line.new.self c.script_line.new.images) (debug_state c.args.self.now c.args.images.now)
     c.args.self.now.setting c.args.script.now.number c.args.line.now (block_lines c.args.script.now.left) _ read
-    (sym c.is_script_command.ensures ∙ c.if-is_script_command.true) c.script_line.ensures.told
+    (sym c.is_script_command.ensures ∙ c.if-is_script_command.true) c.script_line.ensures.reported
 
 pub returns-then-is_script_command-clause-left : goal.returns-then-is_script_command-clause-left
 returns-then-is_script_command-clause-left g c =

@@ -1,16 +1,16 @@
 use Rattle.std.proofs.Common.{◌+◌, ◌∙◌, ap, length, refl, rules, sym}
 use Rattle.command_shell_lines.specs.Blocks.{block_lines, lines_after, lines_taken}
 use Rattle.profile.specs.text_lines.Lines.{ReadingPlace}
-use Rattle.debug_session.specs.DebugScript.{debug_line_told, debug_lines_told, line_opens}
+use Rattle.debug_session.specs.DebugScript.{debug_line_answer, debug_lines_answer, line_opens}
 use Rattle.debug_session.specs.DebugState.{DebugAnswered}
 use Rattle.debug_session.specs.Session.{debug_state}
 use Rattle.profile.proofs.OutputLemmas.{AddsAllBut-more, Appends-from_all_but}
 use Rattle.debug_session.proofs.FailLemmas.{front_then}
-use Rattle.debug_session.proofs.LineLemmas.{fewer, lines_counted, none_left, none_told, step_state, step_text}
+use Rattle.debug_session.proofs.LineLemmas.{fewer, lines_counted, none_left, none_answer, step_state, step_text}
 use Rattle.debug_session.proofs.session.DebugSession.answer_lines.Goals as goal
 
-pub returns-in_default-clause-told : goal.returns-in_default-clause-told
-returns-in_default-clause-told g c =
+pub returns-in_default-clause-reported : goal.returns-in_default-clause-reported
+returns-in_default-clause-reported g c =
     let now = debug_state c.loop-self.self c.loop-self.images in
     let none = none_left c.args.self.now.setting c.loop-self.script.number now c.loop-self.script.left c.in_default.ensures.line in
     record {
@@ -41,18 +41,18 @@ loop-self-preserved g c =
     let left = c.answer_line.new.script.left in
     let setting = c.args.self.now.setting in
     let own = c.loop-self.self.setting in
-    let told = c.in_ok-answer_line.ensures.told in
-    let first = debug_line_told own before here line (block_lines rest) in
+    let reported = c.in_ok-answer_line.ensures.reported in
+    let first = debug_line_answer own before here line (block_lines rest) in
     let text = step_text setting own number here next before after line all rest left c.loop-self-test.true
-    (sym c.loop-self.invariant.setting) c.in-Some.ensures.line c.in-Some.ensures.number told.state
+    (sym c.loop-self.invariant.setting) c.in-Some.ensures.line c.in-Some.ensures.number reported.state
     c.in_ok-answer_line.ensures.number c.in_ok-answer_line.ensures.left in
     let state = step_state setting own number here next before after line all rest left c.loop-self-test.true
-    (sym c.loop-self.invariant.setting) c.in-Some.ensures.line c.in-Some.ensures.number told.state
+    (sym c.loop-self.invariant.setting) c.in-Some.ensures.line c.in-Some.ensures.number reported.state
     c.in_ok-answer_line.ensures.number c.in_ok-answer_line.ensures.left in
     record {
       text = AddsAllBut-more (g.W.Sink.contents c.args.sink.now) (g.W.Sink.contents c.loop-self.sink)
-          (g.W.Sink.contents c.answer_line.new.sink) (debug_lines_told setting number before all).text first.text
-          (debug_lines_told setting next after left).text _ c.loop-self.invariant.text told.text text;
+          (g.W.Sink.contents c.answer_line.new.sink) (debug_lines_answer setting number before all).text first.text
+          (debug_lines_answer setting next after left).text _ c.loop-self.invariant.text reported.text text;
       state = sym state ∙ c.loop-self.invariant.state;
       counted = lines_counted number here next _ line all rest left (line_opens line) c.loop-self.invariant.counted
           c.in-Some.ensures.line c.in-Some.ensures.number c.in_ok-answer_line.ensures.number
@@ -61,11 +61,11 @@ loop-self-preserved g c =
       same_flag = c.in_ok-answer_line.ensures.same_flag ∙ c.loop-self.invariant.same_flag;
     }
 
-pub returns-clause-told : goal.returns-clause-told
-returns-clause-told g c =
+pub returns-clause-reported : goal.returns-clause-reported
+returns-clause-reported g c =
     let left = c.loop-self.script.left in
     let now = debug_state c.loop-self.self c.loop-self.images in
-    let quit = none_told (length left) c.args.self.now.setting c.loop-self.script.number now left c.loop-self-test.false in
+    let quit = none_answer (length left) c.args.self.now.setting c.loop-self.script.number now left c.loop-self-test.false in
     record {
       text = Appends-from_all_but (g.W.Sink.contents c.args.sink.now) (g.W.Sink.contents c.loop-self.sink) _ _
           c.loop-self.invariant.text (ap (λ (a : DebugAnswered). a.text) quit);
@@ -82,7 +82,7 @@ returns-in_err-answer_line-clause-memory g c = λ is.
     let rest = c.next_line.new.self.left in
     let setting = c.args.self.now.setting in
     let own = c.loop-self.self.setting in
-    let first = debug_line_told own before here line (block_lines rest) in
+    let first = debug_line_answer own before here line (block_lines rest) in
     front_then (g.W.Sink.contents c.args.sink.now) (g.W.Sink.contents c.loop-self.sink) (g.W.Sink.contents c.answer_line.new.sink)
     _ first.text _ _ c.loop-self.invariant.text
     (step_text setting own number here (here + lines_taken (line_opens line) rest) before first.state line all rest

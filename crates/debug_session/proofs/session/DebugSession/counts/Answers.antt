@@ -1,15 +1,15 @@
 use Rattle.std.proofs.Common.{◌∙◌, ap}
 use Rattle.debug_modes.specs.Counting.{counts_text}
-use Rattle.debug_modes.specs.Telling.{naming_in}
+use Rattle.debug_modes.specs.TraceWriter.{naming_in}
 use Rattle.debug_tables.specs.run_meter.Value.{MachineValue}
-use Rattle.debug_tables.specs.run_meter.Parts.{state_of}
+use Rattle.debug_tables.specs.run_meter.GuestState.{state_of}
 use Rattle.debug_session.specs.Session.{debug_state}
 use Rattle.debug_session.proofs.OwnLemmas.{view_of_text}
 use Rattle.debug_session.proofs.session.DebugSession.counts.Goals as goal
 
-pub returns-clause-told : goal.returns-clause-told
-returns-clause-told g c images =
+pub returns-clause-reported : goal.returns-clause-reported
+returns-clause-reported g c images =
     let old = c.args.self.now in
     let shown = λ (m : MachineValue). counts_text old.modes.counts (naming_in old.labels (state_of m.guest)) (state_of m.guest).store.bytes c.args.name.now in
     view_of_text _ _ _ (debug_state old images) old.setting c.in_ok-text.text.items _
-    (c.in_ok-text.ensures ∙ ap shown c.machine-machine.ensures) (c.in_ok-view.ensures.told images)
+    (c.in_ok-text.ensures ∙ ap shown c.machine-machine.ensures) (c.in_ok-view.ensures.reported images)

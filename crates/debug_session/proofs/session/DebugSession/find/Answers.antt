@@ -1,14 +1,14 @@
 use Rattle.std.proofs.Common.{◌∙◌, ap}
 use Rattle.debug_tables.specs.run_meter.Value.{MachineValue}
-use Rattle.debug_tables.specs.run_meter.Parts.{state_of}
+use Rattle.debug_tables.specs.run_meter.GuestState.{state_of}
 use Rattle.command_shell_lines.specs.debug_words.NamedBytes.{named_bytes, or_no_bytes}
 use Rattle.debug_tables.specs.byte_writes.Find.{find_text}
 use Rattle.debug_session.specs.Session.{debug_state}
 use Rattle.debug_session.proofs.OwnLemmas.{view_of_text}
 use Rattle.debug_session.proofs.session.DebugSession.find.Goals as goal
 
-pub returns-clause-told : goal.returns-clause-told
-returns-clause-told g c images =
+pub returns-clause-reported : goal.returns-clause-reported
+returns-clause-reported g c images =
     view_of_text _ _ _ (debug_state c.args.self.now images) c.args.self.now.setting c.in_ok-text.text.items _
     (c.in_ok-text.ensures ∙ ap (λ (m : MachineValue). find_text (state_of m.guest).store.bytes c.args.address c.args.count
-    (or_no_bytes (named_bytes c.args.named.now))) c.machine-machine.ensures) (c.in_ok-view.ensures.told images)
+    (or_no_bytes (named_bytes c.args.named.now))) c.machine-machine.ensures) (c.in_ok-view.ensures.reported images)

@@ -5,8 +5,8 @@ use Rattle.debug_session.specs.declared.session.DebugSession.{DebugSession}
 use Rattle.debug_session.proofs.OwnLemmas.{view_after, without_image}
 use Rattle.debug_session.proofs.session.DebugSession.forget.Goals as goal
 
-pub returns-clause-told : goal.returns-clause-told
-returns-clause-told g c =
+pub returns-clause-reported : goal.returns-clause-reported
+returns-clause-reported g c =
     let after = c.remove-was_there.new.self in
     let old = c.args.self.now in
     let gone : DebugSession = record old { labels = c.remove.new.self } in
@@ -14,4 +14,4 @@ returns-clause-told g c =
     c.in_ok-text.text.items _ refl
     (without_image (debug_state old c.args.images.now) _ after c.remove.new.self _ c.remove-was_there.ensures.left c.remove.ensures)
     (c.in_ok-text.ensures ∙ ap (λ (b : Bool). forget_text b c.args.name.now) c.has_image-is_there.ensures)
-    (c.in_ok-view.ensures.told after)
+    (c.in_ok-view.ensures.reported after)

@@ -1,22 +1,22 @@
--- Each request is told as its own call tells it.
+-- Each request is shown as its own call shows it.
 use Rattle.std.proofs.Common.{◌≡◌, ◌+◌, ap, subst, sym, ℕ}
 use Rattle.std.specs.Prelude.{OnOk}
 use Rattle.debug_tables.specs.run_meter.Memory.{script_with_status}
 use Rattle.command_shell_lines.specs.Blocks.{block_lines, lines_after, lines_taken}
 use Rattle.debug_modes.specs.expectations.Checks.{status_after_pattern}
 use Rattle.debug_lines.specs.DebugRequests.{DebugRequest, debug_opens_block, debug_request_of_command}
-use Rattle.debug_session.specs.DebugScript.{unknown_told}
+use Rattle.debug_session.specs.DebugScript.{unknown_answer}
 use Rattle.debug_session.specs.DebugState.{IsDebugged}
 use Rattle.debug_session.specs.Session.{debug_state}
-use Rattle.debug_session.proofs.OwnLemmas.{asked, asked_if, changed_quietly, checked_by}
+use Rattle.debug_session.proofs.OwnLemmas.{asked, asked_if, changed_silently, checked_by}
 use Rattle.debug_session.proofs.session.DebugSession.known_line.Goals as goal
 
-pub returns-in-Script-clause-told : goal.returns-in-Script-clause-told
-returns-in-Script-clause-told g c =
+pub returns-in-Script-clause-reported : goal.returns-in-Script-clause-reported
+returns-in-Script-clause-reported g c =
     asked_if c.script_line.result (g.W.Sink.contents c.args.sink.now) (g.W.Sink.contents c.script_line.new.sink)
     (debug_state c.script_line.new.self c.script_line.new.images) (debug_state c.args.self.now c.args.images.now)
     c.args.self.now.setting c.args.script.now.number c.args.words.now (block_lines c.args.script.now.left) _
-    (debug_request_of_command c.args.command) (sym (ap debug_request_of_command c.in-Script.is)) c.script_line.ensures.told
+    (debug_request_of_command c.args.command) (sym (ap debug_request_of_command c.in-Script.is)) c.script_line.ensures.reported
 
 pub returns-in-Script-clause-left : goal.returns-in-Script-clause-left
 returns-in-Script-clause-left g c =
@@ -30,111 +30,111 @@ returns-in-Script-clause-number g c =
     (c.script_line.new.script.number ≡ c.args.script.now.number + lines_taken (debug_opens_block q) c.args.script.now.left))
     (sym (ap debug_request_of_command c.in-Script.is)) c.script_line.ensures.number
 
-pub returns-in-View-clause-told : goal.returns-in-View-clause-told
-returns-in-View-clause-told g c =
+pub returns-in-View-clause-reported : goal.returns-in-View-clause-reported
+returns-in-View-clause-reported g c =
     asked_if c.look.result (g.W.Sink.contents c.args.sink.now) (g.W.Sink.contents c.look.new.sink)
     (debug_state c.look.new.self c.args.images.now) (debug_state c.args.self.now c.args.images.now)
     c.args.self.now.setting c.args.script.now.number c.args.words.now (block_lines c.args.script.now.left) _
-    (debug_request_of_command c.args.command) (sym (ap debug_request_of_command c.in-View.is)) (c.look.ensures.told c.args.images.now)
+    (debug_request_of_command c.args.command) (sym (ap debug_request_of_command c.in-View.is)) (c.look.ensures.reported c.args.images.now)
 
-pub returns-in-Form-clause-told : goal.returns-in-Form-clause-told
-returns-in-Form-clause-told g c =
+pub returns-in-Form-clause-reported : goal.returns-in-Form-clause-reported
+returns-in-Form-clause-reported g c =
     asked_if c.show_form.result (g.W.Sink.contents c.args.sink.now) (g.W.Sink.contents c.show_form.new.sink)
     (debug_state c.show_form.new.self c.args.images.now) (debug_state c.args.self.now c.args.images.now)
     c.args.self.now.setting c.args.script.now.number c.args.words.now (block_lines c.args.script.now.left) _
-    (debug_request_of_command c.args.command) (sym (ap debug_request_of_command c.in-Form.is)) (c.show_form.ensures.told c.args.images.now)
+    (debug_request_of_command c.args.command) (sym (ap debug_request_of_command c.in-Form.is)) (c.show_form.ensures.reported c.args.images.now)
 
-pub returns-in-Forget-clause-told : goal.returns-in-Forget-clause-told
-returns-in-Forget-clause-told g c =
+pub returns-in-Forget-clause-reported : goal.returns-in-Forget-clause-reported
+returns-in-Forget-clause-reported g c =
     asked_if c.forget.result (g.W.Sink.contents c.args.sink.now) (g.W.Sink.contents c.forget.new.sink)
     (debug_state c.forget.new.self c.forget.new.images) (debug_state c.args.self.now c.args.images.now)
     c.args.self.now.setting c.args.script.now.number c.args.words.now (block_lines c.args.script.now.left) _
-    (debug_request_of_command c.args.command) (sym (ap debug_request_of_command c.in-Forget.is)) c.forget.ensures.told
+    (debug_request_of_command c.args.command) (sym (ap debug_request_of_command c.in-Forget.is)) c.forget.ensures.reported
 
-pub returns-in-Counts-clause-told : goal.returns-in-Counts-clause-told
-returns-in-Counts-clause-told g c =
+pub returns-in-Counts-clause-reported : goal.returns-in-Counts-clause-reported
+returns-in-Counts-clause-reported g c =
     asked_if c.counts.result (g.W.Sink.contents c.args.sink.now) (g.W.Sink.contents c.counts.new.sink)
     (debug_state c.counts.new.self c.args.images.now) (debug_state c.args.self.now c.args.images.now)
     c.args.self.now.setting c.args.script.now.number c.args.words.now (block_lines c.args.script.now.left) _
-    (debug_request_of_command c.args.command) (sym (ap debug_request_of_command c.in-Counts.is)) (c.counts.ensures.told c.args.images.now)
+    (debug_request_of_command c.args.command) (sym (ap debug_request_of_command c.in-Counts.is)) (c.counts.ensures.reported c.args.images.now)
 
-pub returns-in-SetPc-clause-told : goal.returns-in-SetPc-clause-told
-returns-in-SetPc-clause-told g c =
+pub returns-in-SetPc-clause-reported : goal.returns-in-SetPc-clause-reported
+returns-in-SetPc-clause-reported g c =
     asked_if c.move_pc.result (g.W.Sink.contents c.args.sink.now) (g.W.Sink.contents c.move_pc.new.sink)
     (debug_state c.move_pc.new.self c.args.images.now) (debug_state c.args.self.now c.args.images.now)
     c.args.self.now.setting c.args.script.now.number c.args.words.now (block_lines c.args.script.now.left) _
-    (debug_request_of_command c.args.command) (sym (ap debug_request_of_command c.in-SetPc.is)) (c.move_pc.ensures.told c.args.images.now)
+    (debug_request_of_command c.args.command) (sym (ap debug_request_of_command c.in-SetPc.is)) (c.move_pc.ensures.reported c.args.images.now)
 
-pub returns-in-SetPsr-clause-told : goal.returns-in-SetPsr-clause-told
-returns-in-SetPsr-clause-told g c =
+pub returns-in-SetPsr-clause-reported : goal.returns-in-SetPsr-clause-reported
+returns-in-SetPsr-clause-reported g c =
     asked (g.W.Sink.contents c.args.sink.now) (g.W.Sink.contents c.args.sink.now)
     (debug_state c.set_psr.new.self c.args.images.now) (debug_state c.args.self.now c.args.images.now)
     c.args.self.now.setting c.args.script.now.number c.args.words.now (block_lines c.args.script.now.left) _
     (debug_request_of_command c.args.command) (sym (ap debug_request_of_command c.in-SetPsr.is))
-    (changed_quietly _ _ (debug_state c.args.self.now c.args.images.now)
+    (changed_silently _ _ (debug_state c.args.self.now c.args.images.now)
     (script_with_status (debug_state c.args.self.now c.args.images.now).script (status_after_pattern c.in-SetPsr.pattern
     (debug_state c.args.self.now c.args.images.now).script.machine.cpu.psr))
-    (c.set_psr.ensures.told c.args.images.now))
+    (c.set_psr.ensures.reported c.args.images.now))
 
-pub returns-in-Reset-clause-told : goal.returns-in-Reset-clause-told
-returns-in-Reset-clause-told g c =
+pub returns-in-Reset-clause-reported : goal.returns-in-Reset-clause-reported
+returns-in-Reset-clause-reported g c =
     asked_if c.reset.result (g.W.Sink.contents c.args.sink.now) (g.W.Sink.contents c.reset.new.sink)
     (debug_state c.reset.new.self c.args.images.now) (debug_state c.args.self.now c.args.images.now)
     c.args.self.now.setting c.args.script.now.number c.args.words.now (block_lines c.args.script.now.left) _
-    (debug_request_of_command c.args.command) (sym (ap debug_request_of_command c.in-Reset.is)) (c.reset.ensures.told c.args.images.now)
+    (debug_request_of_command c.args.command) (sym (ap debug_request_of_command c.in-Reset.is)) (c.reset.ensures.reported c.args.images.now)
 
-pub returns-in_ok-reason-in-Expect-clause-told : goal.returns-in_ok-reason-in-Expect-clause-told
-returns-in_ok-reason-in-Expect-clause-told g c =
-    asked_if c.tell_check.result (g.W.Sink.contents c.args.sink.now) (g.W.Sink.contents c.tell_check.new.sink)
-    (debug_state c.tell_check.new.self c.args.images.now) (debug_state c.args.self.now c.args.images.now)
+pub returns-in_ok-reason-in-Expect-clause-reported : goal.returns-in_ok-reason-in-Expect-clause-reported
+returns-in_ok-reason-in-Expect-clause-reported g c =
+    asked_if c.print_check.result (g.W.Sink.contents c.args.sink.now) (g.W.Sink.contents c.print_check.new.sink)
+    (debug_state c.print_check.new.self c.args.images.now) (debug_state c.args.self.now c.args.images.now)
     c.args.self.now.setting c.args.script.now.number c.args.words.now (block_lines c.args.script.now.left) _
     (debug_request_of_command c.args.command) (sym (ap debug_request_of_command c.in-Expect.is))
-    (checked_by c.tell_check.result _ _ _ (debug_state c.args.self.now c.args.images.now) c.args.self.now.setting
+    (checked_by c.print_check.result _ _ _ (debug_state c.args.self.now c.args.images.now) c.args.self.now.setting
     c.number.result c.args.script.now.number c.args.words.now _ _ c.number.ensures
-    (c.in_ok-reason-in-Expect.ensures c.args.images.now) (c.tell_check.ensures.told c.args.images.now))
+    (c.in_ok-reason-in-Expect.ensures c.args.images.now) (c.print_check.ensures.reported c.args.images.now))
 
-pub returns-in-Stepping-clause-told : goal.returns-in-Stepping-clause-told
-returns-in-Stepping-clause-told g c =
+pub returns-in-Stepping-clause-reported : goal.returns-in-Stepping-clause-reported
+returns-in-Stepping-clause-reported g c =
     asked_if c.stepping_line.result (g.W.Sink.contents c.args.sink.now) (g.W.Sink.contents c.stepping_line.new.sink)
     (debug_state c.stepping_line.new.self c.args.images.now) (debug_state c.args.self.now c.args.images.now)
     c.args.self.now.setting c.args.script.now.number c.args.words.now (block_lines c.args.script.now.left) _
-    (debug_request_of_command c.args.command) (sym (ap debug_request_of_command c.in-Stepping.is)) c.stepping_line.ensures.told
+    (debug_request_of_command c.args.command) (sym (ap debug_request_of_command c.in-Stepping.is)) c.stepping_line.ensures.reported
 
-pub returns-in-Put-clause-told : goal.returns-in-Put-clause-told
-returns-in-Put-clause-told g c =
+pub returns-in-Put-clause-reported : goal.returns-in-Put-clause-reported
+returns-in-Put-clause-reported g c =
     asked_if c.put.result (g.W.Sink.contents c.args.sink.now) (g.W.Sink.contents c.put.new.sink)
     (debug_state c.put.new.self c.args.images.now) (debug_state c.args.self.now c.args.images.now)
     c.args.self.now.setting c.args.script.now.number c.args.words.now (block_lines c.args.script.now.left) _
-    (debug_request_of_command c.args.command) (sym (ap debug_request_of_command c.in-Put.is)) c.put.ensures.told
+    (debug_request_of_command c.args.command) (sym (ap debug_request_of_command c.in-Put.is)) c.put.ensures.reported
 
-pub returns-in-Write-clause-told : goal.returns-in-Write-clause-told
-returns-in-Write-clause-told g c =
+pub returns-in-Write-clause-reported : goal.returns-in-Write-clause-reported
+returns-in-Write-clause-reported g c =
     asked_if c.write.result (g.W.Sink.contents c.args.sink.now) (g.W.Sink.contents c.write.new.sink)
     (debug_state c.write.new.self c.args.images.now) (debug_state c.args.self.now c.args.images.now)
     c.args.self.now.setting c.args.script.now.number c.args.words.now (block_lines c.args.script.now.left) _
-    (debug_request_of_command c.args.command) (sym (ap debug_request_of_command c.in-Write.is)) (c.write.ensures.told c.args.images.now)
+    (debug_request_of_command c.args.command) (sym (ap debug_request_of_command c.in-Write.is)) (c.write.ensures.reported c.args.images.now)
 
-pub returns-in-Find-clause-told : goal.returns-in-Find-clause-told
-returns-in-Find-clause-told g c =
+pub returns-in-Find-clause-reported : goal.returns-in-Find-clause-reported
+returns-in-Find-clause-reported g c =
     asked_if c.find.result (g.W.Sink.contents c.args.sink.now) (g.W.Sink.contents c.find.new.sink)
     (debug_state c.find.new.self c.args.images.now) (debug_state c.args.self.now c.args.images.now)
     c.args.self.now.setting c.args.script.now.number c.args.words.now (block_lines c.args.script.now.left) _
-    (debug_request_of_command c.args.command) (sym (ap debug_request_of_command c.in-Find.is)) (c.find.ensures.told c.args.images.now)
+    (debug_request_of_command c.args.command) (sym (ap debug_request_of_command c.in-Find.is)) (c.find.ensures.reported c.args.images.now)
 
-pub returns-in-Mode-clause-told : goal.returns-in-Mode-clause-told
-returns-in-Mode-clause-told g c =
+pub returns-in-Mode-clause-reported : goal.returns-in-Mode-clause-reported
+returns-in-Mode-clause-reported g c =
     asked_if c.mode_line.result (g.W.Sink.contents c.args.sink.now) (g.W.Sink.contents c.mode_line.new.sink)
     (debug_state c.mode_line.new.self c.args.images.now) (debug_state c.args.self.now c.args.images.now)
     c.args.self.now.setting c.args.script.now.number c.args.words.now (block_lines c.args.script.now.left) _
-    (debug_request_of_command c.args.command) (sym (ap debug_request_of_command c.in-Mode.is)) (c.mode_line.ensures.told c.args.images.now)
+    (debug_request_of_command c.args.command) (sym (ap debug_request_of_command c.in-Mode.is)) (c.mode_line.ensures.reported c.args.images.now)
 
-pub returns-in-Unknown-clause-told : goal.returns-in-Unknown-clause-told
-returns-in-Unknown-clause-told g c =
+pub returns-in-Unknown-clause-reported : goal.returns-in-Unknown-clause-reported
+returns-in-Unknown-clause-reported g c =
     let d = debug_state c.args.self.now c.args.images.now in
     asked_if c.refuse.result (g.W.Sink.contents c.args.sink.now) (g.W.Sink.contents c.refuse.new.sink)
     (debug_state c.refuse.new.self c.args.images.now) d
     c.args.self.now.setting c.args.script.now.number c.args.words.now (block_lines c.args.script.now.left) _
     (debug_request_of_command c.args.command) (sym (ap debug_request_of_command c.in-Unknown.is))
     (subst (λ (n : ℕ). OnOk c.refuse.result (IsDebugged (g.W.Sink.contents c.args.sink.now) (g.W.Sink.contents c.refuse.new.sink)
-    (debug_state c.refuse.new.self c.args.images.now) (unknown_told c.args.self.now.setting d n c.args.words.now)))
-    c.number-in-Unknown.ensures (c.refuse.ensures.told c.args.images.now))
+    (debug_state c.refuse.new.self c.args.images.now) (unknown_answer c.args.self.now.setting d n c.args.words.now)))
+    c.number-in-Unknown.ensures (c.refuse.ensures.reported c.args.images.now))

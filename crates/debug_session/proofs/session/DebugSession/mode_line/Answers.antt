@@ -1,23 +1,23 @@
 use Rattle.std.proofs.Common.{◌∙◌, ap, refl}
 use Rattle.debug_lines.specs.ModeRequests.{mode_request_of}
-use Rattle.debug_modes.specs.Changes.{mode_told}
+use Rattle.debug_modes.specs.Changes.{mode_answer}
 use Rattle.debug_modes.specs.declared.modes.DebugModes.{DebugModes}
 use Rattle.debug_tables.specs.run_meter.Value.{MachineValue}
-use Rattle.debug_tables.specs.run_meter.Parts.{state_of}
+use Rattle.debug_tables.specs.run_meter.GuestState.{state_of}
 use Rattle.debug_session.specs.DebugState.{DebugState}
 use Rattle.debug_session.specs.Session.{debug_state}
 use Rattle.debug_session.specs.declared.session.DebugSession.{DebugSession}
 use Rattle.debug_session.proofs.OwnLemmas.{view_after}
 use Rattle.debug_session.proofs.session.DebugSession.mode_line.Goals as goal
 
-pub returns-clause-told : goal.returns-clause-told
-returns-clause-told g c images =
+pub returns-clause-reported : goal.returns-clause-reported
+returns-clause-reported g c images =
     let old = c.args.self.now in
     let changed : DebugSession = record old { modes = c.change.new.self } in
-    let told = c.in_ok-text.ensures.told in
-    let on = λ (m : MachineValue). mode_told (state_of m.guest) old.modes (mode_request_of c.args.command.now) in
+    let reported = c.in_ok-text.ensures.reported in
+    let on = λ (m : MachineValue). mode_answer (state_of m.guest) old.modes (mode_request_of c.args.command.now) in
     view_after _ _ _ (debug_state changed images) _ old.setting old.setting c.in_ok-text.text.items _ refl
     (ap (λ (m : DebugModes). let with_modes : DebugState = record (debug_state old images) { modes = m } in with_modes)
-    (told.state ∙ ap (λ (m : MachineValue). (on m).modes) c.machine-machine.ensures))
-    (told.answer ∙ ap (λ (m : MachineValue). (on m).text) c.machine-machine.ensures)
-    (c.in_ok-view.ensures.told images)
+    (reported.state ∙ ap (λ (m : MachineValue). (on m).modes) c.machine-machine.ensures))
+    (reported.answer ∙ ap (λ (m : MachineValue). (on m).text) c.machine-machine.ensures)
+    (c.in_ok-view.ensures.reported images)

@@ -5,20 +5,20 @@ use Rattle.debug_tables.specs.run_meter.Memory.{script_at}
 use Rattle.debug_session.specs.DebugScript.{set_pc_by}
 use Rattle.debug_session.specs.DebugState.{IsDebugged}
 use Rattle.debug_session.specs.Session.{debug_state}
-use Rattle.debug_session.proofs.OwnLemmas.{changed_quietly, view_of_text}
+use Rattle.debug_session.proofs.OwnLemmas.{changed_silently, view_of_text}
 use Rattle.debug_session.proofs.session.DebugSession.move_pc.Goals as goal
 
-pub returns-in-None-clause-told : goal.returns-in-None-clause-told
-returns-in-None-clause-told g c images =
+pub returns-in-None-clause-reported : goal.returns-in-None-clause-reported
+returns-in-None-clause-reported g c images =
     let d = debug_state c.args.self.now images in
     let held = g.W.Sink.contents c.args.sink.now in
     let now = debug_state c.set_pc.new.self images in
     subst (λ (o : Option Fault). IsDebugged held held now (set_pc_by o c.args.self.now.setting d c.args.address))
     (c.in-None.ensures images)
-    (changed_quietly held now d (script_at d.script c.args.address) (c.set_pc.ensures.told images))
+    (changed_silently held now d (script_at d.script c.args.address) (c.set_pc.ensures.reported images))
 
-pub returns-in_ok-view-in-Some-clause-told : goal.returns-in_ok-view-in-Some-clause-told
-returns-in_ok-view-in-Some-clause-told g c images =
+pub returns-in_ok-view-in-Some-clause-reported : goal.returns-in_ok-view-in-Some-clause-reported
+returns-in_ok-view-in-Some-clause-reported g c images =
     let d = debug_state c.args.self.now images in
     let before = g.W.Sink.contents c.args.sink.now in
     let after = g.W.Sink.contents c.view.new.sink in
@@ -26,4 +26,4 @@ returns-in_ok-view-in-Some-clause-told g c images =
     subst (λ (o : Option Fault). IsDebugged before after now (set_pc_by o c.args.self.now.setting d c.args.address))
     (c.in-Some.ensures images)
     (view_of_text before after now d c.args.self.now.setting c.in_ok-text-in-Some.text.items _ (c.in_ok-text-in-Some.ensures images)
-    (c.in_ok-view-in-Some.ensures.told images))
+    (c.in_ok-view-in-Some.ensures.reported images))

@@ -9,7 +9,7 @@ use Rattle.debug_labels.specs.Reasons.{form_text, reason_by_word}
 use Rattle.debug_labels.specs.Words.{Naming}
 use Rattle.debug_labels.specs.place_views.Places.{line_naming_on}
 use Rattle.debug_tables.specs.run_meter.Value.{MachineValue}
-use Rattle.debug_tables.specs.run_meter.Parts.{state_of}
+use Rattle.debug_tables.specs.run_meter.GuestState.{state_of}
 use Rattle.debug_session.specs.Session.{debug_state}
 use Rattle.debug_session.proofs.session.DebugSession.refusal_reason.Goals as goal
 

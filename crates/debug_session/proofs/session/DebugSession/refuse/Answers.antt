@@ -13,14 +13,14 @@ refused_state : (d : DebugState) (answer text : List ℕ) (tally counted : Check
     → record d { answer = answer; tally = tally } ≡ record d { answer = text; tally = counted }
 refused_state d answer text tally counted same count = rw (same, count) refl
 
-pub returns-clause-told : goal.returns-clause-told
-returns-clause-told g c images =
+pub returns-clause-reported : goal.returns-clause-reported
+returns-clause-reported g c images =
     let d = debug_state c.args.self.now images in
     let form = c.args.self.now.setting.form in
     let number = c.args.number in record {
       text = subst (λ (xs : List ℕ). Appends (g.W.Sink.contents c.args.sink.now) (g.W.Sink.contents c.push_refusal.new.sink)
           (report_of_refusal form c.args.self.now.tally number xs))
-          (c.as_slice-2.ensures.value ∙ c.in_ok-told.ensures
+          (c.as_slice-2.ensures.value ∙ c.in_ok-reported.ensures
           ∙ ap (reasoned_text number) (c.as_slice.ensures.value ∙ c.in_ok-reason.ensures images))
           c.in_ok-push_refusal.ensures.text;
       state = refused_state d c.in_ok-answer.answer.items (unknown_text number) c.with_refusal-self.result

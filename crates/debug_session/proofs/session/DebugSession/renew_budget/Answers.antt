@@ -3,6 +3,6 @@ use Rattle.debug_tables.specs.run_meter.State.{ScriptState}
 use Rattle.debug_session.specs.Session.{debug_state}
 use Rattle.debug_session.proofs.session.DebugSession.renew_budget.Goals as goal
 
-pub returns-clause-told : goal.returns-clause-told
-returns-clause-told c images =
+pub returns-clause-reported : goal.returns-clause-reported
+returns-clause-reported c images =
     ap (λ (s : ScriptState). record (debug_state c.args.self.now images) { script = s }) (c.set_budget.ensures images)

@@ -4,13 +4,13 @@ use Rattle.debug_tables.specs.run_meter.Session.{script_state}
 use Rattle.debug_modes.specs.expectations.Checks.{status_after_pattern}
 use Rattle.debug_tables.specs.run_meter.Value.{MachineValue}
 use Rattle.arm_core.specs.State.{State}
-use Rattle.debug_tables.specs.run_meter.Parts.{state_of}
+use Rattle.debug_tables.specs.run_meter.GuestState.{state_of}
 use Rattle.debug_session.specs.Session.{debug_state}
 use Rattle.debug_session.proofs.OwnLemmas.{changed_script}
 use Rattle.debug_session.proofs.session.DebugSession.set_psr.Goals as goal
 
-pub returns-clause-told : goal.returns-clause-told
-returns-clause-told c images =
+pub returns-clause-reported : goal.returns-clause-reported
+returns-clause-reported c images =
     let s = script_state c.args.self.now.session images in
     changed_script (debug_state c.args.self.now images) (script_state c.set_psr.new.self images)
     (script_with_status s (status_after_pattern c.args.pattern s.machine.cpu.psr)) c.new.result.items

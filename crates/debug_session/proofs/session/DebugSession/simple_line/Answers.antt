@@ -3,7 +3,7 @@ use Rattle.std.proofs.Common.{◌≡◌, ℕ, ◌+◌, Bool, ap, sym, subst, ◌
 use Rattle.std.specs.Prelude.{OnOk}
 use Rattle.command_shell_lines.specs.Blocks.{block_lines, lines_after, lines_taken}
 use Rattle.debug_lines.specs.DebugRequests.{DebugRequest, NotKnown, debug_opens_block, debug_request_of_command, is_known, is_repeatable, simple_request}
-use Rattle.debug_session.specs.DebugScript.{unknown_told}
+use Rattle.debug_session.specs.DebugScript.{unknown_answer}
 use Rattle.debug_session.specs.DebugState.{IsDebugged}
 use Rattle.debug_session.specs.Naming.{meant_request, naming_of}
 use Rattle.debug_session.specs.Session.{debug_state}
@@ -11,8 +11,8 @@ use Rattle.debug_session.proofs.NamingLemmas.{meant_known, meant_nothing, meant_
 use Rattle.debug_session.proofs.OwnLemmas.{asked_if}
 use Rattle.debug_session.proofs.session.DebugSession.simple_line.Goals as goal
 
-pub returns-then-is_known-clause-told : goal.returns-then-is_known-clause-told
-returns-then-is_known-clause-told g c =
+pub returns-then-is_known-clause-reported : goal.returns-then-is_known-clause-reported
+returns-then-is_known-clause-reported g c =
     let d = debug_state c.args.self.now c.args.images.now in
     let line = c.args.words.now in
     let read = c.simple_command-command.ensures in
@@ -20,7 +20,7 @@ returns-then-is_known-clause-told g c =
     (block_lines c.args.script.now.left) (debug_request_of_command c.simple_command-command.result)
     (meant_request (naming_of d) line)
     (read ∙ meant_known (naming_of d) line (sym (c.is_known.ensures ∙ ap is_known read) ∙ c.if-is_known.true))
-    c.known_line.ensures.told
+    c.known_line.ensures.reported
 
 pub returns-then-is_known-clause-left : goal.returns-then-is_known-clause-left
 returns-then-is_known-clause-left g c =
@@ -34,8 +34,8 @@ returns-then-is_known-clause-number g c =
     ≡ c.args.script.now.number + lines_taken (debug_opens_block r) c.args.script.now.left))
     c.simple_command-command.ensures c.known_line.ensures.number
 
-pub returns-then-is_repeatable-clause-told : goal.returns-then-is_repeatable-clause-told
-returns-then-is_repeatable-clause-told g c =
+pub returns-then-is_repeatable-clause-reported : goal.returns-then-is_repeatable-clause-reported
+returns-then-is_repeatable-clause-reported g c =
     let d = debug_state c.args.self.now c.args.images.now in
     let line = c.args.words.now in
     let numbered = c.as_slice.result.now in
@@ -47,7 +47,7 @@ returns-then-is_repeatable-clause-told g c =
     (meant ∙ meant_numbered (naming_of d) line numbered (sym (c.is_known.ensures ∙ ap is_known read) ∙ c.if-is_known.false)
     (c.as_slice.ensures.value ∙ c.in_ok-numbered.ensures c.args.images.now)
     (sym (c.is_repeatable.ensures ∙ ap is_repeatable meant) ∙ c.if-is_repeatable.true))
-    c.known_line-then-is_repeatable.ensures.told
+    c.known_line-then-is_repeatable.ensures.reported
 
 pub returns-then-is_repeatable-clause-left : goal.returns-then-is_repeatable-clause-left
 returns-then-is_repeatable-clause-left g c =
@@ -69,8 +69,8 @@ returns-then-is_repeatable-clause-number g c =
     ≡ c.args.script.now.number + lines_taken b c.args.script.now.left)) same
     c.known_line-then-is_repeatable.ensures.number
 
-pub returns-clause-told : goal.returns-clause-told
-returns-clause-told g c =
+pub returns-clause-reported : goal.returns-clause-reported
+returns-clause-reported g c =
     let d = debug_state c.args.self.now c.args.images.now in
     let line = c.args.words.now in
     let setting = c.args.self.now.setting in
@@ -82,5 +82,5 @@ returns-clause-told g c =
     (c.as_slice.ensures.value ∙ c.in_ok-numbered.ensures c.args.images.now)
     (sym (c.is_repeatable.ensures ∙ ap is_repeatable meant) ∙ c.if-is_repeatable.false))
     (subst (λ (n : ℕ). OnOk c.refuse.result (IsDebugged (g.W.Sink.contents c.args.sink.now) (g.W.Sink.contents c.refuse.new.sink)
-    (debug_state c.refuse.new.self c.args.images.now) (unknown_told setting d n line))) c.number.ensures
-    (c.refuse.ensures.told c.args.images.now))
+    (debug_state c.refuse.new.self c.args.images.now) (unknown_answer setting d n line))) c.number.ensures
+    (c.refuse.ensures.reported c.args.images.now))

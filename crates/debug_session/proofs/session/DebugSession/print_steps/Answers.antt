@@ -5,10 +5,10 @@ use Rattle.debug_session.specs.DebugState.{DebugState}
 use Rattle.debug_modes.specs.expectations.reports.Reports.{answer_in}
 use Rattle.debug_session.specs.Session.{debug_state}
 use Rattle.debug_session.proofs.SteppingLemmas.{written_both}
-use Rattle.debug_session.proofs.session.DebugSession.tell_steps.Goals as goal
+use Rattle.debug_session.proofs.session.DebugSession.print_steps.Goals as goal
 
-pub returns-clause-told : goal.returns-clause-told
-returns-clause-told g c images =
+pub returns-clause-reported : goal.returns-clause-reported
+returns-clause-reported g c images =
     let form = c.args.self.now.setting.form in
     let middle = g.W.Sink.contents c.push_answer.new.sink in record {
       text = written_both (g.W.Sink.contents c.args.sink.now) middle (g.W.Sink.contents c.push_answer-2.new.sink) form
