@@ -9,7 +9,7 @@ use Rattle.debug_records.specs.Records.{HasFirstRecord, HasLastRecord, HasAllRec
 use Rattle.debug_records.specs.declared.counts.LineCounts.{LineCounts}
 use Rattle.debug_session.specs.DebugState.{DebugState}
 use Rattle.debug_session.specs.ExitStatus.{debug_status}
-use Rattle.debug_session.specs.declared.session.DebugSetting.{DebugSetting}
+use Rattle.debug_session.specs.declared.session.DebugSettings.{DebugSettings}
 
 regroup : (s r t e : List ℕ) → s ++ ((r ++ t) ++ e) ≡ ((s ++ r) ++ t) ++ e
 regroup s r t e = rw (append_assoc s r t, append_assoc s (r ++ t) e) refl
@@ -17,14 +17,14 @@ regroup s r t e = rw (append_assoc s r t, append_assoc s (r ++ t) e) refl
 same_adds : (a d : Option (List ℕ)) (s t : List ℕ) → s ≡ t → Appends a d t → Appends a d s
 same_adds a d s t h k = rw h k
 
-pub begun : (setting : DebugSetting) (name text rest : List ℕ) (a b c : Option (List ℕ))
+pub begun : (setting : DebugSettings) (name text rest : List ℕ) (a b c : Option (List ℕ))
     → text ≡ first_record setting name → Appends a b text → Appends b c rest → HasFirstRecord setting name a c
 begun setting name text rest a b c same h k = record {
   rest = rest;
   adds = then_adds a b c (first_record setting name) rest (subst (λ (xs : List ℕ). Appends a b xs) same h) k;
 }
 
-pub recorded : (setting : DebugSetting) (name : List ℕ) (status : ℕ) (a b c d : Option (List ℕ))
+pub recorded : (setting : DebugSettings) (name : List ℕ) (status : ℕ) (a b c d : Option (List ℕ))
     → HasFirstRecord setting name a b → AddsSafe b c → HasLastRecord status c d → HasAllRecords setting name status a d
 recorded setting name status a b c d h l e =
     let start = first_record setting name in
@@ -43,9 +43,9 @@ tested p f h = grind (arith, h)
 
 pub status_right : (d : DebugState) (counts : LineCounts) (status : ℕ) → counts ≡ line_counts d → status ≡ debug_status d
     → IsStatusOfCounts counts status
-status_right d counts status same told some =
+status_right d counts status same reported some =
     let here : 0 < d.tally.passed + d.tally.failed = subst (λ (c : LineCounts). 0 < c.passed + c.failed) same some in
-    let status_here : status ≡ debug_status d = told in
+    let status_here : status ≡ debug_status d = reported in
     rw (same, status_here, tested d.tally.passed d.tally.failed here) refl
 
 -- Parts of a record, one pushed behind another.

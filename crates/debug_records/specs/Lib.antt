@@ -8,5 +8,5 @@ pub use Rattle.debug_session.specs.Failing
 pub use Rattle.debug_session.specs.Session
 pub use Rattle.debug_session.specs.Typing
 pub use Rattle.debug_session.specs.declared.session.DebugSession
-pub use Rattle.debug_session.specs.declared.session.DebugSetting as DebugSessionDebugSetting
+pub use Rattle.debug_session.specs.declared.session.DebugSettings as DebugSessionDebugSetting
 pub use Rattle.debug_session.specs.declared.typing.DebugTyping

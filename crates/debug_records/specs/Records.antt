@@ -7,7 +7,7 @@ use Rattle.std.specs.Io.KnownBytes.{Appends}
 use Rattle.profile.specs.Sizes.{Sizes}
 use Rattle.trace_effects.specs.record_text.Spelling.{string_text}
 use Rattle.debug_session.specs.DebugState.{DebugState}
-use Rattle.debug_session.specs.declared.session.DebugSetting.{DebugSetting}
+use Rattle.debug_session.specs.declared.session.DebugSettings.{DebugSettings}
 use Rattle.debug_records.specs.declared.counts.LineCounts.{LineCounts}
 
 -- what a session has counted
@@ -21,7 +21,7 @@ record_sizes s = codes "{\"pages\":" ++ (decimal s.pages
     ++ (codes ",\"rma\":" ++ (decimal s.rma ++ codes "}")))))
 
 -- `{"start":1,"name":"bug","sizes":{"pages":64,"app":8,"rma":4},"budget":1000000,"limit":100000`
-abbrev pub first_record : DebugSetting → List ℕ → List ℕ
+abbrev pub first_record : DebugSettings → List ℕ → List ℕ
 first_record setting name = codes "{\"start\":" ++ (decimal 1
     ++ (codes ",\"name\":" ++ (string_text name
     ++ (codes ",\"sizes\":" ++ (record_sizes setting.config
@@ -48,12 +48,13 @@ pub record HasLastRecord (status : ℕ) (old new : Option (List ℕ)) : Type 0 w
   pub right : IsStatusOfCounts counts status
 
 -- The first record was begun, with a setting and a name, and more stands behind.
-pub record HasFirstRecord (setting : DebugSetting) (name : List ℕ) (old new : Option (List ℕ)) : Type 0 where
+pub record HasFirstRecord (setting : DebugSettings) (name : List ℕ) (old new : Option (List ℕ)) : Type 0 where
   pub rest : List ℕ
   pub adds : Appends old new (first_record setting name ++ rest)
 
 -- All was written, from the first record to the last.
-pub record HasAllRecords (setting : DebugSetting) (name : List ℕ) (status : ℕ) (old new : Option (List ℕ)) : Type 0 where
+pub record HasAllRecords (setting : DebugSettings) (name : List ℕ) (status : ℕ) (old new : Option (List ℕ))
+    : Type 0 where
   pub between : List ℕ
   pub counts : LineCounts
   pub adds : Appends old new (first_record setting name ++ (between ++ last_record counts status))

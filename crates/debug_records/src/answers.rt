@@ -25,7 +25,7 @@ pub(crate) struct AnswerParts<'a> {
 
 impl Recorder {
     /// Makes the record of an answer.
-    pub(crate) fn tell_answer(
+    pub(crate) fn print_answer(
         &mut self,
         parts: &AnswerParts<'_>,
         used: &LineUse<'_>,
@@ -35,25 +35,25 @@ impl Recorder {
         self.text.number_field(b"answer", parts.number as u64)?;
         match *used {
             LineUse::Remark => self.text.truth_field(b"remark")?,
-            LineUse::Steps => self.tell_stepped(parts)?,
-            _ => self.tell_plain(parts, used, block)?,
+            LineUse::Steps => self.print_stepped(parts)?,
+            _ => self.print_plain(parts, used, block)?,
         }
         self.end_record()
     }
 
     // How the steps of a line ended.
-    fn tell_stepped(&mut self, parts: &AnswerParts<'_>) -> Result<(), AllocError> {
+    fn print_stepped(&mut self, parts: &AnswerParts<'_>) -> Result<(), AllocError> {
         let ending = Vec::from_slice(self.alloc, self.session.answer())?;
         if parts.taken > 0 {
             self.text.number_field(b"steps", parts.taken)?;
         }
         push_text(&mut self.text, ending.as_slice())?;
-        self.tell_ending(ending.as_slice())?;
+        self.print_ending(ending.as_slice())?;
         self.push_places(false)
     }
 
     // Where a stop that ended a line stands, or the number of the error.
-    fn tell_ending(&mut self, ending: &[u8]) -> Result<(), AllocError> {
+    fn print_ending(&mut self, ending: &[u8]) -> Result<(), AllocError> {
         let (word, behind) = cut(ending, b' ');
         if word == b"stop".as_slice() {
             let stop = self.session.session.last();
@@ -69,7 +69,7 @@ impl Recorder {
     }
 
     // What a line says that takes no steps, and what it changed.
-    fn tell_plain(
+    fn print_plain(
         &mut self,
         parts: &AnswerParts<'_>,
         used: &LineUse<'_>,
@@ -83,7 +83,7 @@ impl Recorder {
         push_verdict(&mut self.text, parts, counts)?;
         if let LineUse::Block(name, origin) = *used {
             if parts.counts.refused == counts.refused {
-                self.tell_image(name, origin, block)?;
+                self.print_image(name, origin, block)?;
             }
         }
         if let LineUse::Reset = *used {
@@ -97,7 +97,7 @@ impl Recorder {
         self.push_places(false)
     }
 
-    fn tell_image(
+    fn print_image(
         &mut self,
         name: &[u8],
         origin: Option<u32>,

@@ -8,7 +8,7 @@ ghost use Rattle.trace_effects.specs.record_text.Spelling.{comma_before};
 use crate::counts::LineCounts;
 use crate::recorder::Recorder;
 use command_shell::RunError;
-use debug_session::DebugSetting;
+use debug_session::DebugSettings;
 use profile::{Config, Sink};
 use std::alloc::AllocError;
 use trace_effects::record_text::{Bracket, RecordText, push_records};
@@ -23,7 +23,7 @@ const VERSION: u64 = 1;
 /// Writes the first record: what the script may take, and the machine as it stands.
 pub(crate) fn record_start<W: Sink>(
     recorder: &Recorder,
-    setting: &DebugSetting,
+    setting: &DebugSettings,
     name: &[u8],
     sink: &mut W,
 ) -> Result<(), RunError>
@@ -44,7 +44,7 @@ pub(crate) fn record_start<W: Sink>(
 // Begins the first record: the script's name, the sizes of its machine, and its bounds.
 fn push_setting(
     text: &mut RecordText,
-    setting: &DebugSetting,
+    setting: &DebugSettings,
     name: &[u8],
 ) -> Result<(), AllocError>
     requires empty { text.old.bytes.items ≡ [] }

@@ -13,6 +13,6 @@ mod recorder;
 mod script;
 mod steps;
 
-pub use debug_session::{DebugSession, DebugSetting, DebugTyping, ReportForm, RunMeter};
+pub use debug_session::{DebugSession, DebugSettings, DebugTyping, ReportForm, RunMeter};
 pub use recorder::Recorder;
 pub use script::record_script;

@@ -22,7 +22,7 @@ pub(crate) enum LineUse<'a> {
     Steps,
     /// A block, of which an image is made.
     Block(&'a [u8], Option<u32>),
-    /// How many steps of a line are told one by one.
+    /// How many steps of a line are shown one by one.
     Limit(u32),
     /// A fresh machine.
     Reset,
@@ -117,7 +117,7 @@ impl Recorder {
         let number = script.number();
         let meant = self.meant_words(line, words)?;
         let used = use_of(meant.as_slice());
-        self.tell_line(line, number, time, used.opens_block(), script)?;
+        self.print_line(line, number, time, used.opens_block(), script)?;
         let block = script.again();
         let counts = LineCounts::of(&self.session);
         let mut answer = TextSink::new(self.alloc);
@@ -130,7 +130,7 @@ impl Recorder {
             taken,
             answer: answer.bytes(),
         };
-        self.tell_answer(&parts, &used, &block)?;
+        self.print_answer(&parts, &used, &block)?;
         self.follow(&used, words, &block)
     }
 
@@ -168,7 +168,7 @@ impl Recorder {
     }
 
     // Makes the record of a line, with its block where it opens one.
-    fn tell_line(
+    fn print_line(
         &mut self,
         line: &[u8],
         number: usize,

@@ -5,7 +5,7 @@ ghost use Rattle.profile.specs.text_sink.Safe.{AddsSafe};
 
 use crate::ends::{FIRST_LIMIT, end_record};
 use crate::images::KnownImage;
-use debug_session::{DebugSession, DebugSetting};
+use debug_session::{DebugSession, DebugSettings};
 use image_loader::Images;
 use profile::{Sink, WriteFault};
 use std::alloc::{AllocError, Global};
@@ -13,7 +13,7 @@ use trace_effects::record_text::{RecordText, push_records};
 
 /// A debugging session whose lines are recorded.
 ///
-/// The session answers each line; its twin takes the same steps one by one, and each of them is told.
+/// The session answers each line; its twin takes the same steps one by one, and each of them is shown.
 /// After each line both are alike.
 #[derive(Drop)]
 pub struct Recorder {
@@ -24,7 +24,7 @@ pub struct Recorder {
     pub(crate) twin_images: Images,
     /// The record that is being made.
     pub(crate) text: RecordText,
-    /// How many steps of a line are told one by one.
+    /// How many steps of a line are shown one by one.
     pub(crate) limit: u64,
     /// How many steps were taken so far.
     pub(crate) steps: u64,
@@ -39,7 +39,7 @@ impl Recorder {
     /// Memory ran out.
     pub fn new(
         alloc: Global,
-        setting: DebugSetting,
+        setting: DebugSettings,
         images: Images,
         twin_images: Images,
     ) -> Result<Recorder, AllocError> {

@@ -7,7 +7,7 @@ ghost use Rattle.profile.specs.text_sink.Safe.{AddsSafe};
 use crate::ends::{record_end, record_start};
 use crate::recorder::{Recorder, hand_on};
 use command_shell::RunError;
-use debug_session::DebugSetting;
+use debug_session::DebugSettings;
 use image_loader::Images;
 use profile::Sink;
 use profile::text_lines::Lines;
@@ -22,7 +22,7 @@ use std::alloc::Global;
 /// `WriteFault` and `Memory`, when a part of the records may stand written.
 pub fn record_script<W: Sink>(
     alloc: Global,
-    setting: DebugSetting,
+    setting: DebugSettings,
     images: Images,
     twin_images: Images,
     name: &[u8],

@@ -12,7 +12,7 @@ use profile::memory_map::ADDRESS_LIMIT;
 use profile::text_sink::TextSink;
 use std::alloc::{AllocError, Global};
 use trace_effects::changes::{REGISTERS, home_of};
-use trace_effects::told_registers::WrittenRegisters;
+use trace_effects::shown_registers::WrittenRegisters;
 use trace_json::{MachineCopy, StepBefore, push_skip};
 
 /// The number of the link register.
@@ -58,7 +58,7 @@ impl Recorder {
             settle(&mut self.twin.session, &self.session);
         }
         let machine = self.twin.machine();
-        before.tell_end(
+        before.print_end(
             self.alloc,
             &mut self.text,
             &shown,

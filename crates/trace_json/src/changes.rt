@@ -10,12 +10,12 @@ use std::alloc::{AllocError, Global};
 use swi_dispatch::Machine;
 use trace_effects::changes::jump_of;
 use trace_effects::record_text::RecordText;
+use trace_effects::shown_registers::{WrittenRegisters, shown_registers};
+use trace_effects::shown_words::changed_words;
 use trace_effects::store_words::StoreCopy;
-use trace_effects::told_registers::{WrittenRegisters, told_registers};
-use trace_effects::told_words::changed_words;
 use trace_moments::{ShownAreas, changed_areas, changed_modules, shown_areas};
 
-/// What is kept of a machine, to tell later what differs.
+/// What is kept of a machine, to show later what differs.
 #[derive(Drop)]
 pub struct MachineCopy {
     pub(crate) cpu: Cpu,
@@ -50,8 +50,8 @@ pub(crate) fn push_core_changes(
     name: &[u8],
     expected: u32,
 ) -> Result<(), AllocError> {
-    let told = told_registers(before, after, written);
-    push_registers(text, told.as_slice())?;
+    let reported = shown_registers(before, after, written);
+    push_registers(text, reported.as_slice())?;
     push_status(text, before.psr(), after.psr())?;
     match jump_of(expected, after) {
         Some(at) => text.number_field(name, u64::from(at)),

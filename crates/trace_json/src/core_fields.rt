@@ -11,13 +11,13 @@ use trace_effects::record_text::{Bracket, RecordText};
 /// Writes registers by their new values, if there are some.
 pub(crate) fn push_registers(
     text: &mut RecordText,
-    told: &[RegisterChange],
+    reported: &[RegisterChange],
 ) -> Result<(), AllocError> {
-    if told.is_empty() {
+    if reported.is_empty() {
         return Ok(());
     }
     text.open_field(b"regs", Bracket::Object)?;
-    for register in told {
+    for register in reported {
         text.number_field(register_name(register.place), u64::from(register.new))?;
     }
     text.close(Bracket::Object)

@@ -1,4 +1,4 @@
-//! Steps that aren't told one by one, as a record: what they leave together.
+//! Steps that aren't shown one by one, as a record: what they leave together.
 
 use crate::changes::{MachineCopy, push_changed_words, push_core_changes, push_store_changes};
 use crate::frames::push_frames;
@@ -9,9 +9,9 @@ use arm_core::Cpu;
 use std::alloc::{AllocError, Global};
 use swi_dispatch::Machine;
 use trace_effects::record_text::{Bracket, RecordText};
-use trace_effects::told_registers::WrittenRegisters;
+use trace_effects::shown_registers::WrittenRegisters;
 
-/// Begins the record of so many steps that aren't told one by one, and writes what they left; but for
+/// Begins the record of so many steps that aren't shown one by one, and writes what they left; but for
 /// where images stand.
 ///
 /// # Errors
@@ -23,7 +23,7 @@ pub fn push_skip(
     last: u64,
     count: u64,
     before: &MachineCopy,
-    told: &Cpu,
+    reported: &Cpu,
     machine: &Machine,
     printed: &[u8],
 ) -> Result<(), AllocError> {
@@ -31,7 +31,7 @@ pub fn push_skip(
     text.number_field(b"step", last)?;
     text.number_field(b"skip", count)?;
     let none = WrittenRegisters::new();
-    push_core_changes(text, told, machine.cpu(), &none, b"next", told.pc())?;
+    push_core_changes(text, reported, machine.cpu(), &none, b"next", reported.pc())?;
     push_changed_words(alloc, text, before, machine)?;
     let kept = before.frames.min(machine.frames());
     push_frames(text, before.frames, kept, machine, None)?;

@@ -15,8 +15,8 @@ use std::alloc::{AllocError, Global};
 use swi_dispatch::{Machine, without_x_bit};
 use trace_effects::changes::following_word;
 use trace_effects::record_text::{Bracket, RecordText};
-use trace_effects::told_registers::WrittenRegisters;
-use trace_effects::told_words::ToldWord;
+use trace_effects::shown_registers::WrittenRegisters;
+use trace_effects::shown_words::ShownWord;
 use trace_effects::{Cause, called_swi, stored_words};
 use trace_moments::{
     loaded_words, stored_changes, words_at, written_by_call, written_by_instruction,
@@ -43,8 +43,8 @@ pub struct StepBefore {
     kind: StepKind,
     cause: Cause,
     cpu: Cpu,
-    loaded: Vec<ToldWord>,
-    stored: Vec<ToldWord>,
+    loaded: Vec<ShownWord>,
+    stored: Vec<ShownWord>,
     copy: Option<MachineCopy>,
 }
 
@@ -149,16 +149,16 @@ impl StepBefore {
     }
 
     /// Ends the record, by the machine after the step, what the step printed, and the registers that
-    /// were told so far; but for where images stand. A stub has written these registers.
+    /// were shown so far; but for where images stand. A stub has written these registers.
     ///
     /// # Errors
     ///
     /// Memory ran out.
-    pub fn tell_end(
+    pub fn print_end(
         &self,
         alloc: Global,
         text: &mut RecordText,
-        told: &Cpu,
+        reported: &Cpu,
         machine: &Machine,
         stub: &WrittenRegisters,
         printed: &[u8],
@@ -171,7 +171,7 @@ impl StepBefore {
         let has_error = self.has_error(machine, kept);
         let written = self.written(stop, has_error || kept < machine.frames(), stub);
         let expected = self.expected(stop);
-        push_core_changes(text, told, machine.cpu(), &written, b"next", expected)?;
+        push_core_changes(text, reported, machine.cpu(), &written, b"next", expected)?;
         match &self.copy {
             None => self.push_stored(alloc, text, machine)?,
             Some(copy) => push_changed_words(alloc, text, copy, machine)?,

@@ -6,31 +6,31 @@ use address_map::AddressMap;
 use profile::memory_map::{ADDRESS_LIMIT, PAGE_SIZE};
 use std::alloc::AllocError;
 use trace_effects::record_text::{Bracket, RecordText};
-use trace_effects::told_words::ToldWord;
+use trace_effects::shown_words::ShownWord;
 
 /// The most words that a record has.
 const MOST_WORDS: usize = 4096;
 
 /// Writes words with their old and new values, if there are some: 4,096 of them, and how many there are
 /// more.
-pub(crate) fn push_words(text: &mut RecordText, words: &[ToldWord]) -> Result<(), AllocError> {
+pub(crate) fn push_words(text: &mut RecordText, words: &[ShownWord]) -> Result<(), AllocError> {
     if words.is_empty() {
         return Ok(());
     }
-    let told = words.len().min(MOST_WORDS);
+    let reported = words.len().min(MOST_WORDS);
     text.open_field(b"mem", Bracket::List)?;
-    for word in &words[..told] {
+    for word in &words[..reported] {
         text.numbers(&[word.at, word.old, word.new])?;
     }
     text.close(Bracket::List)?;
-    if told < words.len() {
-        text.number_field(b"more", (words.len() - told) as u64)?;
+    if reported < words.len() {
+        text.number_field(b"more", (words.len() - reported) as u64)?;
     }
     Ok(())
 }
 
 /// Writes words that were read.
-pub(crate) fn push_reads(text: &mut RecordText, words: &[ToldWord]) -> Result<(), AllocError> {
+pub(crate) fn push_reads(text: &mut RecordText, words: &[ShownWord]) -> Result<(), AllocError> {
     if words.is_empty() {
         return Ok(());
     }
