@@ -5,7 +5,7 @@
 use Rattle.std.specs.Prelude.{ℕ, ◌++◌, List, codes}
 use Rattle.std.specs.List.{flat_map}
 use Rattle.profile.specs.Digits.{hex_word}
-use Rattle.instances_table.specs.Lookup.{told_of_module}
+use Rattle.instances_table.specs.Lookup.{shown_of_module}
 use Rattle.instances_table.specs.Modules.{Module}
 use Rattle.instances_table.specs.declared.parts.ModuleInfo.{ModuleInfo}
 use Rattle.gdb_packets.specs.declared.requests.ByteRange.{ByteRange}
@@ -14,7 +14,8 @@ use Rattle.gdb_machine.specs.Escape.{escaped_bytes}
 
 -- `<library name="01800014/Counter`
 unfoldable pub library_opening : ℕ → List ℕ → List ℕ
-library_opening image title = (codes "<library name=\"" ++ (hex_word image ++ codes "/")) ++ escaped_bytes title
+library_opening image title =
+    (codes "<library name=\"" ++ (hex_word image ++ codes "/")) ++ escaped_bytes title
 
 -- `.elf"><segment address="0x01800014"/></library>`
 unfoldable pub library_ending : ℕ → List ℕ
@@ -25,7 +26,7 @@ abbrev pub library_line : ModuleInfo → List ℕ
 library_line m = library_opening m.image m.title.items ++ library_ending m.image
 
 abbrev pub module_library : Module → List ℕ
-module_library m = library_line (told_of_module m)
+module_library m = library_line (shown_of_module m)
 
 -- the lines of all, none where there is no module
 abbrev pub library_lines : List Module → List ℕ

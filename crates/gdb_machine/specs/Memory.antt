@@ -17,16 +17,18 @@ onto_known (Err fault) rest = []
 -- so many bytes at most
 unfoldable pub known_bytes : Bytes → ℕ → ℕ → List ℕ
 known_bytes b address zero = []
-known_bytes b address (suc count) = onto_known (byte_loaded b address) (known_bytes b (bytes_further address 1) count)
+known_bytes b address (suc count) = onto_known (byte_loaded b address)
+    (known_bytes b (bytes_further address 1) count)
 
-abbrev pub most_told : ℕ
-most_told = 8192
+abbrev pub most_shown : ℕ
+most_shown = 8192
 
 -- bytes that were asked for, as pairs of digits; or that there is none
-abbrev pub told_bytes : ℕ → List ℕ → List ℕ
-told_bytes count [] = if count == 0 then [] else codes "E0e"
-told_bytes count (byte ∷ bytes) = encode_lower (byte ∷ bytes)
+abbrev pub shown_bytes : ℕ → List ℕ → List ℕ
+shown_bytes count [] = if count == 0 then [] else codes "E0e"
+shown_bytes count (byte ∷ bytes) = encode_lower (byte ∷ bytes)
 
 -- `m a,n`
 abbrev pub memory_reply : Bytes → ByteRange → List ℕ
-memory_reply b range = told_bytes (min range.count most_told) (known_bytes b range.start (min range.count most_told))
+memory_reply b range = shown_bytes (min range.count most_shown)
+    (known_bytes b range.start (min range.count most_shown))

@@ -1,5 +1,5 @@
 -- The registers as GDB numbers them: R0 to R14 of the present mode, the program counter, the status,
--- R15 as one word, and then those of all banks. The status is told as a later processor has it in a
+-- R15 as one word, and then those of all banks. The status is shown as a later processor has it in a
 -- mode of 26 bits: the flags in bits 31 to 28, I and F in bits 7 and 6, the mode in bits 1 and 0.
 use Rattle.std.specs.Prelude.{ℕ, zero, suc, ◌+◌, ◌-◌, ◌*◌, ◌^◌, ◌==◌, nat_lt, List, [], ◌++◌, Option, Some, None, codes, unwrap_or, if◌then◌else◌}
 use Rattle.std.specs.Int.{from_bool, to_le_bytes, w32}
@@ -11,7 +11,8 @@ use Rattle.arm_core.specs.Psr.{mode_number}
 use Rattle.arm_core.specs.State.{State, register_in, register_of}
 
 abbrev pub status_word : Psr → ℕ
-status_word p = from_bool p.negative * 2 ^ 31 + from_bool p.zero * 2 ^ 30 + from_bool p.carry * 2 ^ 29 + from_bool p.overflow * 2 ^ 28
+status_word p = from_bool p.negative * 2 ^ 31 + from_bool p.zero * 2 ^ 30 + from_bool p.carry * 2 ^ 29 +
+    from_bool p.overflow * 2 ^ 28
     + from_bool p.interrupts_off * 2 ^ 7 + from_bool p.fast_interrupts_off * 2 ^ 6 + mode_number p.mode
 
 -- the mode and the register that a number from 18 on means: R8 to R14 of user mode, R8 to R14 of FIQ,
@@ -39,13 +40,13 @@ register_shown s n =
 abbrev pub word_digits : ℕ → List ℕ
 word_digits word = encode_lower (to_le_bytes w32 word)
 
-abbrev pub told_register : Option ℕ → List ℕ
-told_register None = codes "E16"
-told_register (Some word) = word_digits word
+abbrev pub shown_register : Option ℕ → List ℕ
+shown_register None = codes "E16"
+shown_register (Some word) = word_digits word
 
 -- `p n`
 abbrev pub register_reply : State → ℕ → List ℕ
-register_reply s n = told_register (register_shown s n)
+register_reply s n = shown_register (register_shown s n)
 
 -- so many registers, from that number on
 unfoldable pub registers_text : State → ℕ → ℕ → List ℕ

@@ -64,7 +64,8 @@ watch_word kind.Access = codes "awatch:"
 -- the list of libraries
 abbrev pub reached_text : GdbStop → List ℕ
 reached_text (reason.Ran (stop.Break address)) = codes "swbreak:;"
-reached_text (reason.Watched place) = watch_word place.kind ++ encode_lower (to_be_bytes w32 place.address) ++ codes ";"
+reached_text (reason.Watched place) = watch_word place.kind ++ encode_lower (to_be_bytes w32 place.address)
+    ++ codes ";"
 reached_text reason.Library = codes "library:;"
 reached_text (reason.Ran stop.Budget) = []
 reached_text (reason.Ran (stop.Fault f)) = []
@@ -73,14 +74,14 @@ reached_text reason.Stepped = []
 reached_text reason.Asked = []
 reached_text (reason.Killed f) = []
 
-abbrev pub told_value : State → ℕ → List ℕ
-told_value s n = word_digits (unwrap_or (register_shown s n) 0)
+abbrev pub shown_value : State → ℕ → List ℕ
+shown_value s n = word_digits (unwrap_or (register_shown s n) 0)
 
 -- R11, R13, R14, the program counter and the status
 abbrev pub first_registers_text : State → List ℕ
 first_registers_text s =
-    codes "0b:" ++ told_value s 11 ++ codes ";0d:" ++ told_value s 13 ++ codes ";0e:" ++ told_value s 14
-    ++ codes ";0f:" ++ told_value s 15 ++ codes ";10:" ++ told_value s 16 ++ codes ";"
+    codes "0b:" ++ shown_value s 11 ++ codes ";0d:" ++ shown_value s 13 ++ codes ";0e:" ++ shown_value s 14
+    ++ codes ";0f:" ++ shown_value s 15 ++ codes ";10:" ++ shown_value s 16 ++ codes ";"
 
 -- the program has exited, or was ended by the signal of its fault
 abbrev pub gone_text : GdbStop → List ℕ

@@ -32,7 +32,8 @@ is_same_kind kind.Access kind.Access = true
 is_same_kind k l = false
 
 abbrev pub is_same_watch : Watch → Watch → Bool
-is_same_watch w v = is_same_kind w.kind v.kind && (w.range.start == v.range.start && w.range.count == v.range.count)
+is_same_watch w v = is_same_kind w.kind v.kind && (w.range.start == v.range.start && w.range.count ==
+    v.range.count)
 
 abbrev pub watch_place : List Watch → Watch → Option ℕ
 watch_place watches watch = position (λ w. is_same_watch w watch) watches
@@ -99,7 +100,8 @@ first_changed b (seen ∷ others) = if is_byte_changed b seen then Some seen.pla
 
 -- whether one of so many words has a byte of a range
 abbrev pub reaches : StoredWords → ByteRange → Bool
-reaches words range = nat_lt range.start (words.at + 4 * words.count) && nat_lt words.at (range.start + range.count)
+reaches words range = nat_lt range.start (words.at + 4 * words.count) && nat_lt words.at
+    (range.start + range.count)
 
 abbrev pub strikes_kind : WatchKind → Bool → Bool → Bool
 strikes_kind kind.Store loads stores = false

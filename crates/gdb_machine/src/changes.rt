@@ -1,9 +1,9 @@
 //! What a value of one of GDB's registers changes.
 
 ghost use Rattle.std.specs.Prelude.{◌≡◌, IfSome};
-ghost use Rattle.arm_core.specs.Psr.{mode_of as mode_told};
-ghost use Rattle.gdb_machine.specs.Changes.{CanBeMade, bank_change as bank_change_told, place_change as place_change_told, register_write as change_told, status_change as status_change_told, status_in as status_in_told};
-ghost use Rattle.gdb_machine.specs.Registers.{register_bank as bank_told};
+ghost use Rattle.arm_core.specs.Psr.{mode_of as mode_answer};
+ghost use Rattle.gdb_machine.specs.Changes.{CanBeMade, bank_change as bank_change_shown, place_change as place_change_shown, register_write as change_shown, status_change as status_change_shown, status_in as status_in_shown};
+ghost use Rattle.gdb_machine.specs.Registers.{register_bank as bank_shown};
 
 use crate::registers::{register_bank, status_word};
 use arm_core::{Mode, Psr};
@@ -25,7 +25,7 @@ pub enum RegisterWrite {
 /// What a value of the register of that number changes; `None` where there is no such register, or it
 /// can't have that value.
 pub fn register_write(number: u32, value: u32) -> Option<RegisterWrite>
-    ensures value { result ≡ change_told number value }
+    ensures value { result ≡ change_shown number value }
     ensures made { IfSome result CanBeMade }
 {
     if number < 15 {
@@ -40,7 +40,7 @@ pub fn register_write(number: u32, value: u32) -> Option<RegisterWrite>
 }
 
 fn place_change(address: u32) -> Option<RegisterWrite>
-    ensures value { result ≡ place_change_told address }
+    ensures value { result ≡ place_change_shown address }
     ensures made { IfSome result CanBeMade }
 {
     if address % 4 == 0 && address < 1 << 26 {
@@ -51,7 +51,7 @@ fn place_change(address: u32) -> Option<RegisterWrite>
 }
 
 fn status_change(word: u32) -> Option<RegisterWrite>
-    ensures value { result ≡ status_change_told word }
+    ensures value { result ≡ status_change_shown word }
     ensures made { IfSome result CanBeMade }
 {
     let status = status_in(word);
@@ -64,7 +64,7 @@ fn status_change(word: u32) -> Option<RegisterWrite>
 
 // The status in a word.
 fn status_in(word: u32) -> Psr
-    ensures { result ≡ status_in_told word }
+    ensures { result ≡ status_in_shown word }
 {
     Psr {
         negative: is_bit_set(word, 31),
@@ -79,7 +79,7 @@ fn status_in(word: u32) -> Psr
 
 // The mode that the two lowest bits of a word name.
 fn mode_of(word: u32) -> Mode
-    ensures { result ≡ mode_told word }
+    ensures { result ≡ mode_answer word }
 {
     match word & 3 {
         0 => Mode::User,
@@ -90,7 +90,7 @@ fn mode_of(word: u32) -> Mode
 }
 
 fn bank_change(number: u32, value: u32) -> Option<RegisterWrite>
-    ensures value { result ≡ bank_change_told (bank_told number) value }
+    ensures value { result ≡ bank_change_shown (bank_shown number) value }
     ensures made { IfSome result CanBeMade }
 {
     let (mode, register) = register_bank(number)?;

@@ -6,8 +6,8 @@ ghost use Rattle.gdb_machine.specs.Description.{description_text, part_of, part_
 use gdb_packets::ByteRange;
 use std::alloc::{AllocError, Global};
 
-/// The most bytes that a packet tells of.
-const MOST_TOLD: usize = 8192;
+/// The most bytes that a packet reports.
+const MOST_SHOWN: usize = 8192;
 
 /// The description, in XML. R15 is `pc`, the address alone, and `cpsr`, the status as a later processor
 /// has it in a mode of 26 bits; the whole word is `r15`.
@@ -90,20 +90,20 @@ pub fn description_part(alloc: Global, range: ByteRange) -> Result<Vec<u8>, Allo
     part(alloc, DESCRIPTION, range)
 }
 
-/// Bytes of a text, so told.
+/// Bytes of a text, so shown.
 pub(crate) fn part(alloc: Global, text: &[u8], range: ByteRange) -> Result<Vec<u8>, AllocError>
-    ensures { IfOk result (λ told. told.items ≡ part_of text.now range) }
+    ensures { IfOk result (λ reported. reported.items ≡ part_of text.now range) }
 {
     let start = (range.start as usize).min(text.len());
     part_of_rest(alloc, &text[start..], range.count as usize)
 }
 
 fn part_of_rest(alloc: Global, rest: &[u8], count: usize) -> Result<Vec<u8>, AllocError>
-    ensures { IfOk result (λ told. told.items ≡ part_of_rest rest.now count) }
+    ensures { IfOk result (λ reported. reported.items ≡ part_of_rest rest.now count) }
 {
-    let count = count.min(MOST_TOLD);
+    let count = count.min(MOST_SHOWN);
     let is_more = count < rest.len();
-    let mut told = Vec::from_slice(alloc, if is_more { b"m" } else { b"l" })?;
-    told.extend_from_slice(&rest[..count.min(rest.len())])?;
-    Ok(told)
+    let mut reported = Vec::from_slice(alloc, if is_more { b"m" } else { b"l" })?;
+    reported.extend_from_slice(&rest[..count.min(rest.len())])?;
+    Ok(reported)
 }

@@ -18,7 +18,7 @@ pub use changes::{RegisterWrite, register_write};
 pub use description::description_part;
 pub use laws::register_writes_are_read;
 pub use libraries::{libraries_part, library_lines};
-pub use memory::{known_bytes, memory_told};
+pub use memory::{known_bytes, memory_shown};
 pub use registers::{all_registers, one_register, register_shown};
 pub use stops::{GdbStop, Signal, signal_number_of, stop_packet};
 pub use watches::{SeenByte, Watch, WatchError, WatchKind, WatchedPlace, Watches, first_changed};

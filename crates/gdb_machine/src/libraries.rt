@@ -40,7 +40,7 @@ pub fn libraries_part(
     modules: &Instances,
     range: ByteRange,
 ) -> Result<Vec<u8>, AllocError>
-    ensures { IfOk result (λ told. told.items ≡ libraries_part modules.now range) }
+    ensures { IfOk result (λ reported. reported.items ≡ libraries_part modules.now range) }
 {
     let text = libraries_text(alloc, modules)?;
     part(alloc, text.as_slice(), range)

@@ -2,27 +2,31 @@
 
 ghost use Rattle.std.specs.Prelude.{◌≡◌, ◌≤◌, IfOk, min};
 ghost use Rattle.address_map.specs.Memory.{bytes_of};
-ghost use Rattle.gdb_machine.specs.Memory.{known_bytes as known_told, memory_reply, told_bytes};
+ghost use Rattle.gdb_machine.specs.Memory.{known_bytes as known_shown, memory_reply, shown_bytes};
 
 use address_map::AddressMap;
 use gdb_packets::ByteRange;
 use hex::encode;
 use std::alloc::{AllocError, Global};
 
-/// The most bytes that a packet tells of: each takes two digits.
-const MOST_TOLD: u32 = 8192;
+/// The most bytes that a packet reports: each takes two digits.
+const MOST_SHOWN: u32 = 8192;
 
 /// Bytes of memory as pairs of digits, as far as it is mapped; or that there is none.
-pub fn memory_told(alloc: Global, map: &AddressMap, range: ByteRange) -> Result<Vec<u8>, AllocError>
+pub fn memory_shown(
+    alloc: Global,
+    map: &AddressMap,
+    range: ByteRange,
+) -> Result<Vec<u8>, AllocError>
     ensures { IfOk result (λ text. text.items ≡ memory_reply (bytes_of map.now) range) }
 {
-    let count = range.count.min(MOST_TOLD);
+    let count = range.count.min(MOST_SHOWN);
     let bytes = known_bytes(alloc, map, range.start, count)?;
-    told(alloc, count, bytes.as_slice())
+    reported(alloc, count, bytes.as_slice())
 }
 
-fn told(alloc: Global, count: u32, bytes: &[u8]) -> Result<Vec<u8>, AllocError>
-    ensures { IfOk result (λ text. text.items ≡ told_bytes count bytes.now) }
+fn reported(alloc: Global, count: u32, bytes: &[u8]) -> Result<Vec<u8>, AllocError>
+    ensures { IfOk result (λ text. text.items ≡ shown_bytes count bytes.now) }
 {
     match bytes {
         [] if count == 0 => Ok(Vec::new(alloc)),
@@ -39,7 +43,7 @@ pub fn known_bytes(
     start: u32,
     count: u32,
 ) -> Result<Vec<u8>, AllocError>
-    ensures { IfOk result (λ bytes. bytes.items ≡ known_told (bytes_of map.now) start count) }
+    ensures { IfOk result (λ bytes. bytes.items ≡ known_shown (bytes_of map.now) start count) }
 {
     let mut bytes = Vec::new(alloc);
     let mut address = start;

@@ -1,8 +1,8 @@
 //! The registers as GDB numbers them.
 
 ghost use Rattle.std.specs.Prelude.{◌≡◌, ◌<◌, ℕ, IfOk, IfSome};
-ghost use Rattle.arm_core.specs.Psr.{mode_number as mode_number_told};
-ghost use Rattle.gdb_machine.specs.Registers.{all_registers_text, register_bank as bank_told, register_shown as shown, register_reply, status_word as status_told, word_digits as word_told};
+ghost use Rattle.arm_core.specs.Psr.{mode_number as mode_number_shown};
+ghost use Rattle.gdb_machine.specs.Registers.{all_registers_text, register_bank as bank_shown, register_shown as shown, register_reply, status_word as status_shown, word_digits as word_shown};
 
 use arm_core::{Cpu, Mode, Psr};
 use hex::encode;
@@ -32,7 +32,7 @@ pub fn register_shown(cpu: &Cpu, number: u32) -> Option<u32>
 
 /// The mode and the register that a number from 18 on means.
 pub(crate) fn register_bank(number: u32) -> Option<(Mode, u32)>
-    ensures value { result ≡ bank_told number }
+    ensures value { result ≡ bank_shown number }
     ensures bound { IfSome result (λ bank. bank.1 < 15) }
 {
     if number < 18 {
@@ -52,7 +52,7 @@ pub(crate) fn register_bank(number: u32) -> Option<(Mode, u32)>
 
 /// The status as a later processor has it in a mode of 26 bits.
 pub(crate) fn status_word(psr: Psr) -> u32
-    ensures { result ≡ status_told psr }
+    ensures { result ≡ status_shown psr }
 {
     let flags = (u32::from(psr.negative) << 31)
         + (u32::from(psr.zero) << 30)
@@ -63,7 +63,7 @@ pub(crate) fn status_word(psr: Psr) -> u32
 }
 
 fn mode_number(mode: Mode) -> u32
-    ensures value { result ≡ mode_number_told mode }
+    ensures value { result ≡ mode_number_shown mode }
     ensures below { result < 4 }
 {
     match mode {
@@ -76,7 +76,7 @@ fn mode_number(mode: Mode) -> u32
 
 /// A word's four bytes, the lowest first, as pairs of digits.
 pub(crate) fn word_digits(alloc: Global, word: u32) -> Result<Vec<u8>, AllocError>
-    ensures { IfOk result (λ text. text.items ≡ word_told word) }
+    ensures { IfOk result (λ text. text.items ≡ word_shown word) }
 {
     Ok(encode(alloc, word.to_le_bytes())?.into_bytes())
 }

@@ -2,7 +2,7 @@
 
 ghost use Rattle.std.specs.Prelude.{◌≡◌, ◌∷◌, [], IfOk};
 ghost use Rattle.hex.specs.Hex.{encode_lower};
-ghost use Rattle.gdb_machine.specs.Stops.{gone_text, first_registers_text, is_gone, reached_text, signal_number, signal_number_of as number_told, signal_of, signal_of_fault as fault_told, stop_packet as packet_told, told_value, watch_word};
+ghost use Rattle.gdb_machine.specs.Stops.{gone_text, first_registers_text, is_gone, reached_text, signal_number, signal_number_of as number_shown, signal_of, signal_of_fault as fault_shown, stop_packet as packet_shown, shown_value, watch_word};
 
 use crate::registers::{register_shown, word_digits};
 use crate::watches::{WatchKind, WatchedPlace};
@@ -90,7 +90,7 @@ impl GdbStop {
 }
 
 fn signal_of_fault(fault: Fault) -> Signal
-    ensures { result ≡ fault_told fault }
+    ensures { result ≡ fault_shown fault }
 {
     match fault {
         Fault::FetchUnmapped | Fault::DataUnmapped => Signal::Segment,
@@ -108,15 +108,15 @@ fn signal_of_fault(fault: Fault) -> Signal
 
 /// The number of the signal of a fault.
 pub fn signal_number_of(fault: Fault) -> u8
-    ensures { result ≡ number_told fault }
+    ensures { result ≡ number_shown fault }
 {
     signal_of_fault(fault).number()
 }
 
-/// The packet that tells why the program stands.
+/// The packet that shows why the program stands.
 #[tactic(auto, unfolding(crate::specs::Stops::stop_packet))]
 pub fn stop_packet(alloc: Global, cpu: &Cpu, why: GdbStop) -> Result<Vec<u8>, AllocError>
-    ensures { IfOk result (λ packet. packet.items ≡ packet_told cpu.now why) }
+    ensures { IfOk result (λ packet. packet.items ≡ packet_shown cpu.now why) }
 {
     let Some(signal) = why.signal() else {
         return gone_text(alloc, why);
@@ -186,7 +186,7 @@ fn first_registers(alloc: Global, cpu: &Cpu) -> Result<Vec<u8>, AllocError>
 }
 
 fn value_text(alloc: Global, cpu: &Cpu, number: u32) -> Result<Vec<u8>, AllocError>
-    ensures { IfOk result (λ text. text.items ≡ told_value cpu.now number) }
+    ensures { IfOk result (λ text. text.items ≡ shown_value cpu.now number) }
 {
     word_digits(alloc, register_shown(cpu, number).unwrap_or(0))
 }

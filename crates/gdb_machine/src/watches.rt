@@ -5,7 +5,7 @@ ghost use Rattle.std.specs.List.{position};
 ghost use Rattle.address_map.specs.Memory.{bytes_of};
 ghost use Rattle.address_map.specs.Bytes.{byte_loaded};
 ghost use Rattle.profile.specs.Outcome.{Leaves};
-ghost use Rattle.gdb_machine.specs.Watches.{byte_seen as byte_seen_told, bytes_of_watch, bytes_seen, first_changed as changed_told, is_byte_changed as has_changed_told, is_same_kind as is_same_told, is_struck as is_struck_told, loaded_byte, place_of_watch, reaches as reaches_told, struck_place, watch_place, watched_bytes, with_watch, without_watch};
+ghost use Rattle.gdb_machine.specs.Watches.{byte_seen as byte_seen_shown, bytes_of_watch, bytes_seen, first_changed as changed_shown, is_byte_changed as has_changed_shown, is_same_kind as is_same_shown, is_struck as is_struck_shown, loaded_byte, place_of_watch, reaches as reaches_shown, struck_place, watch_place, watched_bytes, with_watch, without_watch};
 
 use address_map::AddressMap;
 use arm_core::Cpu;
@@ -154,7 +154,7 @@ impl Watches {
 
     // Which watch is the first to be struck.
     fn struck(&self, loaded: StoredWords, stored: StoredWords) -> Option<usize>
-        ensures { result ≡ position (is_struck_told loaded stored) self.now }
+        ensures { result ≡ position (is_struck_shown loaded stored) self.now }
     {
         self.watches
             .iter()
@@ -180,7 +180,7 @@ impl Watches {
 }
 
 fn is_same_kind(one: WatchKind, other: WatchKind) -> bool
-    ensures { result ≡ is_same_told one other }
+    ensures { result ≡ is_same_shown one other }
 {
     match one {
         WatchKind::Store => matches!(other, WatchKind::Store),
@@ -191,7 +191,7 @@ fn is_same_kind(one: WatchKind, other: WatchKind) -> bool
 
 // Whether a watch is struck where these words are loaded and those stored to.
 fn is_struck(loaded: StoredWords, stored: StoredWords, watch: Watch) -> bool
-    ensures { result ≡ is_struck_told loaded stored watch }
+    ensures { result ≡ is_struck_shown loaded stored watch }
 {
     match watch.kind {
         WatchKind::Store => false,
@@ -202,7 +202,7 @@ fn is_struck(loaded: StoredWords, stored: StoredWords, watch: Watch) -> bool
 
 // Whether one of so many words has a byte of a range.
 fn reaches(words: StoredWords, range: ByteRange) -> bool
-    ensures { result ≡ reaches_told words range }
+    ensures { result ≡ reaches_shown words range }
 {
     let end = u64::from(words.at) + 4 * u64::from(words.count);
     u64::from(range.start) < end
@@ -241,7 +241,7 @@ fn push_seen(
 }
 
 fn byte_seen(map: &AddressMap, kind: WatchKind, address: u32) -> SeenByte
-    ensures { result ≡ byte_seen_told (bytes_of map.now) kind address }
+    ensures { result ≡ byte_seen_shown (bytes_of map.now) kind address }
 {
     SeenByte {
         place: WatchedPlace { kind, address },
@@ -259,7 +259,7 @@ fn loaded(map: &AddressMap, address: u32) -> Option<u8>
 }
 
 fn is_byte_changed(map: &AddressMap, seen: SeenByte) -> bool
-    ensures { result ≡ has_changed_told (bytes_of map.now) seen }
+    ensures { result ≡ has_changed_shown (bytes_of map.now) seen }
 {
     match (loaded(map, seen.place.address), seen.value) {
         (Some(now), Some(then)) => now != then,
@@ -271,7 +271,7 @@ fn is_byte_changed(map: &AddressMap, seen: SeenByte) -> bool
 /// The place of the first byte that is no longer as it was seen.
 #[tactic(auto, using(crate::proofs::WatchLemmas::changed_steps))]
 pub fn first_changed(map: &AddressMap, seen: &[SeenByte]) -> Option<WatchedPlace>
-    ensures { result ≡ changed_told (bytes_of map.now) seen.now }
+    ensures { result ≡ changed_shown (bytes_of map.now) seen.now }
 {
     for byte in seen {
         if is_byte_changed(map, *byte) {

@@ -137,7 +137,7 @@ packets_are_read r packet more stands are room =
     record {
       after = behind packet total;
       stands = refl;
-      told = refl;
+      reported = refl;
       heard_so = opening ∙ ap (heard (within [] 0)) parts ∙ inner
           ∙ ap (λ (x : List ℕ). heard (within packet total) (x ++ more)) last ∙ end;
     }

@@ -29,7 +29,7 @@ are_bytes bytes = list_all (λ b. nat_lt b 256) bytes
 pub record ReadAs (r : Reading) (packet more : List ℕ) : Type 0 where
   pub after : Reading
   pub stands : after.place ≡ place.Between
-  pub told : after.packet ≡ packet
+  pub reported : after.packet ≡ packet
   pub heard_so : heard r (packet_frame packet ++ more)
       ≡ record { piece = piece.Packet; packet = packet } ∷ heard after more
 

@@ -1,5 +1,5 @@
 -- The bytes of the other side, taken one after another: packets in frames, and between them `+` and
--- `-`, which answer a packet, and the byte 3, which asks for a stop. A packet is told at the second
+-- `-`, which answer a packet, and the byte 3, which asks for a stop. A packet is shown at the second
 -- digit of its sum; one that is longer than fits is spoilt.
 use Rattle.std.specs.Prelude.{ℕ, ◌+◌, ◌*◌, ◌%◌, ◌==◌, ◌&&◌, Bool, true, false, nat_lt, List, [], ◌∷◌, ◌++◌, length, Option, Some, None, if◌then◌else◌}
 use Rattle.gdb_packets.specs.declared.reader.Piece.{Piece}

@@ -48,7 +48,7 @@ pub data GdbRequest : Type 0 where
   MoreThreads : GdbRequest
   -- `qRcmd`, a line by pairs of digits
   Line : List ℕ → GdbRequest
-  -- `F`: what the other side answers to a call, and whether it tells of a Ctrl-C
+  -- `F`: what the other side answers to a call, and whether it reports a Ctrl-C
   HostAnswer : Bool → GdbRequest
   Detach : GdbRequest
   Kill : GdbRequest
@@ -84,8 +84,8 @@ behind_opening opening packet =
     if nat_le (length opening) (length packet) && bytes_eq (take (length opening) packet) opening
     then Some (drop (length opening) packet) else None
 
-abbrev pub if_told : Bool → GdbRequest → GdbRequest
-if_told told request = if told then request else Unknown
+abbrev pub if_shown : Bool → GdbRequest → GdbRequest
+if_shown reported request = if reported then request else Unknown
 
 -- `a,n`: an address, and how many bytes
 abbrev pub range_of_both : Option ℕ → Option ℕ → Option ByteRange
@@ -136,11 +136,13 @@ set_register_request (Some parts) = set_register_numbered (packet_number parts.b
 -- `a,n:` and what is stored
 abbrev pub store_pairs_request : Option PacketParts → GdbRequest
 store_pairs_request None = Unknown
-store_pairs_request (Some parts) = of_range (byte_range_of parts.before) (λ range. StorePairs range parts.behind)
+store_pairs_request (Some parts) = of_range (byte_range_of parts.before)
+    (λ range. StorePairs range parts.behind)
 
 abbrev pub store_bytes_request : Option PacketParts → GdbRequest
 store_bytes_request None = Unknown
-store_bytes_request (Some parts) = of_range (byte_range_of parts.before) (λ range. StoreBytes range parts.behind)
+store_bytes_request (Some parts) = of_range (byte_range_of parts.before)
+    (λ range. StoreBytes range parts.behind)
 
 -- `0` and `1` are breaks; watches are of stores, of loads, and of both
 abbrev pub point_kind : List ℕ → Option PointKind
@@ -151,7 +153,8 @@ point_kind text =
     if bytes_eq text (codes "3") then Some point.LoadWatch else (
     if bytes_eq text (codes "4") then Some point.AccessWatch else None))))
 
-abbrev pub point_of_kind : Option PointKind → Option ByteRange → (PointKind → ByteRange → GdbRequest) → GdbRequest
+abbrev pub point_of_kind : Option PointKind → Option ByteRange → (PointKind → ByteRange → GdbRequest) →
+    GdbRequest
 point_of_kind (Some kind) (Some range) request = request kind range
 point_of_kind (Some kind) None request = Unknown
 point_of_kind None range request = Unknown
@@ -159,7 +162,8 @@ point_of_kind None range request = Unknown
 -- `kind,a,n`
 abbrev pub point_request : Option PacketParts → (PointKind → ByteRange → GdbRequest) → GdbRequest
 point_request None request = Unknown
-point_request (Some parts) request = point_of_kind (point_kind parts.before) (byte_range_of parts.behind) request
+point_request (Some parts) request = point_of_kind (point_kind parts.before) (byte_range_of parts.behind)
+    request
 
 -- `nn` behind `C` or `S`
 abbrev pub of_signal : Option ℕ → (ℕ → GdbRequest) → GdbRequest
@@ -195,7 +199,7 @@ is_known_packet _ = true
 abbrev pub action_of : Option Bool → GdbRequest → GdbRequest
 action_of None action = Unknown
 action_of (Some true) action = action
-action_of (Some false) action = if_told (is_known_packet action) (Thread false)
+action_of (Some false) action = if_shown (is_known_packet action) (Thread false)
 
 -- an action, and `:` with a thread or not
 abbrev pub action_for_parts : Option PacketParts → List ℕ → GdbRequest
@@ -205,25 +209,25 @@ action_for_parts (Some parts) text = action_of (thread_in parts.behind) (action_
 abbrev pub action_for_thread : List ℕ → GdbRequest
 action_for_thread text = action_for_parts (parts_around 58 text) text
 
--- one action, or two, of which the first tells what the one thread does
+-- one action, or two, of which the first says what the one thread does
 abbrev pub actions_in : Option PacketParts → List ℕ → GdbRequest
 actions_in None text = action_for_thread text
 actions_in (Some parts) text =
-    if_told (is_known_packet (action_for_thread parts.behind)) (action_for_thread parts.before)
+    if_shown (is_known_packet (action_for_thread parts.behind)) (action_for_thread parts.before)
 
 abbrev pub actions_request : List ℕ → GdbRequest
 actions_request text = actions_in (parts_around 59 text) text
 
 abbrev pub host_answer_flagged : Option PacketParts → List ℕ → GdbRequest
-host_answer_flagged None text = if_told (is_some (packet_number text)) (HostAnswer false)
+host_answer_flagged None text = if_shown (is_some (packet_number text)) (HostAnswer false)
 host_answer_flagged (Some parts) text =
-    if_told (is_some (packet_number parts.before) && bytes_eq parts.behind (codes "C")) (HostAnswer true)
+    if_shown (is_some (packet_number parts.before) && bytes_eq parts.behind (codes "C")) (HostAnswer true)
 
 -- a result; behind a comma an error's number; behind another `C`
 abbrev pub host_answer_in : Option PacketParts → List ℕ → GdbRequest
-host_answer_in None text = if_told (is_call_result text) (HostAnswer false)
+host_answer_in None text = if_shown (is_call_result text) (HostAnswer false)
 host_answer_in (Some parts) text =
-    if_told (is_call_result parts.before) (host_answer_flagged (parts_around 44 parts.behind) parts.behind)
+    if_shown (is_call_result parts.before) (host_answer_flagged (parts_around 44 parts.behind) parts.behind)
 
 abbrev pub host_answer_request : List ℕ → GdbRequest
 host_answer_request text = host_answer_in (parts_around 44 text) text
@@ -231,7 +235,8 @@ host_answer_request text = host_answer_in (parts_around 44 text) text
 -- `g` or `c`, and a thread
 abbrev pub thread_request : List ℕ → GdbRequest
 thread_request [] = Unknown
-thread_request (letter ∷ thread) = if letter == 103 || letter == 99 then of_thread (thread_in thread) else Unknown
+thread_request (letter ∷ thread) = if letter == 103 || letter == 99 then of_thread (thread_in thread) else
+    Unknown
 
 -- `;` and the number of a process
 abbrev pub is_process : List ℕ → Bool
@@ -269,15 +274,15 @@ control_request letter rest =
     if letter == 72 then thread_request rest else (
     if letter == 84 then of_thread (thread_in rest) else (
     if letter == 70 then host_answer_request rest else (
-    if letter == 68 then if_told (is_process rest) Detach else (
-    if letter == 82 then if_told (is_some (packet_number rest)) Restart else Unknown))))))
+    if letter == 68 then if_shown (is_process rest) Detach else (
+    if letter == 82 then if_shown (is_some (packet_number rest)) Restart else Unknown))))))
 
-abbrev pub first_told : Option GdbRequest → GdbRequest → GdbRequest
-first_told (Some told) other = told
-first_told None other = other
+abbrev pub first_shown : Option GdbRequest → GdbRequest → GdbRequest
+first_shown (Some reported) other = reported
+first_shown None other = other
 
 abbrev pub lettered_request : ℕ → List ℕ → GdbRequest
-lettered_request letter rest = first_told (access_request letter rest) (control_request letter rest)
+lettered_request letter rest = first_shown (access_request letter rest) (control_request letter rest)
 
 -- packets that are words ..
 unfoldable pub whole_word_request : List ℕ → Option GdbRequest
@@ -292,15 +297,16 @@ whole_word_request packet =
 
 -- .. or begin with one
 abbrev pub kill_or_run : Option (List ℕ) → Option (List ℕ) → GdbRequest
-kill_or_run (Some number) run = if_told (is_some (packet_number number)) KillProgram
+kill_or_run (Some number) run = if_shown (is_some (packet_number number)) KillProgram
 kill_or_run None (Some words) = RunProgram
 kill_or_run None None = Unknown
 
 unfoldable pub about_process : List ℕ → GdbRequest
-about_process packet = kill_or_run (behind_opening (codes "vKill;") packet) (behind_opening (codes "vRun;") packet)
+about_process packet = kill_or_run (behind_opening (codes "vKill;") packet)
+    (behind_opening (codes "vRun;") packet)
 
 abbrev pub attachment_or : Option (List ℕ) → GdbRequest → GdbRequest
-attachment_or (Some number) other = if_told (is_some (packet_number number)) IsAttached
+attachment_or (Some number) other = if_shown (is_some (packet_number number)) IsAttached
 attachment_or None other = other
 
 unfoldable pub about_attachment : List ℕ → GdbRequest
@@ -340,7 +346,7 @@ unfoldable pub opened_request : List ℕ → GdbRequest
 opened_request packet = actions_or (behind_opening (codes "vCont;") packet) (about_target packet)
 
 unfoldable pub word_request : List ℕ → GdbRequest
-word_request packet = first_told (whole_word_request packet) (opened_request packet)
+word_request packet = first_shown (whole_word_request packet) (opened_request packet)
 
 -- `q`, `Q` and `v` begin words
 abbrev pub begins_word : ℕ → Bool

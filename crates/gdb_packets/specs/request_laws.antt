@@ -1,3 +1,3 @@
--- Which texts ask GDB's requests, told without a reader. Begin with Grammar.
+-- Which texts ask GDB's requests, stated without a reader. Begin with Grammar.
 pub mod Grammar
 pub mod Laws

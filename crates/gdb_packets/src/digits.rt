@@ -1,19 +1,19 @@
 //! Hexadecimal digits.
 
 ghost use Rattle.std.specs.Prelude.{◌≡◌, ◌<◌};
-ghost use Rattle.gdb_packets.specs.Digits.{digit as digit_told, digit_value as value_told};
+ghost use Rattle.gdb_packets.specs.Digits.{digit as digit_shown, digit_value as value_shown};
 
 /// The digit of a value below 16, in small letters.
 pub(crate) fn digit(value: u8) -> u8
     requires { value < 16 }
-    ensures { result ≡ digit_told value }
+    ensures { result ≡ digit_shown value }
 {
     if value < 10 { value + 48 } else { value + 87 }
 }
 
 /// The value of a digit in either case.
 pub(crate) fn digit_value(digit: u8) -> Option<u8>
-    ensures { result ≡ value_told digit }
+    ensures { result ≡ value_shown digit }
 {
     match digit {
         b'0'..=b'9' => Some(digit - 48),

@@ -2,7 +2,7 @@
 
 ghost use Rattle.std.specs.Prelude.{◌≡◌, IfOk};
 ghost use Rattle.profile.specs.Output.{Writes};
-ghost use Rattle.gdb_packets.specs.Frames.{check_sum, packet_frame, is_escaped as is_escaped_told, sent_byte, sent_bytes, turned_byte as turned_told};
+ghost use Rattle.gdb_packets.specs.Frames.{check_sum, packet_frame, is_escaped as is_escaped_shown, sent_byte, sent_bytes, turned_byte as turned_shown};
 
 use crate::digits::digit;
 use profile::{Sink, WriteFault, push_all};
@@ -44,14 +44,14 @@ fn push_byte<W: Sink>(sink: &mut W, byte: u8) -> Result<u8, WriteFault>
 }
 
 fn is_escaped(byte: u8) -> bool
-    ensures { result ≡ is_escaped_told byte }
+    ensures { result ≡ is_escaped_shown byte }
 {
     byte == b'#' || byte == b'$' || byte == b'*' || byte == b'}'
 }
 
 /// A byte with bit 5 turned.
 pub(crate) fn turned_byte(byte: u8) -> u8
-    ensures { result ≡ turned_told byte }
+    ensures { result ≡ turned_shown byte }
 {
     if byte / 32 % 2 == 1 {
         byte - 32

@@ -2,7 +2,7 @@
 
 ghost use Rattle.std.specs.Prelude.{◌≡◌};
 ghost use Rattle.gdb_packets.specs.Digits.{digit_value};
-ghost use Rattle.gdb_packets.specs.Numbers.{packet_number, with_digit as with_digit_told};
+ghost use Rattle.gdb_packets.specs.Numbers.{packet_number, with_digit as with_digit_shown};
 
 use crate::digits::digit_value;
 
@@ -24,7 +24,7 @@ pub(crate) fn number_of(text: &[u8]) -> Option<u32>
 
 // A number with one more digit behind it, where it stays below 2^32.
 fn with_digit(value: u32, digit: Option<u8>) -> Option<u32>
-    ensures { result ≡ with_digit_told value digit }
+    ensures { result ≡ with_digit_shown value digit }
 {
     let digit = digit?;
     value.checked_mul(16)?.checked_add(u32::from(digit))

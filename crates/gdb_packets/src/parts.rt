@@ -2,7 +2,7 @@
 
 ghost use Rattle.std.specs.Prelude.{◌≡◌, ◌==◌, option_map};
 ghost use Rattle.std.specs.List.{position};
-ghost use Rattle.gdb_packets.specs.Requests.{PacketParts, behind_opening as behind_told, is_call_result as is_result_told, thread_in, parts_around as parted_told, parts_of, byte_range_of as range_told};
+ghost use Rattle.gdb_packets.specs.Requests.{PacketParts, behind_opening as behind_shown, is_call_result as is_result_shown, thread_in, parts_around as parted_shown, parts_of, byte_range_of as range_shown};
 
 use crate::numbers::number_of;
 use crate::requests::ByteRange;
@@ -18,7 +18,7 @@ pub(crate) struct PartedText<'a> {
 
 /// What stands before the first separator and behind it, where there is one.
 pub(crate) fn parts_around(separator: u8, text: &[u8]) -> Option<PartedText<'_>>
-    ensures { option_map parts_of result ≡ parted_told separator text.now }
+    ensures { option_map parts_of result ≡ parted_shown separator text.now }
 {
     match place_of(separator, text) {
         Some(place) => Some(PartedText {
@@ -37,7 +37,7 @@ fn place_of(separator: u8, text: &[u8]) -> Option<usize>
 
 /// What follows an opening.
 pub(crate) fn behind_opening<'a>(opening: &[u8], packet: &'a [u8]) -> Option<&'a [u8]>
-    ensures { option_map (λ text. text.now) result ≡ behind_told opening.now packet.now }
+    ensures { option_map (λ text. text.now) result ≡ behind_shown opening.now packet.now }
 {
     if packet.len() >= opening.len() && &packet[..opening.len()] == opening {
         Some(&packet[opening.len()..])
@@ -48,7 +48,7 @@ pub(crate) fn behind_opening<'a>(opening: &[u8], packet: &'a [u8]) -> Option<&'a
 
 /// `a,n`: an address, and how many bytes.
 pub(crate) fn byte_range_of(text: &[u8]) -> Option<ByteRange>
-    ensures { result ≡ range_told text.now }
+    ensures { result ≡ range_shown text.now }
 {
     let parts = parts_around(b',', text)?;
     match (number_of(parts.before), number_of(parts.behind)) {
@@ -57,9 +57,9 @@ pub(crate) fn byte_range_of(text: &[u8]) -> Option<ByteRange>
     }
 }
 
-/// Whether a text tells what a call came to: a number, or `-1`.
+/// Whether a text says what a call came to: a number, or `-1`.
 pub(crate) fn is_call_result(text: &[u8]) -> bool
-    ensures { result ≡ is_result_told text.now }
+    ensures { result ≡ is_result_shown text.now }
 {
     number_of(text).is_some() || text == b"-1".as_slice()
 }

@@ -93,7 +93,7 @@ pub enum Request<'a> {
     MoreThreads,
     /// `qRcmd`: a line of the user's, by pairs of digits.
     Line(&'a [u8]),
-    /// `F`: the answer to a call of the other side's, and whether it tells of a Ctrl-C.
+    /// `F`: the answer to a call of the other side's, and whether it reports a Ctrl-C.
     HostAnswer(bool),
     /// `D`: the debugger goes.
     Detach,
@@ -105,7 +105,7 @@ pub enum Request<'a> {
     Extended,
     /// `R`: the program begins anew.
     Restart,
-    /// `vRun`: the program begins anew, and its first stop is told.
+    /// `vRun`: the program begins anew, and its first stop is shown.
     RunProgram,
     /// Anything else.
     Unknown,

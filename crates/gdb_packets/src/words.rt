@@ -113,7 +113,7 @@ fn about_process(packet: &[u8]) -> Request<'static>
     }
 }
 
-// One action, or two, of which the first tells what the one thread does.
+// One action, or two, of which the first says what the one thread does.
 fn actions_request(text: &[u8]) -> Request<'static>
     ensures { gdb_request result ≡ actions_request text.now }
 {

@@ -11,18 +11,18 @@ use Rattle.std.specs.Io.KnownBytes.{Appends}
 use Rattle.profile.specs.Output.{AddsAllBut, AddsFront, AddsPart}
 use Rattle.profile.proofs.OutputLemmas.{AddsAllBut-more, AddsAllBut-start, Appends-from_all_but, Appends-nothing}
 use Rattle.gdb_server.specs.Server.{IsServed}
-use Rattle.gdb_server.specs.Serving.{ServerState, Served, byte_served, bytes_served, piece_served, stop_served, then_served, text_packet, text_packets, told_packets}
-use Rattle.debug_session.specs.declared.session.DebugSetting.{DebugSetting}
+use Rattle.gdb_server.specs.Serving.{ServerState, Served, byte_served, bytes_served, piece_served, stop_served, then_served, text_packet, text_packets, shown_packets}
+use Rattle.debug_session.specs.declared.session.DebugSettings.{DebugSettings}
 use Rattle.debug_session.proofs.FailLemmas.{front_then}
 
-served_cons : (setting : DebugSetting) (start : List ℕ) (byte : ℕ) (bytes : List ℕ) (s : ServerState) → s.session.has_ended ≡ false
+served_cons : (setting : DebugSettings) (start : List ℕ) (byte : ℕ) (bytes : List ℕ) (s : ServerState) → s.session.has_ended ≡ false
     → bytes_served setting start (byte ∷ bytes) s
     ≡ then_served (byte_served setting start s byte) (bytes_served setting start bytes)
 unfolding bytes_served
 served_cons setting start byte bytes s goes = rw goes refl
 
 -- one more byte
-pub served_more : (setting : DebugSetting) (start bytes : List ℕ) (i : ℕ) (s : ServerState) → i < length bytes → s.session.has_ended ≡ false
+pub served_more : (setting : DebugSettings) (start bytes : List ℕ) (i : ℕ) (s : ServerState) → i < length bytes → s.session.has_ended ≡ false
     → bytes_served setting start (drop i bytes) s
     ≡ then_served (byte_served setting start s (get_or bytes i 0)) (bytes_served setting start (drop (i + 1) bytes))
 served_more setting start bytes i s below goes =
@@ -32,19 +32,19 @@ served_more setting start bytes i s below goes =
     ∙ ap (λ (n : ℕ). then_served (byte_served setting start s (get_or bytes i 0)) (bytes_served setting start (drop n bytes))) next
 
 -- the session has ended, or there is no more byte
-pub served_ended : (setting : DebugSetting) (start bytes : List ℕ) (s : ServerState) → s.session.has_ended ≡ true
+pub served_ended : (setting : DebugSettings) (start bytes : List ℕ) (s : ServerState) → s.session.has_ended ≡ true
     → bytes_served setting start bytes s ≡ record { state = s; text = [] }
 unfolding bytes_served
 served_ended setting start [] s ended = refl
 served_ended setting start (byte ∷ bytes) s ended = rw ended refl
 
-pub served_none : (setting : DebugSetting) (start bytes : List ℕ) (s : ServerState) → bytes ≡ []
+pub served_none : (setting : DebugSettings) (start bytes : List ℕ) (s : ServerState) → bytes ≡ []
     → bytes_served setting start bytes s ≡ record { state = s; text = [] }
 unfolding bytes_served
 served_none setting start bytes s none = rw none refl
 
 -- pieces, one after another
-pub served_append : (setting : DebugSetting) (start first next : List ℕ) (s : ServerState)
+pub served_append : (setting : DebugSettings) (start first next : List ℕ) (s : ServerState)
     → bytes_served setting start (first ++ next) s
     ≡ then_served (bytes_served setting start first s) (bytes_served setting start next)
 served_append setting start [] next s =
@@ -67,19 +67,19 @@ served_append setting start (byte ∷ more) next s = elim (cases_Bool s.session.
       ∙ sym (ap (λ (all : Served). then_served all (bytes_served setting start next)) (served_cons setting start byte more s goes)))
 ]
 
-told_suc : (n : ℕ) (text : List ℕ) → text_packets (suc n) text ≡ text_packet (take 1024 text) ++ text_packets n (drop 1024 text)
+shown_suc : (n : ℕ) (text : List ℕ) → text_packets (suc n) text ≡ text_packet (take 1024 text) ++ text_packets n (drop 1024 text)
 unfolding text_packets
-told_suc n text = refl
+shown_suc n text = refl
 
-told_zero : (text : List ℕ) → text_packets 0 text ≡ []
+shown_zero : (text : List ℕ) → text_packets 0 text ≡ []
 unfolding text_packets
-told_zero text = refl
+shown_zero text = refl
 
 -- the first packet of a text, and those of the rest
-pub told_more : (t front back : List ℕ) (mid : ℕ) → 0 < length t → mid ≡ min (length t) 1024 → front ≡ take mid t → back ≡ drop mid t
-    → length back + mid ≡ length t → told_packets t ≡ text_packet front ++ told_packets back
-unfolding told_packets
-told_more t front back mid some is begins ends counts =
+pub shown_more : (t front back : List ℕ) (mid : ℕ) → 0 < length t → mid ≡ min (length t) 1024 → front ≡ take mid t → back ≡ drop mid t
+    → length back + mid ≡ length t → shown_packets t ≡ text_packet front ++ shown_packets back
+unfolding shown_packets
+shown_more t front back mid some is begins ends counts =
     let order : mid ≡ min 1024 (length t) = omega arith in
     let first : front ≡ take 1024 t = begins ∙ ap (λ (n : ℕ). take n t) order ∙ take_min 1024 t in
     elim (cases_lt 1024 (length t)) [
@@ -87,24 +87,24 @@ told_more t front back mid some is begins ends counts =
           (let whole : mid ≡ 1024 = omega arith in
           let rest : back ≡ drop 1024 t = ends ∙ ap (λ (n : ℕ). drop n t) whole in
           let count : (length t + 1023) / 1024 ≡ suc ((length back + 1023) / 1024) = omega (arith, counts, whole) in
-          ap (λ (n : ℕ). text_packets n t) count ∙ told_suc ((length back + 1023) / 1024) t
+          ap (λ (n : ℕ). text_packets n t) count ∙ shown_suc ((length back + 1023) / 1024) t
           ∙ ap (λ (x : List ℕ). text_packet x ++ text_packets ((length back + 1023) / 1024) (drop 1024 t)) (sym first)
           ∙ ap (λ (x : List ℕ). text_packet front ++ text_packets ((length back + 1023) / 1024) x) (sym rest))
       | inr short ↦
           (let whole : mid ≡ length t = omega arith in
           let one : (length t + 1023) / 1024 ≡ suc 0 = omega (arith, some, short) in
           let none : (length back + 1023) / 1024 ≡ 0 = omega (arith, counts, whole) in
-          ap (λ (n : ℕ). text_packets n t) one ∙ told_suc 0 t
+          ap (λ (n : ℕ). text_packets n t) one ∙ shown_suc 0 t
           ∙ ap (λ (x : List ℕ). text_packet x ++ text_packets 0 (drop 1024 t)) (sym first)
           ∙ ap (λ (y : List ℕ). text_packet front ++ y)
-          (told_zero (drop 1024 t) ∙ sym (ap (λ (n : ℕ). text_packets n back) none ∙ told_zero back)))
+          (shown_zero (drop 1024 t) ∙ sym (ap (λ (n : ℕ). text_packets n back) none ∙ shown_zero back)))
     ]
 
-pub told_none : (t : List ℕ) → length t ≡ 0 → told_packets t ≡ []
-unfolding told_packets
-told_none t empty =
+pub shown_none : (t : List ℕ) → length t ≡ 0 → shown_packets t ≡ []
+unfolding shown_packets
+shown_none t empty =
     let none : (length t + 1023) / 1024 ≡ 0 = omega (arith, empty) in
-    ap (λ (n : ℕ). text_packets n t) none ∙ told_zero t
+    ap (λ (n : ℕ). text_packets n t) none ∙ shown_zero t
 
 -- a front of a text is one of a longer text
 pub front_of_more : (a b : Option (List ℕ)) (piece more : List ℕ) → AddsFront a b piece → AddsFront a b (piece ++ more)
@@ -121,7 +121,7 @@ pub front_of_part : (a b : Option (List ℕ)) (text : List ℕ) → AddsPart a b
 front_of_part a b text part = record { rest = part.missing; front = part.front }
 
 -- the byte 3
-pub byte_stops : (setting : DebugSetting) (start : List ℕ) (s : ServerState) (reading : Reading) (byte : ℕ)
+pub byte_stops : (setting : DebugSettings) (start : List ℕ) (s : ServerState) (reading : Reading) (byte : ℕ)
     → Some piece.Stop ≡ (byte_taken s.reading byte).piece → reading ≡ (byte_taken s.reading byte).now
     → stop_served (record s { reading = reading }) (is_some s.session.going) ≡ byte_served setting start s byte
 byte_stops setting start s reading byte stops read =
@@ -134,7 +134,7 @@ pub stands_served : (s : ServerState) (x : Option (List ℕ)) → is_some s.sess
 stands_served s x still =
     subst (λ (b : Bool). IsServed x x s (stop_served s b)) (sym still) (record { text = Appends-nothing x; state = refl })
 
-pub ends_served : (setting : DebugSetting) (start bytes : List ℕ) (s : ServerState) (before here : Option (List ℕ)) (all : Served)
+pub ends_served : (setting : DebugSettings) (start bytes : List ℕ) (s : ServerState) (before here : Option (List ℕ)) (all : Served)
     → AddsAllBut before here (bytes_served setting start bytes s).text all.text → (bytes_served setting start bytes s).state ≡ all.state
     → bytes_served setting start bytes s ≡ record { state = s; text = [] } → IsServed before here s all
 ends_served setting start bytes s before here all text state none = record {

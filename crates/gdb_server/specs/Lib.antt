@@ -1,7 +1,7 @@
 -- What GDB's bytes are answered with. Begin with Serving.
 pub use Rattle.command_shell.specs.declared.error.RunError
 pub use Rattle.debug_session.specs.DebugState
-pub use Rattle.debug_session.specs.declared.session.DebugSetting
+pub use Rattle.debug_session.specs.declared.session.DebugSettings
 pub mod Serving
 pub mod Server
 pub mod Laws

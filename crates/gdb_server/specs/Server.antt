@@ -16,6 +16,6 @@ server_state s images = record {
 
 -- A writer and a server after some bytes: what was written is their answer, and the server stands in
 -- its state.
-pub record IsServed (before after : Option (List ℕ)) (now : ServerState) (told : Served) : Type 0 where
-  pub text : Appends before after told.text
-  pub state : now ≡ told.state
+pub record IsServed (before after : Option (List ℕ)) (now : ServerState) (reported : Served) : Type 0 where
+  pub text : Appends before after reported.text
+  pub state : now ≡ reported.state

@@ -4,7 +4,7 @@ ghost use Rattle.std.specs.Prelude.{◌≡◌, ◌++◌, true, [], List, IfErr, 
 ghost use Rattle.command_shell.specs.Error.{IsLineError};
 ghost use Rattle.profile.specs.Output.{AddsFront, Writes};
 ghost use Rattle.std.specs.Io.KnownBytes.{Appends};
-ghost use Rattle.gdb_server.specs.Serving.{ack_text, told_packets, text_packet, reply_packet, spoilt_text, is_taken_so, keeps_acks as keeps_acks_told};
+ghost use Rattle.gdb_server.specs.Serving.{ack_text, shown_packets, text_packet, reply_packet, spoilt_text, is_taken_so, keeps_acks as keeps_acks_shown};
 ghost use Rattle.gdb_packets.specs.Requests.{gdb_request};
 ghost use Rattle.std.specs.Option.{option_map};
 
@@ -77,7 +77,7 @@ impl GdbServer {
         sink: &mut W,
         bytes: &[u8],
     ) -> Result<(), RunError>
-        ensures told { OnOk result (IsServed (W.contents sink.old) (W.contents sink.new)
+        ensures reported { OnOk result (IsServed (W.contents sink.old) (W.contents sink.new)
             (server_state self.new images.new)
             (bytes_served self.old.session.debug.setting self.old.session.start.items
             bytes.now (server_state self.old images.old))) }
@@ -104,7 +104,7 @@ impl GdbServer {
         sink: &mut W,
         byte: u8,
     ) -> Result<(), RunError>
-        ensures told { OnOk result (IsServed (W.contents sink.old) (W.contents sink.new)
+        ensures reported { OnOk result (IsServed (W.contents sink.old) (W.contents sink.new)
             (server_state self.new images.new)
             (byte_served self.old.session.debug.setting self.old.session.start.items
             (server_state self.old images.old) byte)) }
@@ -127,7 +127,7 @@ impl GdbServer {
 
     // A packet that came spoilt is taken as it is where nobody asks for it again, unless it is too long.
     fn take_spoilt<W: Sink>(&mut self, images: &mut Images, sink: &mut W) -> Result<(), RunError>
-        ensures told { OnOk result (IsServed (W.contents sink.old) (W.contents sink.new)
+        ensures reported { OnOk result (IsServed (W.contents sink.old) (W.contents sink.new)
             (server_state self.new images.new)
             (spoilt_served self.old.session.debug.setting self.old.session.start.items
             (server_state self.old images.old) (is_taken_so self.old.has_acks self.old.reader.fits))) }
@@ -148,7 +148,7 @@ impl GdbServer {
 
     // The byte 3: a run that is under way stops at once.
     fn take_stop<W: Sink>(&mut self, sink: &mut W) -> Result<(), RunError>
-        ensures told { (images : List Entry) → OnOk result
+        ensures reported { (images : List Entry) → OnOk result
             (IsServed (W.contents sink.old) (W.contents sink.new)
             (server_state self.new images)
             (stop_served (server_state self.old images)
@@ -186,7 +186,7 @@ impl GdbServer {
     }
 
     fn take_packet<W: Sink>(&mut self, images: &mut Images, sink: &mut W) -> Result<(), RunError>
-        ensures told { OnOk result (IsServed (W.contents sink.old) (W.contents sink.new)
+        ensures reported { OnOk result (IsServed (W.contents sink.old) (W.contents sink.new)
             (server_state self.new images.new)
             (packet_served self.old.session.debug.setting self.old.session.start.items
             (server_state self.old images.old))) }
@@ -238,7 +238,7 @@ impl GdbServer {
 
     // A packet that came spoilt: it is asked for again, or where nobody asks so, refused.
     fn refuse<W: Sink>(&self, sink: &mut W) -> Result<(), WriteFault>
-        ensures told { Writes W.contents W.has_failed sink.old sink.new result
+        ensures reported { Writes W.contents W.has_failed sink.old sink.new result
             (spoilt_text self.now.has_acks) }
         ensures front { OnErr result
             (AddsFront (W.contents sink.old) (W.contents sink.new) (spoilt_text self.now.has_acks)) }
@@ -260,7 +260,7 @@ fn is_taken_so(has_acks: bool, is_whole: bool) -> bool
 
 // Whether `+` and `-` are sent after a request too.
 fn keeps_acks(request: &Request<'_>) -> bool
-    ensures { result ≡ keeps_acks_told (gdb_request request.now) }
+    ensures { result ≡ keeps_acks_shown (gdb_request request.now) }
 {
     !matches!(request, Request::NoAcks)
 }
@@ -271,13 +271,13 @@ pub(crate) fn push_answer<W: Sink>(
     sink: &mut W,
     answer: &GdbAnswer,
 ) -> Result<(), RunError>
-    ensures told { OnOk result (Appends (W.contents sink.old) (W.contents sink.new)
-        (told_packets answer.now.told.items
+    ensures reported { OnOk result (Appends (W.contents sink.old) (W.contents sink.new)
+        (shown_packets answer.now.reported.items
         ++ reply_packet (option_map (λ reply. reply.items) answer.now.reply))) }
     ensures same_flag { OnOk result (W.has_failed sink.new ≡ W.has_failed sink.old) }
     ensures errors { IfErr result IsLineError }
 {
-    push_told(alloc, sink, answer.told.as_slice())?;
+    push_shown(alloc, sink, answer.reported.as_slice())?;
     match &answer.reply {
         Some(reply) => Ok(push_packet(sink, reply.as_slice())?),
         None => Ok(()),
@@ -285,8 +285,9 @@ pub(crate) fn push_answer<W: Sink>(
 }
 
 // Text for the user, in packets that begin with `O`.
-fn push_told<W: Sink>(alloc: Global, sink: &mut W, text: &[u8]) -> Result<(), RunError>
-    ensures told { OnOk result (Appends (W.contents sink.old) (W.contents sink.new) (told_packets text.now)) }
+fn push_shown<W: Sink>(alloc: Global, sink: &mut W, text: &[u8]) -> Result<(), RunError>
+    ensures reported { OnOk result (Appends (W.contents sink.old) (W.contents sink.new)
+        (shown_packets text.now)) }
     ensures errors { IfErr result IsLineError }
     ensures same_flag { OnOk result (W.has_failed sink.new ≡ W.has_failed sink.old) }
 {
@@ -300,7 +301,8 @@ fn push_told<W: Sink>(alloc: Global, sink: &mut W, text: &[u8]) -> Result<(), Ru
 }
 
 fn push_text<W: Sink>(alloc: Global, sink: &mut W, text: &[u8]) -> Result<(), RunError>
-    ensures told { OnOk result (Appends (W.contents sink.old) (W.contents sink.new) (text_packet text.now)) }
+    ensures reported { OnOk result (Appends (W.contents sink.old) (W.contents sink.new)
+        (text_packet text.now)) }
     ensures errors { IfErr result IsLineError }
     ensures same_flag { OnOk result (W.has_failed sink.new ≡ W.has_failed sink.old) }
 {

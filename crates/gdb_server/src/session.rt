@@ -18,4 +18,4 @@ pub use laws::{
     looking_changes_nothing, looking_lines_leave_the_machine, registers_are_read,
     slices_are_one_run, writes_are_whole,
 };
-pub use session::{GdbAnswer, GdbSession, GdbSetting, Going};
+pub use session::{GdbAnswer, GdbSession, GdbSettings, Going};

@@ -7,7 +7,7 @@ use Rattle.std.proofs.lemmas.Option.{none-some}
 use Rattle.gdb_packets.specs.Digits.{digit_value}
 use Rattle.gdb_packets.specs.Numbers.{packet_number}
 use Rattle.gdb_packets.specs.Requests as request
-use Rattle.gdb_packets.specs.Requests.{GdbRequest, PacketParts, action_for_parts, action_for_thread, action_of, action_request, actions_in, actions_request, byte_range_of, host_answer_flagged, host_answer_in, host_answer_request, if_told, is_call_result, is_known_packet, of_signal, parts_around, places_of_both, places_request, point_kind, point_of_kind, point_request, range_of_both, range_of_parts, set_register_request, store_bytes_request, store_pairs_request, thread_in, thread_numbered}
+use Rattle.gdb_packets.specs.Requests.{GdbRequest, PacketParts, action_for_parts, action_for_thread, action_of, action_request, actions_in, actions_request, byte_range_of, host_answer_flagged, host_answer_in, host_answer_request, if_shown, is_call_result, is_known_packet, of_signal, parts_around, places_of_both, places_request, point_kind, point_of_kind, point_request, range_of_both, range_of_parts, set_register_request, store_bytes_request, store_pairs_request, thread_in, thread_numbered}
 use Rattle.gdb_packets.specs.declared.requests.ByteRange.{ByteRange}
 use Rattle.gdb_packets.specs.declared.requests.PlaceRange.{PlaceRange}
 use Rattle.gdb_packets.specs.declared.requests.PointKind.{PointKind}
@@ -176,7 +176,7 @@ other_read text p =
     let a = p.first in
     ap (λ (o : Option PacketParts). action_for_parts o text) (parts_read 58 text p (action_free 58 a.action p.before colon a.kind))
     ∙ ap (λ (o : Option Bool). action_of o (action_request p.before)) (thread_read false p.behind p.second)
-    ∙ ap (λ (b : Bool). if_told b (request.Thread false))
+    ∙ ap (λ (b : Bool). if_shown b (request.Thread false))
     (ap is_known_packet (action_read a.action p.before a.kind) ∙ action_known a.action p.before a.kind)
 
 for_thread_read : (r : GdbRequest) (text : List ℕ) → IsForThread r text → action_for_thread text ≡ r
@@ -216,19 +216,19 @@ actions_read r text (inl action) =
     ∙ for_thread_read r text action
 actions_read r text (inr p) =
     ap (λ (o : Option PacketParts). actions_in o text) (parts_read 59 text p (for_thread_free r p.before p.first))
-    ∙ ap (λ (b : Bool). if_told b (action_for_thread p.before)) (any_known p.behind p.second) ∙ for_thread_read r p.before p.first
+    ∙ ap (λ (b : Bool). if_shown b (action_for_thread p.before)) (any_known p.behind p.second) ∙ for_thread_read r p.before p.first
 
 -- WHAT CALLS CAME TO
 
 pub call_end_read : (text : List ℕ) → IsCallEnd text → host_answer_request text ≡ request.HostAnswer false
 call_end_read text (inl result) =
     ap (λ (o : Option PacketParts). host_answer_in o text) (parts_none 44 text (result_free 44 text refl refl result))
-    ∙ ap (λ (b : Bool). if_told b (request.HostAnswer false)) (result_read text result)
+    ∙ ap (λ (b : Bool). if_shown b (request.HostAnswer false)) (result_read text result)
 call_end_read text (inr p) =
     ap (λ (o : Option PacketParts). host_answer_in o text) (parts_read 44 text p (result_free 44 p.before refl refl p.first))
-    ∙ ap (λ (b : Bool). if_told b (host_answer_flagged (parts_around 44 p.behind) p.behind)) (result_read p.before p.first)
+    ∙ ap (λ (b : Bool). if_shown b (host_answer_flagged (parts_around 44 p.behind) p.behind)) (result_read p.before p.first)
     ∙ ap (λ (o : Option PacketParts). host_answer_flagged o p.behind) (parts_none 44 p.behind (some_free 44 p.behind refl p.second))
-    ∙ ap (λ (b : Bool). if_told b (request.HostAnswer false)) p.second
+    ∙ ap (λ (b : Bool). if_shown b (request.HostAnswer false)) p.second
 
 flag_read : (text : List ℕ) → Parted 44 HasNumber (Is (codes "C")) text
     → host_answer_flagged (parts_around 44 text) text ≡ request.HostAnswer true
@@ -239,5 +239,5 @@ flag_read text p =
 pub call_stopped_read : (text : List ℕ) → IsCallStopped text → host_answer_request text ≡ request.HostAnswer true
 call_stopped_read text p =
     ap (λ (o : Option PacketParts). host_answer_in o text) (parts_read 44 text p (result_free 44 p.before refl refl p.first))
-    ∙ ap (λ (b : Bool). if_told b (host_answer_flagged (parts_around 44 p.behind) p.behind)) (result_read p.before p.first)
+    ∙ ap (λ (b : Bool). if_shown b (host_answer_flagged (parts_around 44 p.behind) p.behind)) (result_read p.before p.first)
     ∙ flag_read p.behind p.second

@@ -2,7 +2,7 @@
 use Rattle.std.proofs.Common.{◌≡◌, ◌<◌, ◌⊎◌, inl, inr, ℕ, Bool, true, false, List, [], ◌∷◌, ◌++◌, length, refl, ap, sym, subst, ◌∙◌, arith}
 use Rattle.std.specs.Prelude.{Option, None, codes, take}
 use Rattle.gdb_packets.specs.Requests as request
-use Rattle.gdb_packets.specs.Requests.{GdbRequest, about_attachment, about_libraries, about_process, about_session, about_target, actions_or, attachment_or, begins_word, byte_range_of, if_told, kill_or_run, lettered_request, libraries_or, line_or_description, of_range, of_signal, of_thread, opened_request, packet_request, register_request, supported_or, whole_word_request, word_request}
+use Rattle.gdb_packets.specs.Requests.{GdbRequest, about_attachment, about_libraries, about_process, about_session, about_target, actions_or, attachment_or, begins_word, byte_range_of, if_shown, kill_or_run, lettered_request, libraries_or, line_or_description, of_range, of_signal, of_thread, opened_request, packet_request, register_request, supported_or, whole_word_request, word_request}
 use Rattle.gdb_packets.specs.declared.requests.ByteRange.{ByteRange}
 use Rattle.std.specs.Str.{bytes_eq}
 use Rattle.gdb_packets.specs.request_laws.Grammar.{AsksFor, Behind, HasNumber, Is, IsAboutThread, IsCallEnd, IsGoing, IsNumber, IsRange, IsSignalled, IsThread}
@@ -129,7 +129,7 @@ unfolding about_attachment
 attachment_opened rest number = let packet = codes "qAttached:" ++ rest in
     opens_attachment rest ∙ past_actions packet refl ∙ past_target packet refl refl ∙ past_libraries packet refl ∙ past_session packet refl
     ∙ ap (λ (o : Option (List ℕ)). attachment_or o (about_process packet)) (behind_found (codes "qAttached:") rest)
-    ∙ ap (λ (b : Bool). if_told b request.IsAttached) number
+    ∙ ap (λ (b : Bool). if_shown b request.IsAttached) number
 
 kill_opened : (rest : List ℕ) → HasNumber rest → packet_request (codes "vKill;" ++ rest) ≡ request.KillProgram
 unfolding about_process
@@ -137,7 +137,7 @@ kill_opened rest number = let packet = codes "vKill;" ++ rest in
     opens_kill rest ∙ past_actions packet refl ∙ past_target packet refl refl ∙ past_libraries packet refl ∙ past_session packet refl
     ∙ past_attachment packet refl
     ∙ ap (λ (o : Option (List ℕ)). kill_or_run o (request.behind_opening (codes "vRun;") packet)) (behind_found (codes "vKill;") rest)
-    ∙ ap (λ (b : Bool). if_told b request.KillProgram) number
+    ∙ ap (λ (b : Bool). if_shown b request.KillProgram) number
 
 run_opened : (rest : List ℕ) → packet_request (codes "vRun;" ++ rest) ≡ request.RunProgram
 unfolding about_process
@@ -223,7 +223,7 @@ of_another text (inr going_on) = going (request.Thread false) text going_on
 detaches : (text : List ℕ) → Is (codes "D") text ⊎ Behind (codes "D;") HasNumber text → packet_request text ≡ request.Detach
 detaches text (inl is) = alone text (codes "D") request.Detach is (lone 68)
 detaches text (inr b) = ap packet_request b.whole ∙ lettered 68 (59 ∷ b.rest) (omega arith) refl
-    ∙ ap (λ (n : Bool). if_told n request.Detach) b.kind
+    ∙ ap (λ (n : Bool). if_shown n request.Detach) b.kind
 
 attaches : (text : List ℕ) → Is (codes "qAttached") text ⊎ Behind (codes "qAttached:") HasNumber text → packet_request text ≡ request.IsAttached
 attaches text (inl is) = alone text (codes "qAttached") request.IsAttached is attached_read
@@ -297,6 +297,6 @@ reads request.Detach text asks = detaches text asks
 reads request.Kill text is = alone text (codes "k") request.Kill is (lone 107)
 reads request.KillProgram text b = ap packet_request b.whole ∙ kill_opened b.rest b.kind
 reads request.Extended text is = alone text (codes "!") request.Extended is (lone 33)
-reads request.Restart text b = behind_letter 82 HasNumber text b (some_long b.rest b.kind) refl ∙ ap (λ (n : Bool). if_told n request.Restart) b.kind
+reads request.Restart text b = behind_letter 82 HasNumber text b (some_long b.rest b.kind) refl ∙ ap (λ (n : Bool). if_shown n request.Restart) b.kind
 reads request.RunProgram text b = ap packet_request b.whole ∙ run_opened b.rest
 reads request.Unknown text none = absurd none

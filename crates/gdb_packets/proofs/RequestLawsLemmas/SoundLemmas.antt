@@ -6,7 +6,7 @@ use Rattle.std.specs.Prelude.{Option, Some, None, is_some, nat_le, ◌==◌, cod
 use Rattle.std.specs.Str.{bytes_eq}
 use Rattle.gdb_packets.specs.Numbers.{packet_number}
 use Rattle.gdb_packets.specs.Requests as request
-use Rattle.gdb_packets.specs.Requests.{GdbRequest, PacketParts, byte_range_of, control_request, first_told, host_answer_flagged, host_answer_in, host_answer_request, if_told, is_call_result, is_process, lettered_request, lone_request, of_range, of_signal, of_thread, parts_around, point_kind, point_of_kind, point_request, range_of_both, range_of_parts, register_request, set_register_numbered, set_register_request, store_bytes_request, store_pairs_request, thread_in, thread_numbered, thread_request}
+use Rattle.gdb_packets.specs.Requests.{GdbRequest, PacketParts, byte_range_of, control_request, first_shown, host_answer_flagged, host_answer_in, host_answer_request, if_shown, is_call_result, is_process, lettered_request, lone_request, of_range, of_signal, of_thread, parts_around, point_kind, point_of_kind, point_request, range_of_both, range_of_parts, register_request, set_register_numbered, set_register_request, store_bytes_request, store_pairs_request, thread_in, thread_numbered, thread_request}
 use Rattle.gdb_packets.specs.declared.requests.ByteRange.{ByteRange}
 use Rattle.gdb_packets.specs.declared.requests.PointKind.{PointKind}
 use Rattle.gdb_packets.specs.declared.requests.PointKind.TheVariants as point
@@ -30,12 +30,12 @@ if_sound true x y text first second = first refl
 if_sound false x y text first second = second
 
 pub first_sound : (b : Bool) (x : GdbRequest) (y : Option GdbRequest) (other : GdbRequest) (text : List ℕ) → (b ≡ true → Sound x text)
-    → Sound (first_told y other) text → Sound (first_told (if b then Some x else y) other) text
+    → Sound (first_shown y other) text → Sound (first_shown (if b then Some x else y) other) text
 first_sound true x y other text first second = first refl
 first_sound false x y other text first second = second
 
-pub told_sound : (b : Bool) (x : GdbRequest) (text : List ℕ) → (b ≡ true → Sound x text) → Sound (if_told b x) text
-told_sound b x text first = if_sound b x request.Unknown text first (unknown text)
+pub shown_sound : (b : Bool) (x : GdbRequest) (text : List ℕ) → (b ≡ true → Sound x text) → Sound (if_shown b x) text
+shown_sound b x text first = if_sound b x request.Unknown text first (unknown text)
 
 -- a text of one letter, and one that begins with it
 single : (letter k : ℕ) → (letter == k) ≡ true → letter ∷ [] ≡ k ∷ []
@@ -220,10 +220,10 @@ host_sound letter rest is = by (parts_around 44 rest) refl
 
     flagged : (parts : PacketParts) (o : Option PacketParts) → rest ≡ parts.before ++ (44 ∷ parts.behind) → IsCallResult parts.before
         → parts_around 44 parts.behind ≡ o → Sound (host_answer_flagged o parts.behind) (letter ∷ rest)
-    flagged parts None whole thread e = told_sound (is_some (packet_number parts.behind)) (request.HostAnswer false) (letter ∷ rest)
+    flagged parts None whole thread e = shown_sound (is_some (packet_number parts.behind)) (request.HostAnswer false) (letter ∷ rest)
         (λ number. ends (inr (record { before = parts.before; behind = parts.behind; whole = whole; first = thread; second = number })))
     flagged parts (Some q) whole thread e =
-        told_sound (is_some (packet_number q.before) && bytes_eq q.behind (codes "C")) (request.HostAnswer true) (letter ∷ rest)
+        shown_sound (is_some (packet_number q.before) && bytes_eq q.behind (codes "C")) (request.HostAnswer true) (letter ∷ rest)
         (λ both. let parted = both_true (is_some (packet_number q.before)) (bytes_eq q.behind (codes "C")) both in record {
           asks = record {
             rest = rest;
@@ -245,15 +245,15 @@ host_sound letter rest is = by (parts_around 44 rest) refl
         })
 
     by : (o : Option PacketParts) → parts_around 44 rest ≡ o → Sound (host_answer_in o rest) (letter ∷ rest)
-    by None e = told_sound (is_call_result rest) (request.HostAnswer false) (letter ∷ rest) (λ result. ends (inl (result_was rest result)))
-    by (Some parts) e = told_sound (is_call_result parts.before) (host_answer_flagged (parts_around 44 parts.behind) parts.behind) (letter ∷ rest)
+    by None e = shown_sound (is_call_result rest) (request.HostAnswer false) (letter ∷ rest) (λ result. ends (inl (result_was rest result)))
+    by (Some parts) e = shown_sound (is_call_result parts.before) (host_answer_flagged (parts_around 44 parts.behind) parts.behind) (letter ∷ rest)
         (λ result. flagged parts (parts_around 44 parts.behind) (parts_were 44 rest parts e) (result_was parts.before result) refl)
 
 about_thread_sound : (letter next : ℕ) (rest : List ℕ) → (letter == 72) ≡ true → Sound (thread_request (next ∷ rest)) (letter ∷ next ∷ rest)
 about_thread_sound letter next rest is =
     if_sound (next == 103 || next == 99) (of_thread (thread_in rest)) request.Unknown (letter ∷ next ∷ rest) (λ opened.
-    of_thread_sound (thread_in rest) (letter ∷ next ∷ rest) (λ is_own told.
-    by is_own (or_either (next == 103) (next == 99) opened) (thread_was is_own rest told)))
+    of_thread_sound (thread_in rest) (letter ∷ next ∷ rest) (λ is_own reported.
+    by is_own (or_either (next == 103) (next == 99) opened) (thread_was is_own rest reported)))
     (unknown (letter ∷ next ∷ rest))
   where
     opens : (k : ℕ) → (next == k) ≡ true → letter ∷ next ∷ rest ≡ 72 ∷ k ∷ rest
@@ -265,8 +265,8 @@ about_thread_sound letter next rest is =
     by is_own (inr e) thread = inl (inr (record { rest = rest; whole = opens 99 e; kind = thread }))
 
 detach_sound : (letter next : ℕ) (rest : List ℕ) → (letter == 68) ≡ true
-    → Sound (if_told (is_process (next ∷ rest)) request.Detach) (letter ∷ next ∷ rest)
-detach_sound letter next rest is = told_sound (is_process (next ∷ rest)) request.Detach (letter ∷ next ∷ rest) (λ both.
+    → Sound (if_shown (is_process (next ∷ rest)) request.Detach) (letter ∷ next ∷ rest)
+detach_sound letter next rest is = shown_sound (is_process (next ∷ rest)) request.Detach (letter ∷ next ∷ rest) (λ both.
     let parted = both_true (next == 59) (is_some (packet_number rest)) both in record {
       asks = inr (record {
         rest = rest;
@@ -293,11 +293,11 @@ control_sound letter next rest =
       asks = inl (record { rest = text; whole = begins letter 83 text e; kind = number });
     }))
     (if_sound (letter == 72) _ _ _ (λ e. about_thread_sound letter next rest e)
-    (if_sound (letter == 84) _ _ _ (λ e. of_thread_sound (thread_in text) (letter ∷ text) (λ is_own told.
-    inr (record { rest = text; whole = begins letter 84 text e; kind = thread_was is_own text told })))
+    (if_sound (letter == 84) _ _ _ (λ e. of_thread_sound (thread_in text) (letter ∷ text) (λ is_own reported.
+    inr (record { rest = text; whole = begins letter 84 text e; kind = thread_was is_own text reported })))
     (if_sound (letter == 70) _ _ _ (λ e. host_sound letter text e)
     (if_sound (letter == 68) _ _ _ (λ e. detach_sound letter next rest e)
-    (if_sound (letter == 82) _ _ _ (λ e. told_sound (is_some (packet_number text)) request.Restart (letter ∷ text) (λ number. record {
+    (if_sound (letter == 82) _ _ _ (λ e. shown_sound (is_some (packet_number text)) request.Restart (letter ∷ text) (λ number. record {
       asks = record { rest = text; whole = begins letter 82 text e; kind = number };
     }))
     (unknown (letter ∷ text))))))))

@@ -8,7 +8,7 @@ use Rattle.gdb_packets.specs.Requests as request
 use Rattle.gdb_packets.specs.Requests.{GdbRequest, PacketParts, about_attachment, about_libraries, about_process, about_session, about_target, action_for_parts, action_for_thread, action_of, action_request, actions_in, actions_or, actions_request, attachment_or, behind_opening, byte_range_of, is_known_packet, kill_or_run, libraries_or, line_or_description, of_signal, opened_request, packet_request, parts_around, places_of_both, places_request, supported_or, thread_in, whole_word_request, word_request}
 use Rattle.gdb_packets.specs.request_laws.Grammar.{AreActions, IsAction, IsAnyAction, IsAnyForThread, IsForThread, IsOwnAction, Parted}
 use Rattle.gdb_packets.proofs.RequestLawsLemmas.PartLemmas.{behind_was, parts_were, same_bytes}
-use Rattle.gdb_packets.proofs.RequestLawsLemmas.SoundLemmas.{Sound, first_sound, if_sound, lettered_sound, lone_sound, of_range_sound, range_was, thread_was, told_sound, unknown}
+use Rattle.gdb_packets.proofs.RequestLawsLemmas.SoundLemmas.{Sound, first_sound, if_sound, lettered_sound, lone_sound, of_range_sound, range_was, thread_was, shown_sound, unknown}
 
 -- ACTIONS
 
@@ -162,7 +162,7 @@ process_sound packet = by (behind_opening (codes "vKill;") packet) (behind_openi
   where
     by : (k r : Option (List ℕ)) → behind_opening (codes "vKill;") packet ≡ k → behind_opening (codes "vRun;") packet ≡ r
         → Sound (kill_or_run k r) packet
-    by (Some number) r e f = told_sound (is_some (packet_number number)) request.KillProgram packet
+    by (Some number) r e f = shown_sound (is_some (packet_number number)) request.KillProgram packet
         (λ has. record { asks = record { rest = number; whole = behind_was (codes "vKill;") packet number e; kind = has } })
     by None (Some words) e f = record { asks = record { rest = words; whole = behind_was (codes "vRun;") packet words f; kind = tt } }
     by None None e f = unknown packet
@@ -172,7 +172,7 @@ unfolding about_attachment
 attachment_sound packet = by (behind_opening (codes "qAttached:") packet) refl
   where
     by : (o : Option (List ℕ)) → behind_opening (codes "qAttached:") packet ≡ o → Sound (attachment_or o (about_process packet)) packet
-    by (Some number) e = told_sound (is_some (packet_number number)) request.IsAttached packet
+    by (Some number) e = shown_sound (is_some (packet_number number)) request.IsAttached packet
         (λ has. record { asks = inr (record { rest = number; whole = behind_was (codes "qAttached:") packet number e; kind = has }) })
     by None e = process_sound packet
 

@@ -1,4 +1,4 @@
--- Which texts ask for which request, told by what they are made of ("Packets", "General Query Packets",
+-- Which texts ask for which request, shown by what they are made of ("Packets", "General Query Packets",
 -- "vCont packet" and "The F reply packet" in GDB's manual). A byte that parts two texts is none of the
 -- first.
 use Rattle.std.specs.Prelude.{◌≡◌, ◌<◌, ◌≤◌, ◌⊎◌, ℕ, Bool, true, false, List, [], ◌∷◌, ◌++◌, length, codes, Some, is_some}
@@ -113,7 +113,7 @@ pub record IsAnyForThread (text : List ℕ) : Type 0 where
   pub action : GdbRequest
   pub for_thread : IsForThread action text
 
--- one action, or two, of which the first tells what the one thread does
+-- one action, or two, of which the first says what the one thread does
 abbrev pub AreActions : GdbRequest → List ℕ → Type 0
 AreActions action text = IsForThread action text ⊎ Parted 59 (IsForThread action) IsAnyForThread text
 
@@ -146,7 +146,8 @@ AsksFor (request.Memory range) text = Behind (codes "m") (IsRange range) text
 AsksFor (request.StorePairs range pairs) text = Behind (codes "M") (IsStoreText range pairs) text
 AsksFor (request.StoreBytes range bytes) text = Behind (codes "X") (IsStoreText range bytes) text
 AsksFor request.Continue text = Is (codes "c") text ⊎ IsGoing request.Continue text
-AsksFor (request.ContinueWith signal) text = IsSignalled 67 signal text ⊎ IsGoing (request.ContinueWith signal) text
+AsksFor (request.ContinueWith signal) text = IsSignalled 67 signal text ⊎ IsGoing
+    (request.ContinueWith signal) text
 AsksFor request.Step text = Is (codes "s") text ⊎ IsGoing request.Step text
 AsksFor (request.StepWith signal) text = IsSignalled 83 signal text ⊎ IsGoing (request.StepWith signal) text
 AsksFor (request.StepRange places) text = IsGoing (request.StepRange places) text
@@ -155,7 +156,8 @@ AsksFor (request.AddPoint kind range) text = Behind (codes "Z") (IsPoint kind ra
 AsksFor (request.RemovePoint kind range) text = Behind (codes "z") (IsPoint kind range) text
 AsksFor request.Supported text = Is (codes "qSupported") text ⊎ Behind (codes "qSupported:") IsAny text
 AsksFor request.NoAcks text = Is (codes "QStartNoAckMode") text
-AsksFor (request.Description range) text = Behind (codes "qXfer:features:read:target.xml:") (IsRange range) text
+AsksFor (request.Description range) text = Behind (codes "qXfer:features:read:target.xml:") (IsRange range)
+    text
 AsksFor (request.Libraries range) text = Behind (codes "qXfer:libraries:read::") (IsRange range) text
 AsksFor (request.Thread true) text = IsAboutThread true text
 AsksFor (request.Thread false) text = IsAboutThread false text ⊎ IsGoing (request.Thread false) text

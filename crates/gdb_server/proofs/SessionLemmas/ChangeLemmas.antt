@@ -10,35 +10,35 @@ use Rattle.gdb_packets.specs.declared.requests.PlaceRange.{PlaceRange}
 use Rattle.gdb_packets.specs.declared.requests.Request.{Request}
 use Rattle.gdb_packets.specs.declared.requests.Request.TheVariants as asked
 use Rattle.gdb_server.specs.session.Changes.{write_wanted}
-use Rattle.gdb_server.specs.session.Requests.{act_told, gdb_change_told}
+use Rattle.gdb_server.specs.session.Requests.{act_shown, gdb_change_shown}
 use Rattle.gdb_server.specs.session.Session.{IsGdbAnswered}
 use Rattle.gdb_server.specs.session.State.{GdbState, GdbAnswered}
 use Rattle.gdb_server.specs.declared.session.session.GdbAnswer.{GdbAnswer}
-use Rattle.debug_session.specs.declared.session.DebugSetting.{DebugSetting}
+use Rattle.debug_session.specs.declared.session.DebugSettings.{DebugSettings}
 
 pub write_read : {U : Type 0} (n : ℕ) (out : List ℕ) (r : Result U FromHexError) (done : U) (read : Result (List ℕ) FromHexError)
     → MatchResult read (λ bytes. (r ≡ Ok done) × (out ≡ bytes)) (λ e. r ≡ Err e) → r ≡ Ok done
     → register_write n (from_le_bytes w32 out) ≡ write_wanted n read
-write_read n out r done (Ok bytes) told is = ap (λ (b : List ℕ). register_write n (from_le_bytes w32 b)) told.1
-write_read n out r done (Err e) told is = absurd (cc)
+write_read n out r done (Ok bytes) reported is = ap (λ (b : List ℕ). register_write n (from_le_bytes w32 b)) reported.1
+write_read n out r done (Err e) reported is = absurd (cc)
 
 -- an answer of which the parts are known
-pub answer_known : (now : GdbState) (r : Result GdbAnswer RunError) (reply : Option (List ℕ)) (told : GdbAnswered)
-    → IfOk r (λ answer. answer.told.items ≡ []) → IfOk r (λ answer. option_map (λ packet. packet.items) answer.reply ≡ reply)
-    → record { state = now; told = []; reply = reply } ≡ told → IfOk r (λ answer. IsGdbAnswered now answer told)
-answer_known now (Ok answer) reply told none packet is = record {
+pub answer_known : (now : GdbState) (r : Result GdbAnswer RunError) (reply : Option (List ℕ)) (reported : GdbAnswered)
+    → IfOk r (λ answer. answer.reported.items ≡ []) → IfOk r (λ answer. option_map (λ packet. packet.items) answer.reply ≡ reply)
+    → record { state = now; reported = []; reply = reply } ≡ reported → IfOk r (λ answer. IsGdbAnswered now answer reported)
+answer_known now (Ok answer) reply reported none packet is = record {
   state = ap (λ (a : GdbAnswered). a.state) is;
-  text = none ∙ ap (λ (a : GdbAnswered). a.told) is;
+  text = none ∙ ap (λ (a : GdbAnswered). a.reported) is;
   reply = packet ∙ ap (λ (a : GdbAnswered). a.reply) is;
 }
-answer_known now (Err e) reply told none packet is = tt
+answer_known now (Err e) reply reported none packet is = tt
 
 -- a request that none of the calls of its own answers is a change
-pub other_act : (setting : DebugSetting) (start : List ℕ) (g : GdbState) (request : Request)
+pub other_act : (setting : DebugSettings) (start : List ℕ) (g : GdbState) (request : Request)
     → (request ≡ asked.Continue → ⊥) → ((n : ℕ) → request ≡ asked.ContinueWith n → ⊥) → (request ≡ asked.Step → ⊥)
     → ((n : ℕ) → request ≡ asked.StepWith n → ⊥) → ((places : PlaceRange) → request ≡ asked.StepRange places → ⊥) → ((asks : Bool) → request ≡ asked.HostAnswer asks → ⊥)
     → ((pairs : Bor (List ℕ)) → request ≡ asked.Line pairs → ⊥) → (request ≡ asked.RunProgram → ⊥) → (request ≡ asked.Restart → ⊥)
-    → gdb_change_told g (gdb_request request) ≡ act_told setting start g (gdb_request request)
+    → gdb_change_shown g (gdb_request request) ≡ act_shown setting start g (gdb_request request)
 other_act setting start g asked.Reason c cw s sw w h l p r = refl
 other_act setting start g asked.Registers c cw s sw w h l p r = refl
 other_act setting start g (asked.SetRegisters pairs) c cw s sw w h l p r = refl

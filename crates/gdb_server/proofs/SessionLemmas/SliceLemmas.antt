@@ -24,11 +24,11 @@ if_ends : (b : Bool) (x y : Option GdbStop) → Ends x → Ends y → Ends (if b
 if_ends true x y first second = first
 if_ends false x y first second = second
 
-beside_ends : (goes : Going) (breaks told : List ℕ) (may : Bool) (s : ScriptState) → Ends (end_beside goes breaks told may s)
-beside_ends goes breaks told may s =
+beside_ends : (goes : Going) (breaks reported : List ℕ) (may : Bool) (s : ScriptState) → Ends (end_beside goes breaks reported may s)
+beside_ends goes breaks reported may s =
     if_ends (is_among breaks s.machine.cpu.pc) (Some (reason.Ran (stop.Break s.machine.cpu.pc))) _ refl
     (if_ends (has_left goes s.machine.cpu.pc) (Some reason.Stepped) _ refl
-    (if_ends (may && is_other_list told s) (Some reason.Library) None refl tt))
+    (if_ends (may && is_other_list reported s) (Some reason.Library) None refl tt))
 
 machine_ends : (l : StepLooks) (why : GdbStop) (may : Bool) (s : ScriptState) → Ends (machine_end l why may s)
 machine_ends l why may s = by (steps_further why) refl

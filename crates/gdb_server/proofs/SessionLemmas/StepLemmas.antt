@@ -170,21 +170,21 @@ looks_beside l ahead why s same none goes =
         ≡ end_beside l.going l.breaks l.libraries ahead.may_change s
     by b is = rw is refl
 
-pub beside_list : (goes : Going) (breaks told : List ℕ) (may : Bool) (s : ScriptState) → is_among breaks s.machine.cpu.pc ≡ false
-    → has_left goes s.machine.cpu.pc ≡ false → may ≡ true → is_other_list told s ≡ true
-    → Some reason.Library ≡ end_beside goes breaks told may s
-beside_list goes breaks told may s no_break within may_change other =
-    by (is_among breaks s.machine.cpu.pc) (has_left goes s.machine.cpu.pc) (is_other_list told s) no_break within other
+pub beside_list : (goes : Going) (breaks reported : List ℕ) (may : Bool) (s : ScriptState) → is_among breaks s.machine.cpu.pc ≡ false
+    → has_left goes s.machine.cpu.pc ≡ false → may ≡ true → is_other_list reported s ≡ true
+    → Some reason.Library ≡ end_beside goes breaks reported may s
+beside_list goes breaks reported may s no_break within may_change other =
+    by (is_among breaks s.machine.cpu.pc) (has_left goes s.machine.cpu.pc) (is_other_list reported s) no_break within other
   where
     by : (a b o : Bool) → a ≡ false → b ≡ false → o ≡ true → Some reason.Library
         ≡ (if a then Some (reason.Ran (stop.Break s.machine.cpu.pc)) else (
         if b then Some reason.Stepped else (if may && o then Some reason.Library else None)))
     by a b o na nb is = rw (na, nb, is, may_change) refl
 
-pub beside_nothing : (goes : Going) (breaks told : List ℕ) (may : Bool) (s : ScriptState) → is_among breaks s.machine.cpu.pc ≡ false
-    → has_left goes s.machine.cpu.pc ≡ false → may ≡ true → is_other_list told s ≡ false → None ≡ end_beside goes breaks told may s
-beside_nothing goes breaks told may s no_break within may_change same =
-    by (is_among breaks s.machine.cpu.pc) (has_left goes s.machine.cpu.pc) (is_other_list told s) no_break within same
+pub beside_nothing : (goes : Going) (breaks reported : List ℕ) (may : Bool) (s : ScriptState) → is_among breaks s.machine.cpu.pc ≡ false
+    → has_left goes s.machine.cpu.pc ≡ false → may ≡ true → is_other_list reported s ≡ false → None ≡ end_beside goes breaks reported may s
+beside_nothing goes breaks reported may s no_break within may_change same =
+    by (is_among breaks s.machine.cpu.pc) (has_left goes s.machine.cpu.pc) (is_other_list reported s) no_break within same
   where
     by : (a b o : Bool) → a ≡ false → b ≡ false → o ≡ false → None
         ≡ (if a then Some (reason.Ran (stop.Break s.machine.cpu.pc)) else (

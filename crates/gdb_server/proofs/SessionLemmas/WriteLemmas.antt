@@ -14,7 +14,7 @@ use Rattle.arm_core.specs.State.{IsCore, State}
 use Rattle.debug_session.specs.Put.{put_fault, script_after_put, script_with_bytes}
 use Rattle.command_shell.specs.State.{ScriptState}
 use Rattle.command_shell.specs.Writes.{machine_with_register}
-use Rattle.debug_session.specs.declared.session.DebugSetting.{DebugSetting}
+use Rattle.debug_session.specs.declared.session.DebugSettings.{DebugSettings}
 use Rattle.gdb_machine.specs.Changes.{core_with_change, register_write}
 use Rattle.gdb_machine.specs.Registers.{register_shown}
 use Rattle.gdb_machine.specs.declared.changes.RegisterWrite.{RegisterWrite}
@@ -26,7 +26,7 @@ use Rattle.gdb_server.specs.session.Changes.{bytes_of_pairs, decoded_stored, reg
 use Rattle.gdb_server.specs.session.Laws.{AreBytesWhole, GdbRegistersAreRead, GdbWritesAreWhole, IsRegisterSet}
 use Rattle.gdb_server.specs.session.Requests.{gdb_answered}
 use Rattle.gdb_server.specs.session.State.{GdbAnswered, GdbState, packet_reply}
-use Rattle.gdb_server.specs.session.Stores.{bytes_stored, store_refusal, store_told}
+use Rattle.gdb_server.specs.session.Stores.{bytes_stored, store_refusal, store_shown}
 
 -- a reply of three bytes is not `OK`
 not_ok : (text : List ℕ) → length text ≡ 3 → Some text ≡ Some (codes "OK") → ⊥
@@ -56,7 +56,7 @@ register_is_set g n value (Some c) core e = record {
   refused = λ other. absurd (other refl);
 }
 
-register_answered : (setting : DebugSetting) (start : List ℕ) (g : GdbState) (n : ℕ) (pairs : List ℕ)
+register_answered : (setting : DebugSettings) (start : List ℕ) (g : GdbState) (n : ℕ) (pairs : List ℕ)
     → gdb_answered setting start g (SetRegister n pairs) ≡ register_changed g (write_wanted n (decode_sized pairs 4))
 unfolding gdb_answered
 register_answered setting start g n pairs = refl
@@ -64,9 +64,9 @@ register_answered setting start g n pairs = refl
 pub registers_are_read : GdbRegistersAreRead
 registers_are_read setting start g n pairs bytes core is =
     let value = from_le_bytes w32 bytes in
-    let told = register_answered setting start g n pairs
+    let reported = register_answered setting start g n pairs
     ∙ ap (λ (r : Result (List ℕ) FromHexError). register_changed g (write_wanted n r)) is in
-    subst (λ (a : GdbAnswered). IsRegisterSet g n value a) (sym told) (register_is_set g n value (register_write n value) core refl)
+    subst (λ (a : GdbAnswered). IsRegisterSet g n value a) (sym reported) (register_is_set g n value (register_write n value) core refl)
 
 -- BYTES
 
@@ -104,7 +104,7 @@ stored g range [] = record {
 stored g range (byte ∷ bytes) =
     met g range byte bytes (put_fault g.debug.script.machine.store range.start (length (byte ∷ bytes))) refl
 
-store_is_whole : (g : GdbState) (range : ByteRange) (bytes : List ℕ) → AreBytesWhole g range bytes (store_told g range bytes)
+store_is_whole : (g : GdbState) (range : ByteRange) (bytes : List ℕ) → AreBytesWhole g range bytes (store_shown g range bytes)
 store_is_whole g range bytes = by (length bytes == range.count) refl
   where
     by : (b : Bool) → (length bytes == range.count) ≡ b
@@ -116,12 +116,12 @@ store_is_whole g range bytes = by (length bytes == range.count) refl
       owned = λ fits some owns. absurd (eqb-false (length bytes) range.count e fits);
     }
 
-bytes_answered : (setting : DebugSetting) (start : List ℕ) (g : GdbState) (range : ByteRange) (bytes : List ℕ)
-    → gdb_answered setting start g (StoreBytes range bytes) ≡ store_told g range bytes
+bytes_answered : (setting : DebugSettings) (start : List ℕ) (g : GdbState) (range : ByteRange) (bytes : List ℕ)
+    → gdb_answered setting start g (StoreBytes range bytes) ≡ store_shown g range bytes
 unfolding gdb_answered
 bytes_answered setting start g range bytes = refl
 
-pairs_answered : (setting : DebugSetting) (start : List ℕ) (g : GdbState) (range : ByteRange) (pairs : List ℕ)
+pairs_answered : (setting : DebugSettings) (start : List ℕ) (g : GdbState) (range : ByteRange) (pairs : List ℕ)
     → gdb_answered setting start g (StorePairs range pairs) ≡ decoded_stored g range (bytes_of_pairs (decode_of pairs))
 unfolding gdb_answered
 pairs_answered setting start g range pairs = refl

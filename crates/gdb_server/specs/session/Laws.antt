@@ -19,14 +19,15 @@ use Rattle.gdb_server.specs.session.Steps.{StepLooks, looked_steps, printed_befo
 use Rattle.gdb_server.specs.session.State.{GdbAnswered, GdbState, packet_reply}
 use Rattle.command_shell_lines.specs.Requests.{request_of}
 use Rattle.debug_session.specs.Naming.{meant_request, naming_of, repeated_now}
-use Rattle.debug_session.specs.declared.session.DebugSetting.{DebugSetting}
+use Rattle.debug_session.specs.declared.session.DebugSettings.{DebugSettings}
 use Rattle.debug_lines.specs.DebugRequests.{DebugRequest, Expect, View, ViewRequest, is_script_request}
 use Rattle.debug_lines.specs.Expectations.{ExpectRequest}
 use Rattle.debug_lines.specs.Tidy.{tidied_line}
 
 -- Looking changes nothing.
 abbrev pub GdbLookingChangesNothing : Type 0
-GdbLookingChangesNothing = (setting : DebugSetting) (start : List ℕ) (g : GdbState) (asked : GdbRequest) (reply : List ℕ)
+GdbLookingChangesNothing = (setting : DebugSettings) (start : List ℕ) (g : GdbState) (asked : GdbRequest)
+    (reply : List ℕ)
     → look_reply g asked ≡ Some reply → gdb_answered setting start g asked ≡ packet_reply g reply
 
 -- A line of the user's is none of a script, isn't repeated, and asks for this.
@@ -36,57 +37,58 @@ pub record LineAsks (g : GdbState) (line : List ℕ) (asked : DebugRequest) : Ty
   pub meant : meant_request (naming_of g.debug) (tidied_line line) ≡ asked
 
 -- The machine, the images, the breaks and the budget are as they were before a line of the user's.
-abbrev pub LineLeavesTheMachine : DebugSetting → GdbState → List ℕ → Type 0
+abbrev pub LineLeavesTheMachine : DebugSettings → GdbState → List ℕ → Type 0
 LineLeavesTheMachine setting g line = (line_decoded setting g (Some line)).state.debug.script ≡ g.debug.script
 
 -- A line of the debugger's own that looks, or that expects something, leaves them so.
-pub record LookingLineLeavesTheMachine (setting : DebugSetting) (g : GdbState) (line : List ℕ) : Type 0 where
+pub record LookingLineLeavesTheMachine (setting : DebugSettings) (g : GdbState) (line : List ℕ) : Type 0 where
   pub shown : (view : ViewRequest) → LineAsks g line (View view) → LineLeavesTheMachine setting g line
   pub expected : (e : ExpectRequest) → LineAsks g line (Expect e) → LineLeavesTheMachine setting g line
 
 abbrev pub LookingLinesLeaveTheMachine : Type 0
-LookingLinesLeaveTheMachine = (setting : DebugSetting) (g : GdbState) (line : List ℕ)
+LookingLinesLeaveTheMachine = (setting : DebugSettings) (g : GdbState) (line : List ℕ)
     → LookingLineLeavesTheMachine setting g line
 
 -- A session after a register was to be set: one that is set is read with its value, and where none is,
 -- all is as it was.
-pub record IsRegisterSet (g : GdbState) (n value : ℕ) (told : GdbAnswered) : Type 0 where
-  pub done : told.reply ≡ Some (codes "OK")
-      → register_shown told.state.debug.script.machine.cpu n ≡ Some value
-  pub refused : (told.reply ≡ Some (codes "OK") → ⊥) → told.state ≡ g
+pub record IsRegisterSet (g : GdbState) (n value : ℕ) (reported : GdbAnswered) : Type 0 where
+  pub done : reported.reply ≡ Some (codes "OK")
+      → register_shown reported.state.debug.script.machine.cpu n ≡ Some value
+  pub refused : (reported.reply ≡ Some (codes "OK") → ⊥) → reported.state ≡ g
 
 -- A register that is set by four bytes.
 abbrev pub GdbRegistersAreRead : Type 0
-GdbRegistersAreRead = (setting : DebugSetting) (start : List ℕ) (g : GdbState) (n : ℕ) (pairs bytes : List ℕ)
+GdbRegistersAreRead = (setting : DebugSettings) (start : List ℕ) (g : GdbState) (n : ℕ) (pairs bytes : List ℕ)
     → IsCore g.debug.script.machine.cpu → decode_sized pairs 4 ≡ Ok bytes
     → IsRegisterSet g n (from_le_bytes w32 bytes) (gdb_answered setting start g (SetRegister n pairs))
 
 -- A session after bytes were to be stored: each stands where it was sent, and all others as they were; or
 -- all is as it was. Bytes of a word that is the SWIs' own are refused.
-pub record AreBytesWhole (g : GdbState) (range : ByteRange) (bytes : List ℕ) (told : GdbAnswered) : Type 0
+pub record AreBytesWhole (g : GdbState) (range : ByteRange) (bytes : List ℕ) (reported : GdbAnswered) : Type 0
   where
-    pub done : told.reply ≡ Some (codes "OK") → (address : ℕ)
-        → told.state.debug.script.machine.store.bytes.at address
+    pub done : reported.reply ≡ Some (codes "OK") → (address : ℕ)
+        → reported.state.debug.script.machine.store.bytes.at address
         ≡ with_bytes_at g.debug.script.machine.store.bytes.at range.start bytes address
-    pub refused : (told.reply ≡ Some (codes "OK") → ⊥) → told.state ≡ g
+    pub refused : (reported.reply ≡ Some (codes "OK") → ⊥) → reported.state ≡ g
     pub owned : length bytes ≡ range.count → 0 < length bytes
         → put_fault g.debug.script.machine.store range.start (length bytes) ≡ Some OwnedWord
-        → told.reply ≡ Some (codes "E0d")
+        → reported.reply ≡ Some (codes "E0d")
 
 -- Bytes that come as they are, and as pairs of digits.
-pub record GdbWriteIsWhole (setting : DebugSetting) (start : List ℕ) (g : GdbState) (range : ByteRange)
+pub record GdbWriteIsWhole (setting : DebugSettings) (start : List ℕ) (g : GdbState) (range : ByteRange)
     (bytes : List ℕ) : Type 0 where
   pub plain : AreBytesWhole g range bytes (gdb_answered setting start g (StoreBytes range bytes))
   pub in_pairs : (pairs : List ℕ) → decode_of pairs ≡ Ok bytes
       → AreBytesWhole g range bytes (gdb_answered setting start g (StorePairs range pairs))
 
 abbrev pub GdbWritesAreWhole : Type 0
-GdbWritesAreWhole = (setting : DebugSetting) (start : List ℕ) (g : GdbState) (range : ByteRange)
+GdbWritesAreWhole = (setting : DebugSettings) (start : List ℕ) (g : GdbState) (range : ByteRange)
     (bytes : List ℕ) → GdbWriteIsWhole setting start g range bytes
 
 -- A run in slices is one run: where some steps were taken and there may be another, those that come after them
 -- are those that would have come without a halt.
 abbrev pub GdbSlicesAreOneRun : Type 0
-GdbSlicesAreOneRun = (l : StepLooks) (s : ScriptState) (first more : ℕ) → (looked_steps l first s).stop ≡ reason.Ran stop.Budget
+GdbSlicesAreOneRun = (l : StepLooks) (s : ScriptState) (first more : ℕ) → (looked_steps l first s).stop ≡
+    reason.Ran stop.Budget
     → looked_steps l (first + more) s ≡ printed_before (looked_steps l first s).printed
     (looked_steps l more (looked_steps l first s).script)

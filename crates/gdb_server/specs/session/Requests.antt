@@ -11,48 +11,54 @@ use Rattle.gdb_server.specs.session.Changes as changes
 use Rattle.gdb_server.specs.session.Looks.{look_reply}
 use Rattle.gdb_server.specs.session.Runs as runs
 use Rattle.gdb_server.specs.session.State.{GdbState, GdbAnswered, packet_reply, no_reply}
-use Rattle.gdb_server.specs.session.Stores.{store_told}
-use Rattle.debug_session.specs.declared.session.DebugSetting.{DebugSetting}
+use Rattle.gdb_server.specs.session.Stores.{store_shown}
+use Rattle.debug_session.specs.declared.session.DebugSettings.{DebugSettings}
 
-abbrev pub add_point_told : GdbState → PointKind → ByteRange → GdbAnswered
-add_point_told g point.Break range = changes.add_break_told g range
-add_point_told g point.StoreWatch range = changes.add_watch_told g (record { kind = kind.Store; range = range })
-add_point_told g point.LoadWatch range = changes.add_watch_told g (record { kind = kind.Load; range = range })
-add_point_told g point.AccessWatch range = changes.add_watch_told g (record { kind = kind.Access; range = range })
+abbrev pub add_point_shown : GdbState → PointKind → ByteRange → GdbAnswered
+add_point_shown g point.Break range = changes.add_break_shown g range
+add_point_shown g point.StoreWatch range = changes.add_watch_shown g
+    (record { kind = kind.Store; range = range })
+add_point_shown g point.LoadWatch range = changes.add_watch_shown g
+    (record { kind = kind.Load; range = range })
+add_point_shown g point.AccessWatch range = changes.add_watch_shown g
+    (record { kind = kind.Access; range = range })
 
-abbrev pub remove_point_told : GdbState → PointKind → ByteRange → GdbAnswered
-remove_point_told g point.Break range = changes.remove_break_told g range
-remove_point_told g point.StoreWatch range = changes.remove_watch_told g (record { kind = kind.Store; range = range })
-remove_point_told g point.LoadWatch range = changes.remove_watch_told g (record { kind = kind.Load; range = range })
-remove_point_told g point.AccessWatch range = changes.remove_watch_told g (record { kind = kind.Access; range = range })
+abbrev pub remove_point_shown : GdbState → PointKind → ByteRange → GdbAnswered
+remove_point_shown g point.Break range = changes.remove_break_shown g range
+remove_point_shown g point.StoreWatch range = changes.remove_watch_shown g
+    (record { kind = kind.Store; range = range })
+remove_point_shown g point.LoadWatch range = changes.remove_watch_shown g
+    (record { kind = kind.Load; range = range })
+remove_point_shown g point.AccessWatch range = changes.remove_watch_shown g
+    (record { kind = kind.Access; range = range })
 
 -- what changes without a step; `k` and any other packet ends the session
-abbrev pub gdb_change_told : GdbState → GdbRequest → GdbAnswered
-gdb_change_told g (request.SetRegister n pairs) = changes.set_register_told g n pairs
-gdb_change_told g (request.StorePairs range pairs) = changes.store_pairs_told g range pairs
-gdb_change_told g (request.StoreBytes range bytes) = store_told g range bytes
-gdb_change_told g (request.AddPoint asked range) = add_point_told g asked range
-gdb_change_told g (request.RemovePoint asked range) = remove_point_told g asked range
-gdb_change_told g request.KillProgram = packet_reply g (codes "OK")
-gdb_change_told g request.Detach = packet_reply (changes.at_session_end g) (codes "OK")
-gdb_change_told g other = no_reply (changes.at_session_end g)
+abbrev pub gdb_change_shown : GdbState → GdbRequest → GdbAnswered
+gdb_change_shown g (request.SetRegister n pairs) = changes.set_register_shown g n pairs
+gdb_change_shown g (request.StorePairs range pairs) = changes.store_pairs_shown g range pairs
+gdb_change_shown g (request.StoreBytes range bytes) = store_shown g range bytes
+gdb_change_shown g (request.AddPoint asked range) = add_point_shown g asked range
+gdb_change_shown g (request.RemovePoint asked range) = remove_point_shown g asked range
+gdb_change_shown g request.KillProgram = packet_reply g (codes "OK")
+gdb_change_shown g request.Detach = packet_reply (changes.at_session_end g) (codes "OK")
+gdb_change_shown g other = no_reply (changes.at_session_end g)
 
 -- a request that doesn't only look; `start` are the lines that a machine begins with
-abbrev pub act_told : DebugSetting → List ℕ → GdbState → GdbRequest → GdbAnswered
-act_told setting start g request.Continue = runs.going_told g going.On None
-act_told setting start g (request.ContinueWith signal) = runs.going_told g going.On (Some signal)
-act_told setting start g request.Step = runs.going_told g going.Once None
-act_told setting start g (request.StepWith signal) = runs.going_told g going.Once (Some signal)
-act_told setting start g (request.StepRange places) = runs.going_told g (going.Within places) None
-act_told setting start g (request.HostAnswer asks) = runs.host_answered g asks
-act_told setting start g (request.Line pairs) = runs.monitor_told setting g pairs
-act_told setting start g request.RunProgram = runs.run_program_told setting start g
-act_told setting start g request.Restart = runs.restart_told setting start g
-act_told setting start g other = gdb_change_told g other
+abbrev pub act_shown : DebugSettings → List ℕ → GdbState → GdbRequest → GdbAnswered
+act_shown setting start g request.Continue = runs.going_shown g going.On None
+act_shown setting start g (request.ContinueWith signal) = runs.going_shown g going.On (Some signal)
+act_shown setting start g request.Step = runs.going_shown g going.Once None
+act_shown setting start g (request.StepWith signal) = runs.going_shown g going.Once (Some signal)
+act_shown setting start g (request.StepRange places) = runs.going_shown g (going.Within places) None
+act_shown setting start g (request.HostAnswer asks) = runs.host_answered g asks
+act_shown setting start g (request.Line pairs) = runs.monitor_shown setting g pairs
+act_shown setting start g request.RunProgram = runs.run_program_shown setting start g
+act_shown setting start g request.Restart = runs.restart_shown setting start g
+act_shown setting start g other = gdb_change_shown g other
 
-abbrev pub look_or_act : Option (List ℕ) → DebugSetting → List ℕ → GdbState → GdbRequest → GdbAnswered
+abbrev pub look_or_act : Option (List ℕ) → DebugSettings → List ℕ → GdbState → GdbRequest → GdbAnswered
 look_or_act (Some reply) setting start g asked = packet_reply g reply
-look_or_act None setting start g asked = act_told setting start g asked
+look_or_act None setting start g asked = act_shown setting start g asked
 
-unfoldable pub gdb_answered : DebugSetting → List ℕ → GdbState → GdbRequest → GdbAnswered
+unfoldable pub gdb_answered : DebugSettings → List ℕ → GdbState → GdbRequest → GdbAnswered
 gdb_answered setting start g asked = look_or_act (look_reply g asked) setting start g asked

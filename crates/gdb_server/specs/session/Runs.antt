@@ -8,9 +8,9 @@ use Rattle.profile.specs.declared.stop.Stop.TheVariants as stop
 use Rattle.command_shell.specs.Answers.{stop_text}
 use Rattle.command_shell.specs.Memory.{script_started_anew, script_with_budget}
 use Rattle.command_shell.specs.MachineState.{stop_of}
-use Rattle.debug_session.specs.DebugScript.{debug_line_told, debug_lines_told}
+use Rattle.debug_session.specs.DebugScript.{debug_line_answer, debug_lines_answer}
 use Rattle.debug_session.specs.DebugState.{DebugAnswered, DebugState}
-use Rattle.debug_session.specs.declared.session.DebugSetting.{DebugSetting}
+use Rattle.debug_session.specs.declared.session.DebugSettings.{DebugSettings}
 use Rattle.std.specs.Str.Lines.{lines}
 use Rattle.hex.specs.Hex.{decode_of}
 use Rattle.gdb_machine.specs.Stops.{signal_number_of, stop_packet}
@@ -47,17 +47,17 @@ libraries_after (reason.Killed f) g = g.libraries
 abbrev pub with_stop : GdbState → GdbStop → GdbState
 with_stop g why = record g { libraries = libraries_after why g; going = None; stop = why }
 
--- the program stands, and the user is told so much
-abbrev pub stop_told_with : GdbState → List ℕ → GdbStop → GdbAnswered
-stop_told_with g text why = record {
+-- the program stands, and the user is shown so much
+abbrev pub stop_shown_with : GdbState → List ℕ → GdbStop → GdbAnswered
+stop_shown_with g text why = record {
   state = with_stop g why;
-  told = text;
+  reported = text;
   reply = Some (stop_packet g.debug.script.machine.cpu why);
 }
 
 -- the program stands, after it printed so much
-abbrev pub gdb_stop_told : GdbState → List ℕ → GdbStop → GdbAnswered
-gdb_stop_told g printed why = stop_told_with g (printed ++ user_text why g.debug.script.machine.cpu.pc) why
+abbrev pub gdb_stop_shown : GdbState → List ℕ → GdbStop → GdbAnswered
+gdb_stop_shown g printed why = stop_shown_with g (printed ++ user_text why g.debug.script.machine.cpu.pc) why
 
 -- so many steps are taken before the other side is asked
 abbrev pub slice_steps : ℕ
@@ -67,7 +67,7 @@ slice_steps = 100000
 abbrev pub asking : GdbState → Going → List ℕ → GdbAnswered
 asking g goes printed = record {
   state = record g { going = Some goes };
-  told = printed;
+  reported = printed;
   reply = Some (codes "Fisatty,0");
 }
 
@@ -75,16 +75,16 @@ abbrev pub slice_done : GdbState → Going → StepsTaken → GdbAnswered
 slice_done g goes taken =
     if steps_further taken.stop && nat_lt 0 taken.script.left
     then asking (with_script g taken.script) goes taken.printed
-    else gdb_stop_told (with_script g taken.script) taken.printed taken.stop
+    else gdb_stop_shown (with_script g taken.script) taken.printed taken.stop
 
-abbrev pub slice_told : GdbState → Going → GdbAnswered
-slice_told g goes = slice_done g goes (gdb_steps g goes slice_steps)
+abbrev pub slice_shown : GdbState → Going → GdbAnswered
+slice_shown g goes = slice_done g goes (gdb_steps g goes slice_steps)
 
 -- with as many steps as a run may take
 abbrev pub with_whole_budget : GdbState → GdbState
 with_whole_budget g = with_script g (script_with_budget g.debug.script g.most)
 
--- Whether a break is still to be told: the program stands at one, and GDB was told there that it may have to
+-- Whether a break is still to be shown: the program stands at one, and GDB was told there that it may have to
 -- set others.
 abbrev pub was_library : GdbStop → Bool
 was_library reason.Library = true
@@ -105,14 +105,14 @@ abbrev pub break_here : GdbState → GdbStop
 break_here g = reason.Ran (stop.Break g.debug.script.machine.cpu.pc)
 
 -- a run begins: of other modules GDB is told first, and it goes on by itself
-abbrev pub first_slice_told : GdbState → GdbAnswered
-first_slice_told g =
-    if is_other_list g.libraries g.debug.script then gdb_stop_told g [] reason.Library else (
-    if has_break_due g then gdb_stop_told g [] (break_here g) else slice_told g going.On)
+abbrev pub first_slice_shown : GdbState → GdbAnswered
+first_slice_shown g =
+    if is_other_list g.libraries g.debug.script then gdb_stop_shown g [] reason.Library else (
+    if has_break_due g then gdb_stop_shown g [] (break_here g) else slice_shown g going.On)
 
 -- the other side has answered: the run goes on, unless the user wants it to stop
 abbrev pub unless_asked : GdbState → Bool → Going → GdbAnswered
-unless_asked g asks goes = if asks then gdb_stop_told g [] reason.Asked else slice_told g goes
+unless_asked g asks goes = if asks then gdb_stop_shown g [] reason.Asked else slice_shown g goes
 
 abbrev pub goes_on_if : GdbState → Bool → Option Going → GdbAnswered
 goes_on_if g asks None = no_reply g
@@ -124,7 +124,7 @@ host_answered g asks = goes_on_if g asks g.going
 -- the byte 3 stops a run at once
 abbrev pub stops_if : GdbState → Option Going → GdbAnswered
 stops_if g None = no_reply g
-stops_if g (Some goes) = gdb_stop_told g [] reason.Asked
+stops_if g (Some goes) = gdb_stop_shown g [] reason.Asked
 
 abbrev pub stop_asked : GdbState → GdbAnswered
 stop_asked g = stops_if g g.going
@@ -135,11 +135,11 @@ stop_after_step why = if steps_further why then reason.Stepped else why
 
 abbrev pub gdb_step_done : GdbState → StepsTaken → GdbAnswered
 gdb_step_done g taken =
-    gdb_stop_told (with_script g taken.script) taken.printed (stop_after_step taken.stop)
+    gdb_stop_shown (with_script g taken.script) taken.printed (stop_after_step taken.stop)
 
 -- one step
-abbrev pub gdb_step_told : GdbState → GdbAnswered
-gdb_step_told g = gdb_step_done g (gdb_steps g going.Once 1)
+abbrev pub gdb_step_shown : GdbState → GdbAnswered
+gdb_step_shown g = gdb_step_done g (gdb_steps g going.Once 1)
 
 -- why the machine itself stood after its last step
 abbrev pub last_stop : Option Stop → GdbStop
@@ -161,42 +161,44 @@ abbrev pub step_taken : GdbState → Option GdbStop
 step_taken g = taken_after g.stop g.debug.script.last
 
 abbrev pub unless_taken : Option GdbStop → GdbState → GdbAnswered → GdbAnswered
-unless_taken (Some why) g other = gdb_stop_told g [] why
+unless_taken (Some why) g other = gdb_stop_shown g [] why
 unless_taken None g other = other
 
-abbrev pub awake_told : GdbState → Going → GdbAnswered
-awake_told g going.On = first_slice_told g
-awake_told g going.Once = unless_taken (step_taken g) g (gdb_step_told g)
-awake_told g (going.Within places) = unless_taken (step_taken g) g (slice_told g (going.Within places))
+abbrev pub unhalted_answer : GdbState → Going → GdbAnswered
+unhalted_answer g going.On = first_slice_shown g
+unhalted_answer g going.Once = unless_taken (step_taken g) g (gdb_step_shown g)
+unhalted_answer g (going.Within places) = unless_taken (step_taken g) g (slice_shown g (going.Within places))
 
 -- A machine that a fault has halted takes no step. The signal of its fault, given back to it, ends the program.
 abbrev pub halted_text : Fault → List ℕ
-halted_text f = codes "rosm: halted by " ++ (fault_name f ++ codes "; RESET, load or another pc wakes the machine\n")
+halted_text f = codes "rosm: halted by " ++ (fault_name f ++ codes
+    "; RESET, load or another pc wakes the machine\n")
 
 abbrev pub is_own_signal : Option ℕ → Fault → Bool
 is_own_signal None f = false
 is_own_signal (Some signal) f = signal == signal_number_of f
 
-abbrev pub fault_told : GdbState → Bool → Fault → GdbAnswered
-fault_told g true f = gdb_stop_told g [] (reason.Killed f)
-fault_told g false f = stop_told_with g (halted_text f) (reason.Ran (stop.Fault f))
+abbrev pub fault_shown : GdbState → Bool → Fault → GdbAnswered
+fault_shown g true f = gdb_stop_shown g [] (reason.Killed f)
+fault_shown g false f = stop_shown_with g (halted_text f) (reason.Ran (stop.Fault f))
 
-abbrev pub halt_told : GdbState → Option ℕ → Stop → GdbAnswered
-halt_told g signal (stop.Fault f) = fault_told g (is_own_signal signal f) f
-halt_told g signal stop.Exit = gdb_stop_told g [] (reason.Ran stop.Exit)
-halt_told g signal stop.Budget = gdb_stop_told g [] (reason.Ran stop.Budget)
-halt_told g signal (stop.Break address) = gdb_stop_told g [] (reason.Ran (stop.Break address))
+abbrev pub halt_shown : GdbState → Option ℕ → Stop → GdbAnswered
+halt_shown g signal (stop.Fault f) = fault_shown g (is_own_signal signal f) f
+halt_shown g signal stop.Exit = gdb_stop_shown g [] (reason.Ran stop.Exit)
+halt_shown g signal stop.Budget = gdb_stop_shown g [] (reason.Ran stop.Budget)
+halt_shown g signal (stop.Break address) = gdb_stop_shown g [] (reason.Ran (stop.Break address))
 
 abbrev pub unless_halted_before : GdbState → Option ℕ → Option Stop → GdbAnswered → GdbAnswered
-unless_halted_before g signal (Some x) other = halt_told g signal x
+unless_halted_before g signal (Some x) other = halt_shown g signal x
 unless_halted_before g signal None other = other
 
 -- a run or a step, with a signal or without
-abbrev pub going_told : GdbState → Going → Option ℕ → GdbAnswered
-going_told g goes signal = (let whole = with_whole_budget g in
-    unless_halted_before whole signal (option_map stop_of whole.debug.script.machine.halt) (awake_told whole goes))
+abbrev pub going_shown : GdbState → Going → Option ℕ → GdbAnswered
+going_shown g goes signal = (let whole = with_whole_budget g in
+    unless_halted_before whole signal (option_map stop_of whole.debug.script.machine.halt)
+    (unhalted_answer whole goes))
 
--- a line of a debugging script, as line 0 of it: the user is told what the debugger answers. A line
+-- a line of a debugging script, as line 0 of it: the user is shown what the debugger answers. A line
 -- QUIT before it ended nothing.
 abbrev pub without_quit : DebugState → DebugState
 without_quit d = record d { has_quit = false }
@@ -205,23 +207,23 @@ abbrev pub with_debug : GdbState → DebugState → GdbState
 with_debug g d = record g { debug = d }
 
 abbrev pub line_done : GdbState → DebugAnswered → GdbAnswered
-line_done g a = record { state = with_debug g a.state; told = a.text; reply = Some (codes "OK") }
+line_done g a = record { state = with_debug g a.state; reported = a.text; reply = Some (codes "OK") }
 
-abbrev pub line_decoded : DebugSetting → GdbState → Option (List ℕ) → GdbAnswered
-line_decoded setting g (Some line) = line_done g (debug_line_told setting (without_quit g.debug) 0 line [])
+abbrev pub line_decoded : DebugSettings → GdbState → Option (List ℕ) → GdbAnswered
+line_decoded setting g (Some line) = line_done g (debug_line_answer setting (without_quit g.debug) 0 line [])
 line_decoded setting g None = packet_reply g (codes "E16")
 
-abbrev pub monitor_told : DebugSetting → GdbState → List ℕ → GdbAnswered
-monitor_told setting g pairs = line_decoded setting g (bytes_of_pairs (decode_of pairs))
+abbrev pub monitor_shown : DebugSettings → GdbState → List ℕ → GdbAnswered
+monitor_shown setting g pairs = line_decoded setting g (bytes_of_pairs (decode_of pairs))
 
 -- a fresh machine, and the lines of a debugging script that it begins with
-abbrev pub debug_anew : DebugSetting → DebugState → DebugState
+abbrev pub debug_anew : DebugSettings → DebugState → DebugState
 debug_anew setting d = record (without_quit d) {
   script = script_started_anew d.script setting.config setting.budget;
 }
 
-abbrev pub begin_told : DebugSetting → List ℕ → GdbState → DebugAnswered
-begin_told setting start g = debug_lines_told setting 0 (debug_anew setting g.debug) (lines start)
+abbrev pub begin_shown : DebugSettings → List ℕ → GdbState → DebugAnswered
+begin_shown setting start g = debug_lines_answer setting 0 (debug_anew setting g.debug) (lines start)
 
 -- GDB was told of no module
 abbrev pub after_begin : GdbState → DebugAnswered → GdbState
@@ -231,10 +233,10 @@ abbrev pub begun_anew : GdbState → DebugAnswered → GdbState
 begun_anew g a = with_stop (after_begin g a) reason.Stepped
 
 -- `vRun`; the other side takes no text before the stop, so what the lines are answered is left out
-abbrev pub run_program_told : DebugSetting → List ℕ → GdbState → GdbAnswered
-run_program_told setting start g =
-    gdb_stop_told (after_begin g (begin_told setting start g)) [] reason.Stepped
+abbrev pub run_program_shown : DebugSettings → List ℕ → GdbState → GdbAnswered
+run_program_shown setting start g =
+    gdb_stop_shown (after_begin g (begin_shown setting start g)) [] reason.Stepped
 
 -- `R`
-abbrev pub restart_told : DebugSetting → List ℕ → GdbState → GdbAnswered
-restart_told setting start g = no_reply (begun_anew g (begin_told setting start g))
+abbrev pub restart_shown : DebugSettings → List ℕ → GdbState → GdbAnswered
+restart_shown setting start g = no_reply (begun_anew g (begin_shown setting start g))

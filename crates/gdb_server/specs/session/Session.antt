@@ -21,14 +21,15 @@ gdb_state s images = record {
 }
 
 -- A session and an answer after a request: the session stands in its state, and the answer is its.
-pub record IsGdbAnswered (now : GdbState) (answer : GdbAnswer) (told : GdbAnswered) : Type 0 where
-  pub state : now ≡ told.state
-  pub text : answer.told.items ≡ told.told
-  pub reply : option_map (λ reply. reply.items) answer.reply ≡ told.reply
+pub record IsGdbAnswered (now : GdbState) (answer : GdbAnswer) (reported : GdbAnswered) : Type 0 where
+  pub state : now ≡ reported.state
+  pub text : answer.reported.items ≡ reported.reported
+  pub reply : option_map (λ reply. reply.items) answer.reply ≡ reported.reply
 
 -- A session, a text and an answer after steps: the session stands in their state, what they printed is
--- appended, and the answer tells why they ended.
-pub record IsAfterSteps (old now : GdbState) (before after : List ℕ) (stop : GdbStop) (taken : StepsTaken) : Type 0 where
+-- appended, and the answer shows why they ended.
+pub record IsAfterSteps (old now : GdbState) (before after : List ℕ) (stop : GdbStop) (taken : StepsTaken) :
+    Type 0 where
   pub state : now ≡ with_script old taken.script
   pub text : after ≡ before ++ taken.printed
   pub reason : stop ≡ taken.stop

@@ -5,12 +5,12 @@ use Rattle.command_shell.specs.State.{ScriptState}
 use Rattle.debug_session.specs.DebugState.{DebugState, debug_start_state}
 use Rattle.debug_session.specs.DebugChecksReportForm.TheVariants.{Answers}
 use Rattle.debug_session.specs.Meters.{silent_meter}
-use Rattle.debug_session.specs.declared.session.DebugSetting.{DebugSetting}
+use Rattle.debug_session.specs.declared.session.DebugSettings.{DebugSettings}
 use Rattle.gdb_machine.specs.Libraries.{library_lines}
 use Rattle.gdb_machine.specs.declared.stops.GdbStop.{GdbStop}
 use Rattle.gdb_machine.specs.declared.stops.GdbStop.TheVariants as reason
 use Rattle.gdb_machine.specs.declared.watches.Watch.{Watch}
-use Rattle.gdb_server.specs.declared.session.session.GdbSetting.{GdbSetting}
+use Rattle.gdb_server.specs.declared.session.session.GdbSettings.{GdbSettings}
 use Rattle.gdb_server.specs.declared.session.session.Going.{Going}
 
 -- What a debugging script works on, GDB's watches, its breaks beyond those of the machine's own
@@ -29,16 +29,16 @@ pub record GdbState : Type 0 where
 -- the state after a request, text for the user, and one packet at most
 pub record GdbAnswered : Type 0 where
   pub state : GdbState
-  pub told : List ℕ
+  pub reported : List ℕ
   pub reply : Option (List ℕ)
 
 -- a packet without text for the user
 abbrev pub packet_reply : GdbState → List ℕ → GdbAnswered
-packet_reply g reply = record { state = g; told = []; reply = Some reply }
+packet_reply g reply = record { state = g; reported = []; reply = Some reply }
 
 -- nothing
 abbrev pub no_reply : GdbState → GdbAnswered
-no_reply g = record { state = g; told = []; reply = None }
+no_reply g = record { state = g; reported = []; reply = None }
 
 -- the state of the script alone is another
 abbrev pub with_script : GdbState → ScriptState → GdbState
@@ -49,8 +49,8 @@ abbrev pub script_libraries : ScriptState → List ℕ
 script_libraries s = library_lines s.machine.tables.modules
 
 -- what lines are answered with: as answers
-abbrev pub debug_setting : GdbSetting → DebugSetting
-debug_setting setting = record {
+abbrev pub debug_settings : GdbSettings → DebugSettings
+debug_settings setting = record {
   config = setting.config;
   budget = setting.budget;
   form = Answers;
@@ -58,7 +58,7 @@ debug_setting setting = record {
 }
 
 -- before the first line
-abbrev pub gdb_start : DebugSetting → ℕ → List Entry → GdbState
+abbrev pub gdb_start : DebugSettings → ℕ → List Entry → GdbState
 gdb_start setting most images = record {
   debug = debug_start_state setting images;
   watches = [];

@@ -93,7 +93,7 @@ ahead_of goes watches s =
 
 -- whether other modules are there than GDB was told of last
 abbrev pub is_other_list : List ℕ → ScriptState → Bool
-is_other_list told s = not (bytes_eq (script_libraries s) told)
+is_other_list reported s = not (bytes_eq (script_libraries s) reported)
 
 abbrev pub is_within : PlaceRange → ℕ → Bool
 is_within places address = nat_le places.start address && nat_lt address places.end
@@ -105,10 +105,10 @@ has_left going.On address = false
 
 -- a break beyond those of the machine's table; the end of what the steps are for; another list of modules
 abbrev pub end_beside : Going → List ℕ → List ℕ → Bool → ScriptState → Option GdbStop
-end_beside goes breaks told may_change s =
+end_beside goes breaks reported may_change s =
     if is_among breaks s.machine.cpu.pc then Some (reason.Ran (stop.Break s.machine.cpu.pc)) else (
     if has_left goes s.machine.cpu.pc then Some reason.Stepped else (
-    if may_change && is_other_list told s then Some reason.Library else None))
+    if may_change && is_other_list reported s then Some reason.Library else None))
 
 abbrev pub machine_end : StepLooks → GdbStop → Bool → ScriptState → Option GdbStop
 machine_end l why may_change s =
@@ -145,4 +145,5 @@ looked_steps l (suc count) s = looked_further (script_steps s 1)
 -- so many steps of a session, fewer where they end before
 abbrev pub gdb_steps : GdbState → Going → ℕ → StepsTaken
 gdb_steps g goes count =
-    looked_steps (looks_at g goes (watched_bytes g.debug.script.machine.store.bytes g.watches)) count g.debug.script
+    looked_steps (looks_at g goes (watched_bytes g.debug.script.machine.store.bytes g.watches)) count
+    g.debug.script

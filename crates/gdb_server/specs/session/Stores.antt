@@ -17,7 +17,7 @@ bytes_stored g (Ok s) = packet_reply (with_script g s) (codes "OK")
 bytes_stored g (Err f) = packet_reply g (store_refusal f)
 
 -- as many bytes as were announced; none asks whether bytes can be sent as they are
-abbrev pub store_told : GdbState → ByteRange → List ℕ → GdbAnswered
-store_told g range bytes =
+abbrev pub store_shown : GdbState → ByteRange → List ℕ → GdbAnswered
+store_shown g range bytes =
     if length bytes == range.count then bytes_stored g (script_after_put g.debug.script range.start bytes)
     else packet_reply g (codes "E16")

@@ -11,7 +11,7 @@ use image_loader::Images;
 
 impl GdbSession {
     ghost use Rattle.image_loader.specs.Entries.{Entry};
-    ghost use Rattle.gdb_server.specs.session.Requests.{act_told, gdb_change_told};
+    ghost use Rattle.gdb_server.specs.session.Requests.{act_shown, gdb_change_shown};
     ghost use Rattle.gdb_server.specs.session.Session.{gdb_state, IsGdbAnswered};
     ghost use Rattle.gdb_server.specs.session.State.{GdbAnswered};
 
@@ -21,8 +21,8 @@ impl GdbSession {
         images: &mut Images,
         request: &Request<'_>,
     ) -> Result<GdbAnswer, RunError>
-        ensures told { IfOk result (λ answer. IsGdbAnswered (gdb_state self.new images.new) answer
-            (act_told self.old.debug.setting self.old.start.items (gdb_state self.old images.old)
+        ensures reported { IfOk result (λ answer. IsGdbAnswered (gdb_state self.new images.new) answer
+            (act_shown self.old.debug.setting self.old.start.items (gdb_state self.old images.old)
             (gdb_request request.now))) }
         ensures setting { self.new.debug.setting ≡ self.old.debug.setting }
         ensures start { self.new.start.items ≡ self.old.start.items }
@@ -40,35 +40,38 @@ impl GdbSession {
             Request::Restart => self.restart(images),
             _ => {
                 let reply = self.change(request)?;
-                self.told_change(reply)
+                self.shown_change(reply)
             }
         }
     }
 
-    // The packet that tells of a change, if one does.
-    fn told_change(&self, reply: Option<&'static [u8]>) -> Result<GdbAnswer, RunError>
-        ensures told { IfOk result (λ answer. answer.told.items ≡ []) }
+    // The packet that reports a change, if one does.
+    fn shown_change(&self, reply: Option<&'static [u8]>) -> Result<GdbAnswer, RunError>
+        ensures reported { IfOk result (λ answer. answer.reported.items ≡ []) }
         ensures reply { IfOk result (λ answer. option_map (λ packet. packet.items) answer.reply
             ≡ option_map (λ text. text.now) reply.entry) }
         ensures errors { IfErr result IsLineError }
     {
-        let told = Vec::new(self.alloc);
+        let reported = Vec::new(self.alloc);
         match reply {
             Some(reply) => {
                 let reply = Some(Vec::from_slice(self.alloc, reply)?);
-                Ok(GdbAnswer { told, reply })
+                Ok(GdbAnswer { reported, reply })
             }
-            None => Ok(GdbAnswer { told, reply: None }),
+            None => Ok(GdbAnswer {
+                reported,
+                reply: None,
+            }),
         }
     }
 
-    // Changes what stands, without a step, and gives the packet that tells of it.
+    // Changes what stands, without a step, and gives the packet that reports it.
     fn change(&mut self, request: &Request<'_>) -> Result<Option<&'static [u8]>, RunError>
-        ensures told { (images : List Entry) → IfOk result (λ reply. record {
+        ensures reported { (images : List Entry) → IfOk result (λ reply. record {
           state = gdb_state self.new images;
-          told = [];
+          reported = [];
           reply = option_map (λ text. text.now) reply;
-        } ≡ gdb_change_told (gdb_state self.old images) (gdb_request request.now)) }
+        } ≡ gdb_change_shown (gdb_state self.old images) (gdb_request request.now)) }
         ensures setting { self.new.debug.setting ≡ self.old.debug.setting }
         ensures start { self.new.start.items ≡ self.old.start.items }
         ensures errors { IfErr result IsLineError }

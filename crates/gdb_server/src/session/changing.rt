@@ -3,7 +3,7 @@
 ghost use Rattle.std.specs.Prelude.{◌≡◌, List, IfErr, IfOk, IfSome, codes, option_map};
 ghost use Rattle.hex.specs.Hex.{decode_of, decode_sized};
 ghost use Rattle.gdb_machine.specs.Changes.{CanBeMade};
-ghost use Rattle.gdb_server.specs.session.Changes.{bytes_of_pairs, write_wanted, watch_refusal as watch_refusal_told};
+ghost use Rattle.gdb_server.specs.session.Changes.{bytes_of_pairs, write_wanted, watch_refusal as watch_refusal_shown};
 ghost use Rattle.command_shell.specs.Error.{IsLineError};
 
 use crate::session::session::GdbSession;
@@ -16,17 +16,17 @@ use std::alloc::{AllocError, Global};
 impl GdbSession {
     ghost use Rattle.image_loader.specs.Entries.{Entry};
     ghost use Rattle.command_shell.specs.Stepping.{script_without_break};
-    ghost use Rattle.gdb_server.specs.session.Changes.{add_break_told, add_watch_told, break_cleared, more_set, remove_watch_told, script_with_change};
-    ghost use Rattle.gdb_server.specs.session.Changes.{set_register_told, store_pairs_told};
+    ghost use Rattle.gdb_server.specs.session.Changes.{add_break_shown, add_watch_shown, break_cleared, more_set, remove_watch_shown, script_with_change};
+    ghost use Rattle.gdb_server.specs.session.Changes.{set_register_shown, store_pairs_shown};
     ghost use Rattle.gdb_server.specs.session.MoreBreaks.{with_more};
-    ghost use Rattle.gdb_server.specs.session.Requests.{add_point_told, remove_point_told};
+    ghost use Rattle.gdb_server.specs.session.Requests.{add_point_shown, remove_point_shown};
     ghost use Rattle.gdb_server.specs.session.Session.{gdb_state};
     ghost use Rattle.gdb_server.specs.session.State.{packet_reply, with_script};
 
-    /// Sets a register, and gives the packet that tells of it.
+    /// Sets a register, and gives the packet that reports it.
     pub(crate) fn set_register(&mut self, number: u32, pairs: &[u8]) -> &'static [u8]
-        ensures told { (images : List Entry) → packet_reply (gdb_state self.new images) result.now
-            ≡ set_register_told (gdb_state self.old images) number pairs.now }
+        ensures reported { (images : List Entry) → packet_reply (gdb_state self.new images) result.now
+            ≡ set_register_shown (gdb_state self.old images) number pairs.now }
         ensures setting { self.new.debug.setting ≡ self.old.debug.setting }
         ensures start { self.new.start.items ≡ self.old.start.items }
     {
@@ -41,7 +41,7 @@ impl GdbSession {
 
     fn make_change(&mut self, change: RegisterWrite)
         requires { CanBeMade change }
-        ensures told { (images : List Entry) → gdb_state self.new images
+        ensures reported { (images : List Entry) → gdb_state self.new images
             ≡ with_script (gdb_state self.old images)
             (script_with_change (gdb_state self.old images).debug.script change) }
         ensures setting { self.new.debug.setting ≡ self.old.debug.setting }
@@ -66,9 +66,9 @@ impl GdbSession {
         range: ByteRange,
         pairs: &[u8],
     ) -> Result<&'static [u8], RunError>
-        ensures told { (images : List Entry) → IfOk result (λ reply.
+        ensures reported { (images : List Entry) → IfOk result (λ reply.
             packet_reply (gdb_state self.new images) reply.now
-            ≡ store_pairs_told (gdb_state self.old images) range pairs.now) }
+            ≡ store_pairs_shown (gdb_state self.old images) range pairs.now) }
         ensures setting { self.new.debug.setting ≡ self.old.debug.setting }
         ensures start { self.new.start.items ≡ self.old.start.items }
         ensures errors { IfErr result IsLineError }
@@ -81,8 +81,8 @@ impl GdbSession {
 
     /// Sets a break or a watch.
     pub(crate) fn add_point(&mut self, kind: PointKind, range: ByteRange) -> &'static [u8]
-        ensures told { (images : List Entry) → packet_reply (gdb_state self.new images) result.now
-            ≡ add_point_told (gdb_state self.old images) kind range }
+        ensures reported { (images : List Entry) → packet_reply (gdb_state self.new images) result.now
+            ≡ add_point_shown (gdb_state self.old images) kind range }
         ensures setting { self.new.debug.setting ≡ self.old.debug.setting }
         ensures start { self.new.start.items ≡ self.old.start.items }
     {
@@ -95,8 +95,8 @@ impl GdbSession {
     }
 
     fn add_break(&mut self, range: ByteRange) -> &'static [u8]
-        ensures told { (images : List Entry) → packet_reply (gdb_state self.new images) result.now
-            ≡ add_break_told (gdb_state self.old images) range }
+        ensures reported { (images : List Entry) → packet_reply (gdb_state self.new images) result.now
+            ≡ add_break_shown (gdb_state self.old images) range }
         ensures setting { self.new.debug.setting ≡ self.old.debug.setting }
         ensures start { self.new.start.items ≡ self.old.start.items }
     {
@@ -112,7 +112,7 @@ impl GdbSession {
 
     // The machine's own table is full.
     fn add_more(&mut self, address: u32) -> &'static [u8]
-        ensures told { (images : List Entry) → packet_reply (gdb_state self.new images) result.now
+        ensures reported { (images : List Entry) → packet_reply (gdb_state self.new images) result.now
             ≡ more_set (gdb_state self.old images) (with_more (gdb_state self.old images).breaks address) }
         ensures setting { self.new.debug.setting ≡ self.old.debug.setting }
         ensures start { self.new.start.items ≡ self.old.start.items }
@@ -124,8 +124,8 @@ impl GdbSession {
     }
 
     fn add_watch(&mut self, kind: WatchKind, range: ByteRange) -> &'static [u8]
-        ensures told { (images : List Entry) → packet_reply (gdb_state self.new images) result.now
-            ≡ add_watch_told (gdb_state self.old images) (record { kind = kind; range = range }) }
+        ensures reported { (images : List Entry) → packet_reply (gdb_state self.new images) result.now
+            ≡ add_watch_shown (gdb_state self.old images) (record { kind = kind; range = range }) }
         ensures setting { self.new.debug.setting ≡ self.old.debug.setting }
         ensures start { self.new.start.items ≡ self.old.start.items }
     {
@@ -137,8 +137,8 @@ impl GdbSession {
 
     /// Takes a break or a watch away.
     pub(crate) fn remove_point(&mut self, kind: PointKind, range: ByteRange)
-        ensures told { (images : List Entry) → packet_reply (gdb_state self.new images) (codes "OK")
-            ≡ remove_point_told (gdb_state self.old images) kind range }
+        ensures reported { (images : List Entry) → packet_reply (gdb_state self.new images) (codes "OK")
+            ≡ remove_point_shown (gdb_state self.old images) kind range }
         ensures setting { self.new.debug.setting ≡ self.old.debug.setting }
         ensures start { self.new.start.items ≡ self.old.start.items }
     {
@@ -151,8 +151,8 @@ impl GdbSession {
     }
 
     fn remove_watch(&mut self, kind: WatchKind, range: ByteRange)
-        ensures told { (images : List Entry) → packet_reply (gdb_state self.new images) (codes "OK")
-            ≡ remove_watch_told (gdb_state self.old images) (record { kind = kind; range = range }) }
+        ensures reported { (images : List Entry) → packet_reply (gdb_state self.new images) (codes "OK")
+            ≡ remove_watch_shown (gdb_state self.old images) (record { kind = kind; range = range }) }
         ensures setting { self.new.debug.setting ≡ self.old.debug.setting }
         ensures start { self.new.start.items ≡ self.old.start.items }
     {
@@ -160,7 +160,7 @@ impl GdbSession {
     }
 
     fn remove_break(&mut self, address: u32)
-        ensures told { (images : List Entry) → packet_reply (gdb_state self.new images) (codes "OK")
+        ensures reported { (images : List Entry) → packet_reply (gdb_state self.new images) (codes "OK")
             ≡ break_cleared (gdb_state self.old images) address
             (script_without_break (gdb_state self.old images).debug.script address) }
         ensures setting { self.new.debug.setting ≡ self.old.debug.setting }
@@ -198,7 +198,7 @@ pub(crate) fn decoded(alloc: Global, pairs: &[u8]) -> Result<Option<Vec<u8>>, Al
 }
 
 fn watch_refusal(error: WatchError) -> &'static [u8]
-    ensures { result.now ≡ watch_refusal_told error }
+    ensures { result.now ≡ watch_refusal_shown error }
 {
     match error {
         WatchError::WatchTableFull => b"E1c",

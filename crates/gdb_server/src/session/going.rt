@@ -3,7 +3,7 @@
 ghost use Rattle.std.specs.Prelude.{◌≡◌, ◌++◌, List, IfErr, IfOk};
 ghost use Rattle.command_shell.specs.Error.{IsLineError};
 ghost use Rattle.profile.specs.Output.{Writes};
-ghost use Rattle.gdb_server.specs.session.Runs.{halted_text, is_own_signal, last_stop as last_told};
+ghost use Rattle.gdb_server.specs.session.Runs.{halted_text, is_own_signal, last_stop as last_shown};
 
 use crate::session::running::stepped;
 use crate::session::session::{GdbAnswer, GdbSession, Going};
@@ -15,7 +15,7 @@ use profile::{Fault, Sink, Stop, WriteFault, push_all};
 
 impl GdbSession {
     ghost use Rattle.image_loader.specs.Entries.{Entry};
-    ghost use Rattle.gdb_server.specs.session.Runs.{awake_told, fault_told, going_told, halt_told, step_taken, with_whole_budget};
+    ghost use Rattle.gdb_server.specs.session.Runs.{unhalted_answer, fault_shown, going_shown, halt_shown, step_taken, with_whole_budget};
     ghost use Rattle.gdb_server.specs.session.Session.{gdb_state, IsGdbAnswered};
 
     /// Begins a run or takes a step, with a signal or without.
@@ -25,8 +25,8 @@ impl GdbSession {
         going: Going,
         signal: Option<u32>,
     ) -> Result<GdbAnswer, RunError>
-        ensures told { IfOk result (λ answer. IsGdbAnswered (gdb_state self.new images.now) answer
-            (going_told (gdb_state self.old images.now) going signal)) }
+        ensures reported { IfOk result (λ answer. IsGdbAnswered (gdb_state self.new images.now) answer
+            (going_shown (gdb_state self.old images.now) going signal)) }
         ensures setting { self.new.debug.setting ≡ self.old.debug.setting }
         ensures start { self.new.start.items ≡ self.old.start.items }
         ensures errors { IfErr result IsLineError }
@@ -34,13 +34,13 @@ impl GdbSession {
         self.renew_budget();
         match self.debug.session.machine().stop() {
             Some(stop) => self.stand_halted(stop, signal),
-            None => self.go_awake(images, going),
+            None => self.go_unhalted(images, going),
         }
     }
 
     // The steps that come next may be as many as a run may take.
     fn renew_budget(&mut self)
-        ensures told { (images : List Entry) → gdb_state self.new images
+        ensures reported { (images : List Entry) → gdb_state self.new images
             ≡ with_whole_budget (gdb_state self.old images) }
         ensures setting { self.new.debug.setting ≡ self.old.debug.setting }
         ensures start { self.new.start.items ≡ self.old.start.items }
@@ -50,9 +50,9 @@ impl GdbSession {
 
     // A machine that is halted for this reason takes no step.
     fn stand_halted(&mut self, stop: Stop, signal: Option<u32>) -> Result<GdbAnswer, RunError>
-        ensures told { (images : List Entry) → IfOk result (λ answer.
+        ensures reported { (images : List Entry) → IfOk result (λ answer.
             IsGdbAnswered (gdb_state self.new images) answer
-            (halt_told (gdb_state self.old images) signal stop)) }
+            (halt_shown (gdb_state self.old images) signal stop)) }
         ensures setting { self.new.debug.setting ≡ self.old.debug.setting }
         ensures start { self.new.start.items ≡ self.old.start.items }
         ensures errors { IfErr result IsLineError }
@@ -65,25 +65,25 @@ impl GdbSession {
 
     // A fault has halted the machine; its signal is given back to it, or not.
     fn stand_at_fault(&mut self, fault: Fault, is_own: bool) -> Result<GdbAnswer, RunError>
-        ensures told { (images : List Entry) → IfOk result (λ answer.
+        ensures reported { (images : List Entry) → IfOk result (λ answer.
             IsGdbAnswered (gdb_state self.new images) answer
-            (fault_told (gdb_state self.old images) is_own fault)) }
+            (fault_shown (gdb_state self.old images) is_own fault)) }
         ensures setting { self.new.debug.setting ≡ self.old.debug.setting }
         ensures start { self.new.start.items ≡ self.old.start.items }
         ensures errors { IfErr result IsLineError }
     {
-        let mut told = TextSink::new(self.alloc);
+        let mut reported = TextSink::new(self.alloc);
         if is_own {
-            return self.stopped(told, GdbStop::Killed(fault));
+            return self.stopped(reported, GdbStop::Killed(fault));
         }
-        push_halted(&mut told, fault)?;
-        self.stopped_with(told, GdbStop::Ran(Stop::Fault(fault)))
+        push_halted(&mut reported, fault)?;
+        self.stopped_with(reported, GdbStop::Ran(Stop::Fault(fault)))
     }
 
     // The machine isn't halted.
-    fn go_awake(&mut self, images: &Images, going: Going) -> Result<GdbAnswer, RunError>
-        ensures told { IfOk result (λ answer. IsGdbAnswered (gdb_state self.new images.now) answer
-            (awake_told (gdb_state self.old images.now) going)) }
+    fn go_unhalted(&mut self, images: &Images, going: Going) -> Result<GdbAnswer, RunError>
+        ensures reported { IfOk result (λ answer. IsGdbAnswered (gdb_state self.new images.now) answer
+            (unhalted_answer (gdb_state self.old images.now) going)) }
         ensures setting { self.new.debug.setting ≡ self.old.debug.setting }
         ensures start { self.new.start.items ≡ self.old.start.items }
         ensures errors { IfErr result IsLineError }
@@ -115,7 +115,7 @@ impl GdbSession {
 
 // Why the machine itself stood after its last step.
 fn last_stop(last: Option<Stop>) -> GdbStop
-    ensures { result ≡ last_told last }
+    ensures { result ≡ last_shown last }
 {
     match last {
         Some(stop) => stepped(GdbStop::Ran(stop)),

@@ -2,7 +2,7 @@
 
 ghost use Rattle.gdb_server.specs.session.Laws.{GdbLookingChangesNothing, GdbRegistersAreRead, GdbSlicesAreOneRun, GdbWritesAreWhole, LookingLinesLeaveTheMachine};
 
-/// A request that only looks leaves the session as it is, and is answered with the packet that tells
+/// A request that only looks leaves the session as it is, and is answered with the packet that shows
 /// what is so.
 pub fn looking_changes_nothing()
     ensures { GdbLookingChangesNothing }

@@ -14,8 +14,8 @@ use profile::text_sink::TextSink;
 
 impl GdbSession {
     ghost use Rattle.image_loader.specs.Entries.{Entry};
-    ghost use Rattle.gdb_server.specs.session.Runs.{after_begin, begin_told, begun_anew, line_decoded, monitor_told};
-    ghost use Rattle.gdb_server.specs.session.Runs.{restart_told, run_program_told};
+    ghost use Rattle.gdb_server.specs.session.Runs.{after_begin, begin_shown, begun_anew, line_decoded, monitor_shown};
+    ghost use Rattle.gdb_server.specs.session.Runs.{restart_shown, run_program_shown};
     ghost use Rattle.gdb_server.specs.session.Session.{gdb_state, IsGdbAnswered};
 
     /// Answers a line of a debugging script, which may take the whole budget.
@@ -24,8 +24,8 @@ impl GdbSession {
         images: &mut Images,
         pairs: &[u8],
     ) -> Result<GdbAnswer, RunError>
-        ensures told { IfOk result (λ answer. IsGdbAnswered (gdb_state self.new images.new) answer
-            (monitor_told self.old.debug.setting (gdb_state self.old images.old) pairs.now)) }
+        ensures reported { IfOk result (λ answer. IsGdbAnswered (gdb_state self.new images.new) answer
+            (monitor_shown self.old.debug.setting (gdb_state self.old images.old) pairs.now)) }
         ensures setting { self.new.debug.setting ≡ self.old.debug.setting }
         ensures start { self.new.start.items ≡ self.old.start.items }
         ensures errors { IfErr result IsLineError }
@@ -37,19 +37,20 @@ impl GdbSession {
     }
 
     fn answer_decoded(&mut self, images: &mut Images, line: &[u8]) -> Result<GdbAnswer, RunError>
-        ensures told { IfOk result (λ answer. IsGdbAnswered (gdb_state self.new images.new) answer
+        ensures reported { IfOk result (λ answer. IsGdbAnswered (gdb_state self.new images.new) answer
             (line_decoded self.old.debug.setting (gdb_state self.old images.old) (Some line.now))) }
         ensures setting { self.new.debug.setting ≡ self.old.debug.setting }
         ensures start { self.new.start.items ≡ self.old.start.items }
         ensures errors { IfErr result IsLineError }
     {
         let reply = Vec::from_slice(self.alloc, b"OK")?;
-        let mut told = TextSink::new(self.alloc);
+        let mut reported = TextSink::new(self.alloc);
         let mut none = Lines::new(b"");
         self.debug.go_on();
-        self.debug.answer_line(images, &mut told, line, &mut none)?;
+        self.debug
+            .answer_line(images, &mut reported, line, &mut none)?;
         Ok(GdbAnswer {
-            told: told.into_bytes(),
+            reported: reported.into_bytes(),
             reply: Some(reply),
         })
     }
@@ -60,64 +61,69 @@ impl GdbSession {
     ///
     /// `Memory`.
     pub fn begin(&mut self, images: &mut Images) -> Result<Vec<u8>, RunError>
-        ensures told { IfOk result (λ text. text.items
-            ≡ (begin_told self.old.debug.setting self.old.start.items (gdb_state self.old images.old)).text) }
+        ensures reported { IfOk result (λ text. text.items
+            ≡ (begin_shown self.old.debug.setting self.old.start.items
+            (gdb_state self.old images.old)).text) }
         ensures state { OnOk result (gdb_state self.new images.new
             ≡ begun_anew (gdb_state self.old images.old)
-            (begin_told self.old.debug.setting self.old.start.items (gdb_state self.old images.old))) }
+            (begin_shown self.old.debug.setting self.old.start.items (gdb_state self.old images.old))) }
         ensures setting { self.new.debug.setting ≡ self.old.debug.setting }
         ensures start { self.new.start.items ≡ self.old.start.items }
         ensures errors { IfErr result IsLineError }
     {
-        let told = self.begin_anew(images)?;
+        let reported = self.begin_anew(images)?;
         self.going = None;
         self.stop = GdbStop::Stepped;
-        Ok(told.into_bytes())
+        Ok(reported.into_bytes())
     }
 
     // A fresh machine, and the lines that it begins with.
     fn begin_anew(&mut self, images: &mut Images) -> Result<TextSink, RunError>
-        ensures told { IfOk result (λ text. sink_text_of text
-            ≡ (begin_told self.old.debug.setting self.old.start.items (gdb_state self.old images.old)).text) }
+        ensures reported { IfOk result (λ text. sink_text_of text
+            ≡ (begin_shown self.old.debug.setting self.old.start.items
+            (gdb_state self.old images.old)).text) }
         ensures state { OnOk result (gdb_state self.new images.new
             ≡ after_begin (gdb_state self.old images.old)
-            (begin_told self.old.debug.setting self.old.start.items (gdb_state self.old images.old))) }
+            (begin_shown self.old.debug.setting self.old.start.items (gdb_state self.old images.old))) }
         ensures setting { self.new.debug.setting ≡ self.old.debug.setting }
         ensures start { self.new.start.items ≡ self.old.start.items }
         ensures errors { IfErr result IsLineError }
     {
         self.debug.start_anew()?;
         self.debug.go_on();
-        let mut told = TextSink::new(self.alloc);
+        let mut reported = TextSink::new(self.alloc);
         let mut lines = Lines::new(self.start.as_slice());
-        self.debug.answer_lines(images, &mut told, &mut lines)?;
+        self.debug.answer_lines(images, &mut reported, &mut lines)?;
         self.libraries = Vec::new(self.alloc);
-        Ok(told)
+        Ok(reported)
     }
 
-    /// Begins anew, and tells of the first stop. GDB takes no text before that, so what the lines that
+    /// Begins anew, and reports the first stop. GDB takes no text before that, so what the lines that
     /// the machine begins with are answered is left out.
     pub(crate) fn run_program(&mut self, images: &mut Images) -> Result<GdbAnswer, RunError>
-        ensures told { IfOk result (λ answer. IsGdbAnswered (gdb_state self.new images.new) answer
-            (run_program_told self.old.debug.setting self.old.start.items (gdb_state self.old images.old))) }
+        ensures reported { IfOk result (λ answer. IsGdbAnswered (gdb_state self.new images.new) answer
+            (run_program_shown self.old.debug.setting self.old.start.items (gdb_state self.old images.old))) }
         ensures setting { self.new.debug.setting ≡ self.old.debug.setting }
         ensures start { self.new.start.items ≡ self.old.start.items }
         ensures errors { IfErr result IsLineError }
     {
-        let _told = self.begin_anew(images)?;
+        let _shown = self.begin_anew(images)?;
         self.stopped(TextSink::new(self.alloc), GdbStop::Stepped)
     }
 
     /// Begins anew without a packet.
     pub(crate) fn restart(&mut self, images: &mut Images) -> Result<GdbAnswer, RunError>
-        ensures told { IfOk result (λ answer. IsGdbAnswered (gdb_state self.new images.new) answer
-            (restart_told self.old.debug.setting self.old.start.items (gdb_state self.old images.old))) }
+        ensures reported { IfOk result (λ answer. IsGdbAnswered (gdb_state self.new images.new) answer
+            (restart_shown self.old.debug.setting self.old.start.items (gdb_state self.old images.old))) }
         ensures setting { self.new.debug.setting ≡ self.old.debug.setting }
         ensures start { self.new.start.items ≡ self.old.start.items }
         ensures errors { IfErr result IsLineError }
     {
-        let _told = self.begin(images)?;
-        let told = Vec::new(self.alloc);
-        Ok(GdbAnswer { told, reply: None })
+        let _shown = self.begin(images)?;
+        let reported = Vec::new(self.alloc);
+        Ok(GdbAnswer {
+            reported,
+            reply: None,
+        })
     }
 }

@@ -2,11 +2,11 @@
 
 ghost use Rattle.std.specs.Prelude.{◌≡◌, List, IfOk, option_map};
 ghost use Rattle.gdb_packets.specs.Requests.{gdb_request};
-ghost use Rattle.gdb_server.specs.session.Looks.{fixed_reply as fixed_told, threads_text};
+ghost use Rattle.gdb_server.specs.session.Looks.{fixed_reply as fixed_shown, threads_text};
 
 use crate::session::session::GdbSession;
 use gdb_machine::{
-    all_registers, description_part, libraries_part, memory_told, one_register, stop_packet,
+    all_registers, description_part, libraries_part, memory_shown, one_register, stop_packet,
 };
 use gdb_packets::Request;
 use std::alloc::AllocError;
@@ -32,7 +32,7 @@ impl GdbSession {
             Request::Register(number) => {
                 Ok(Some(one_register(self.alloc, machine.cpu(), *number)?))
             }
-            Request::Memory(range) => Ok(Some(memory_told(self.alloc, machine.memory(), *range)?)),
+            Request::Memory(range) => Ok(Some(memory_shown(self.alloc, machine.memory(), *range)?)),
             Request::Description(range) => Ok(Some(description_part(self.alloc, *range)?)),
             Request::Libraries(range) => {
                 let part = libraries_part(self.alloc, machine.instances(), *range)?;
@@ -44,7 +44,7 @@ impl GdbSession {
     }
 
     fn fixed(&self, reply: Option<&'static [u8]>) -> Result<Option<Vec<u8>>, AllocError>
-        ensures { IfOk result (λ told. option_map (λ packet. packet.items) told
+        ensures { IfOk result (λ reported. option_map (λ packet. packet.items) reported
             ≡ option_map (λ text. text.now) reply.entry) }
     {
         match reply {
@@ -63,7 +63,7 @@ fn threads(is_gone: bool) -> &'static [u8]
 
 // What requests are answered with whose answer is always the same.
 fn fixed_reply(request: &Request<'_>) -> Option<&'static [u8]>
-    ensures { option_map (λ text. text.now) result ≡ fixed_told (gdb_request request.now) }
+    ensures { option_map (λ text. text.now) result ≡ fixed_shown (gdb_request request.now) }
 {
     match request {
         Request::NoAcks | Request::Thread(true) | Request::Extended => Some(b"OK"),

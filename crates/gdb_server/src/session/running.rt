@@ -6,12 +6,12 @@ ghost use Rattle.command_shell.specs.Answers.{stop_text};
 ghost use Rattle.command_shell.specs.Error.{IsLineError};
 ghost use Rattle.profile.specs.Output.{Writes};
 ghost use Rattle.profile.specs.text_sink.TextSink.{sink_text_of};
-ghost use Rattle.gdb_server.specs.session.Steps.{steps_further as goes_on_told};
-ghost use Rattle.gdb_server.specs.session.Runs.{stop_after_step, user_text, was_library as was_library_told};
+ghost use Rattle.gdb_server.specs.session.Steps.{steps_further as goes_on_shown};
+ghost use Rattle.gdb_server.specs.session.Runs.{stop_after_step, user_text, was_library as was_library_shown};
 
 use crate::session::session::{GdbAnswer, GdbSession, Going};
 use crate::session::stepping::goes_on;
-use command_shell::{RunError, tell_stop};
+use command_shell::{RunError, print_stop};
 use gdb_machine::{GdbStop, library_lines, stop_packet};
 use image_loader::Images;
 use profile::text_sink::TextSink;
@@ -25,15 +25,15 @@ const ASK: &[u8] = b"Fisatty,0";
 
 impl GdbSession {
     ghost use Rattle.image_loader.specs.Entries.{Entry};
-    ghost use Rattle.gdb_server.specs.session.Runs.{asking, first_slice_told, gdb_step_told, gdb_stop_told};
-    ghost use Rattle.gdb_server.specs.session.Runs.{has_break_due, host_answered, slice_told, stands_at_break};
-    ghost use Rattle.gdb_server.specs.session.Runs.{stop_asked, stop_told_with};
+    ghost use Rattle.gdb_server.specs.session.Runs.{asking, first_slice_shown, gdb_step_shown, gdb_stop_shown};
+    ghost use Rattle.gdb_server.specs.session.Runs.{has_break_due, host_answered, slice_shown, stands_at_break};
+    ghost use Rattle.gdb_server.specs.session.Runs.{stop_asked, stop_shown_with};
     ghost use Rattle.gdb_server.specs.session.Session.{gdb_state, IsGdbAnswered};
 
     /// The steps of the first slice, unless GDB has to be told of other modules first, or of a break.
     pub(crate) fn first_slice(&mut self, images: &Images) -> Result<GdbAnswer, RunError>
-        ensures told { IfOk result (λ answer. IsGdbAnswered (gdb_state self.new images.now) answer
-            (first_slice_told (gdb_state self.old images.now))) }
+        ensures reported { IfOk result (λ answer. IsGdbAnswered (gdb_state self.new images.now) answer
+            (first_slice_shown (gdb_state self.old images.now))) }
         ensures setting { self.new.debug.setting ≡ self.old.debug.setting }
         ensures start { self.new.start.items ≡ self.old.start.items }
         ensures errors { IfErr result IsLineError }
@@ -69,15 +69,18 @@ impl GdbSession {
         images: &Images,
         asks: bool,
     ) -> Result<GdbAnswer, RunError>
-        ensures told { IfOk result (λ answer. IsGdbAnswered (gdb_state self.new images.now) answer
+        ensures reported { IfOk result (λ answer. IsGdbAnswered (gdb_state self.new images.now) answer
             (host_answered (gdb_state self.old images.now) asks)) }
         ensures setting { self.new.debug.setting ≡ self.old.debug.setting }
         ensures start { self.new.start.items ≡ self.old.start.items }
         ensures errors { IfErr result IsLineError }
     {
         let Some(going) = self.going else {
-            let told = Vec::new(self.alloc);
-            return Ok(GdbAnswer { told, reply: None });
+            let reported = Vec::new(self.alloc);
+            return Ok(GdbAnswer {
+                reported,
+                reply: None,
+            });
         };
         if asks {
             return self.stopped(TextSink::new(self.alloc), GdbStop::Asked);
@@ -87,7 +90,7 @@ impl GdbSession {
 
     /// Stops a run, if one is under way.
     pub fn ask_to_stop(&mut self) -> Result<GdbAnswer, RunError>
-        ensures told { (images : List Entry) → IfOk result (λ answer.
+        ensures reported { (images : List Entry) → IfOk result (λ answer.
             IsGdbAnswered (gdb_state self.new images) answer
             (stop_asked (gdb_state self.old images))) }
         ensures setting { self.new.debug.setting ≡ self.old.debug.setting }
@@ -95,34 +98,37 @@ impl GdbSession {
         ensures errors { IfErr result IsLineError }
     {
         let Some(_) = self.going else {
-            let told = Vec::new(self.alloc);
-            return Ok(GdbAnswer { told, reply: None });
+            let reported = Vec::new(self.alloc);
+            return Ok(GdbAnswer {
+                reported,
+                reply: None,
+            });
         };
         self.stopped(TextSink::new(self.alloc), GdbStop::Asked)
     }
 
     /// The steps of a slice.
     pub(crate) fn slice(&mut self, images: &Images, going: Going) -> Result<GdbAnswer, RunError>
-        ensures told { IfOk result (λ answer. IsGdbAnswered (gdb_state self.new images.now) answer
-            (slice_told (gdb_state self.old images.now) going)) }
+        ensures reported { IfOk result (λ answer. IsGdbAnswered (gdb_state self.new images.now) answer
+            (slice_shown (gdb_state self.old images.now) going)) }
         ensures setting { self.new.debug.setting ≡ self.old.debug.setting }
         ensures start { self.new.start.items ≡ self.old.start.items }
         ensures errors { IfErr result IsLineError }
     {
-        let mut told = TextSink::new(self.alloc);
-        let stop = self.take_steps(images, &mut told, going, SLICE)?;
+        let mut reported = TextSink::new(self.alloc);
+        let stop = self.take_steps(images, &mut reported, going, SLICE)?;
         if may_go_on(stop, self.debug.session.left()) {
-            self.ask(told, going)
+            self.ask(reported, going)
         } else {
-            self.stopped(told, stop)
+            self.stopped(reported, stop)
         }
     }
 
     // The run is under way, and the other side is asked.
-    fn ask(&mut self, told: TextSink, going: Going) -> Result<GdbAnswer, RunError>
-        ensures told { (images : List Entry) → IfOk result (λ answer.
+    fn ask(&mut self, reported: TextSink, going: Going) -> Result<GdbAnswer, RunError>
+        ensures reported { (images : List Entry) → IfOk result (λ answer.
             IsGdbAnswered (gdb_state self.new images) answer
-            (asking (gdb_state self.old images) going (sink_text_of told))) }
+            (asking (gdb_state self.old images) going (sink_text_of reported))) }
         ensures setting { self.new.debug.setting ≡ self.old.debug.setting }
         ensures start { self.new.start.items ≡ self.old.start.items }
         ensures errors { IfErr result IsLineError }
@@ -130,22 +136,22 @@ impl GdbSession {
         let reply = Vec::from_slice(self.alloc, ASK)?;
         self.going = Some(going);
         Ok(GdbAnswer {
-            told: told.into_bytes(),
+            reported: reported.into_bytes(),
             reply: Some(reply),
         })
     }
 
     /// Takes one step.
     pub(crate) fn step(&mut self, images: &Images) -> Result<GdbAnswer, RunError>
-        ensures told { IfOk result (λ answer. IsGdbAnswered (gdb_state self.new images.now) answer
-            (gdb_step_told (gdb_state self.old images.now))) }
+        ensures reported { IfOk result (λ answer. IsGdbAnswered (gdb_state self.new images.now) answer
+            (gdb_step_shown (gdb_state self.old images.now))) }
         ensures setting { self.new.debug.setting ≡ self.old.debug.setting }
         ensures start { self.new.start.items ≡ self.old.start.items }
         ensures errors { IfErr result IsLineError }
     {
-        let mut told = TextSink::new(self.alloc);
-        let stop = self.take_steps(images, &mut told, Going::Once, 1)?;
-        self.stopped(told, stepped(stop))
+        let mut reported = TextSink::new(self.alloc);
+        let stop = self.take_steps(images, &mut reported, Going::Once, 1)?;
+        self.stopped(reported, stepped(stop))
     }
 
     /// The program stands, after it printed so much.
@@ -154,27 +160,27 @@ impl GdbSession {
         printed: TextSink,
         stop: GdbStop,
     ) -> Result<GdbAnswer, RunError>
-        ensures told { (images : List Entry) → IfOk result (λ answer.
+        ensures reported { (images : List Entry) → IfOk result (λ answer.
             IsGdbAnswered (gdb_state self.new images) answer
-            (gdb_stop_told (gdb_state self.old images) (sink_text_of printed) stop)) }
+            (gdb_stop_shown (gdb_state self.old images) (sink_text_of printed) stop)) }
         ensures setting { self.new.debug.setting ≡ self.old.debug.setting }
         ensures start { self.new.start.items ≡ self.old.start.items }
         ensures errors { IfErr result IsLineError }
     {
-        let mut told = printed;
-        push_stop(&mut told, stop, self.debug.session.machine().cpu().pc())?;
-        self.stopped_with(told, stop)
+        let mut reported = printed;
+        push_stop(&mut reported, stop, self.debug.session.machine().cpu().pc())?;
+        self.stopped_with(reported, stop)
     }
 
-    /// The program stands, and the user is told so much.
+    /// The program stands, and the user is shown so much.
     pub(crate) fn stopped_with(
         &mut self,
-        told: TextSink,
+        reported: TextSink,
         stop: GdbStop,
     ) -> Result<GdbAnswer, RunError>
-        ensures told { (images : List Entry) → IfOk result (λ answer.
+        ensures reported { (images : List Entry) → IfOk result (λ answer.
             IsGdbAnswered (gdb_state self.new images) answer
-            (stop_told_with (gdb_state self.old images) (sink_text_of told) stop)) }
+            (stop_shown_with (gdb_state self.old images) (sink_text_of reported) stop)) }
         ensures setting { self.new.debug.setting ≡ self.old.debug.setting }
         ensures start { self.new.start.items ≡ self.old.start.items }
         ensures errors { IfErr result IsLineError }
@@ -187,7 +193,7 @@ impl GdbSession {
         self.going = None;
         self.stop = stop;
         Ok(GdbAnswer {
-            told: told.into_bytes(),
+            reported: reported.into_bytes(),
             reply: Some(reply),
         })
     }
@@ -195,7 +201,7 @@ impl GdbSession {
 
 // Whether there may be another step of the budget.
 fn may_go_on(stop: GdbStop, left: u64) -> bool
-    ensures { result ≡ (goes_on_told stop && nat_lt 0 left) }
+    ensures { result ≡ (goes_on_shown stop && nat_lt 0 left) }
 {
     goes_on(stop) && left > 0
 }
@@ -213,7 +219,7 @@ pub(crate) fn stepped(stop: GdbStop) -> GdbStop
 
 // Whether GDB was told of other modules.
 fn was_library(stop: GdbStop) -> bool
-    ensures { result ≡ was_library_told stop }
+    ensures { result ≡ was_library_shown stop }
 {
     matches!(stop, GdbStop::Library)
 }
@@ -233,5 +239,5 @@ fn push_ran<W: Sink>(sink: &mut W, stop: Stop, pc: u32) -> Result<(), WriteFault
     ensures { Writes W.contents W.has_failed sink.old sink.new result (codes "rosm: " ++ stop_text stop pc) }
 {
     push_all(sink, b"rosm: ")?;
-    tell_stop(sink, stop, pc)
+    print_stop(sink, stop, pc)
 }

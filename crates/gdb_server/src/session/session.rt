@@ -2,11 +2,11 @@
 
 ghost use Rattle.std.specs.Prelude.{◌≡◌, [], Some, List, IfOk, IfErr, is_some};
 ghost use Rattle.command_shell.specs.Error.{IsLineError};
-ghost use Rattle.gdb_server.specs.session.State.{debug_setting as debug_setting_told};
+ghost use Rattle.gdb_server.specs.session.State.{debug_settings as debug_setting_shown};
 
 use crate::session::more_breaks::MoreBreaks;
 use command_shell::RunError;
-use debug_session::{DebugSession, DebugSetting, ReportForm, RunMeter};
+use debug_session::{DebugSession, DebugSettings, ReportForm, RunMeter};
 use gdb_machine::{GdbStop, Watches};
 use gdb_packets::{PlaceRange, Request};
 use image_loader::Images;
@@ -15,7 +15,7 @@ use std::alloc::{AllocError, Global};
 
 /// What a session is made with.
 #[derive(Clone, Copy, Debug)]
-pub struct GdbSetting {
+pub struct GdbSettings {
     /// The sizes of its machines.
     pub config: Config,
     /// How many steps each of the monitor's lines may take.
@@ -58,7 +58,7 @@ pub struct GdbSession {
 #[derive(Drop)]
 pub struct GdbAnswer {
     /// The text.
-    pub told: Vec<u8>,
+    pub reported: Vec<u8>,
     /// The packet.
     pub reply: Option<Vec<u8>>,
 }
@@ -68,22 +68,22 @@ impl GdbSession {
     ghost use Rattle.gdb_packets.specs.Requests.{gdb_request};
     ghost use Rattle.gdb_server.specs.session.Requests.{gdb_answered};
     ghost use Rattle.gdb_server.specs.session.Session.{gdb_state, IsGdbAnswered};
-    ghost use Rattle.gdb_server.specs.session.State.{debug_setting, gdb_start};
+    ghost use Rattle.gdb_server.specs.session.State.{debug_settings, gdb_start};
 
     /// A session on a fresh machine, whose first lines have not been answered yet.
     ///
     /// # Errors
     ///
     /// Memory ran out.
-    pub fn new(alloc: Global, setting: GdbSetting, start: &[u8]) -> Result<GdbSession, AllocError>
+    pub fn new(alloc: Global, setting: GdbSettings, start: &[u8]) -> Result<GdbSession, AllocError>
         ensures state { IfOk result (λ session. (images : List Entry)
-            → gdb_state session images ≡ gdb_start (debug_setting setting) setting.most images) }
-        ensures setting { IfOk result (λ session. session.debug.setting ≡ debug_setting setting) }
+            → gdb_state session images ≡ gdb_start (debug_settings setting) setting.most images) }
+        ensures setting { IfOk result (λ session. session.debug.setting ≡ debug_settings setting) }
         ensures start { IfOk result (λ session. session.start.items ≡ start.now) }
     {
         let most = setting.most;
         let start = Vec::from_slice(alloc, start)?;
-        let debug = DebugSession::new(alloc, debug_setting(setting))?;
+        let debug = DebugSession::new(alloc, debug_settings(setting))?;
         Ok(GdbSession {
             alloc,
             start,
@@ -130,7 +130,7 @@ impl GdbSession {
         images: &mut Images,
         request: &Request<'_>,
     ) -> Result<GdbAnswer, RunError>
-        ensures told { IfOk result (λ answer. IsGdbAnswered (gdb_state self.new images.new) answer
+        ensures reported { IfOk result (λ answer. IsGdbAnswered (gdb_state self.new images.new) answer
             (gdb_answered self.old.debug.setting self.old.start.items (gdb_state self.old images.old)
             (gdb_request request.now))) }
         ensures setting { self.new.debug.setting ≡ self.old.debug.setting }
@@ -145,21 +145,21 @@ impl GdbSession {
 
     // A packet without text for the user.
     pub(crate) fn with_reply(&self, reply: Vec<u8>) -> GdbAnswer
-        ensures told { result.told.items ≡ [] }
+        ensures reported { result.reported.items ≡ [] }
         ensures reply { result.reply ≡ Some reply }
     {
         GdbAnswer {
-            told: Vec::new(self.alloc),
+            reported: Vec::new(self.alloc),
             reply: Some(reply),
         }
     }
 }
 
 // What lines are answered with: as answers.
-fn debug_setting(setting: GdbSetting) -> DebugSetting
-    ensures { result ≡ debug_setting_told setting }
+fn debug_settings(setting: GdbSettings) -> DebugSettings
+    ensures { result ≡ debug_setting_shown setting }
 {
-    DebugSetting {
+    DebugSettings {
         config: setting.config,
         budget: setting.budget,
         form: ReportForm::Answers,

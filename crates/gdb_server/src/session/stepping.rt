@@ -2,9 +2,9 @@
 
 ghost use Rattle.std.specs.Prelude.{◌≡◌, List, IfErr, IfOk};
 ghost use Rattle.command_shell.specs.Error.{IsLineError};
-ghost use Rattle.command_shell.specs.Parts.{state_of};
+ghost use Rattle.command_shell.specs.GuestState.{state_of};
 ghost use Rattle.profile.specs.text_sink.TextSink.{sink_text_of};
-ghost use Rattle.gdb_server.specs.session.Steps.{begins_call, has_left, is_interrupt as is_interrupt_told, may_change_list, steps_further as goes_on_told, struck_after};
+ghost use Rattle.gdb_server.specs.session.Steps.{begins_call, has_left, is_interrupt as is_interrupt_shown, may_change_list, steps_further as goes_on_shown, struck_after};
 
 use crate::session::session::{GdbSession, Going};
 use command_shell::{Machine, RunError};
@@ -173,7 +173,7 @@ fn struck_after(stop: GdbStop, struck: Option<WatchedPlace>) -> Option<WatchedPl
 
 // Whether there may be another step.
 pub(crate) fn goes_on(stop: GdbStop) -> bool
-    ensures { result ≡ goes_on_told stop }
+    ensures { result ≡ goes_on_shown stop }
 {
     matches!(stop, GdbStop::Ran(Stop::Budget))
 }
@@ -207,7 +207,7 @@ fn begins_call(machine: &Machine) -> bool
 }
 
 fn is_interrupt(word: Result<u32, Fault>) -> bool
-    ensures { result ≡ is_interrupt_told word }
+    ensures { result ≡ is_interrupt_shown word }
 {
     match word {
         Ok(word) => word / 0x0100_0000 % 16 == 15,

@@ -1,7 +1,7 @@
 //! Bytes stored by GDB.
 
 ghost use Rattle.std.specs.Prelude.{◌≡◌, List};
-ghost use Rattle.gdb_server.specs.session.Stores.{store_refusal as refusal_told};
+ghost use Rattle.gdb_server.specs.session.Stores.{store_refusal as refusal_shown};
 
 use crate::session::session::GdbSession;
 use debug_session::put_bytes;
@@ -12,12 +12,12 @@ impl GdbSession {
     ghost use Rattle.image_loader.specs.Entries.{Entry};
     ghost use Rattle.gdb_server.specs.session.Session.{gdb_state};
     ghost use Rattle.gdb_server.specs.session.State.{packet_reply};
-    ghost use Rattle.gdb_server.specs.session.Stores.{store_told};
+    ghost use Rattle.gdb_server.specs.session.Stores.{store_shown};
 
-    /// Stores bytes, and gives the packet that tells of it: all of them are stored, or none.
+    /// Stores bytes, and gives the packet that reports it: all of them are stored, or none.
     pub(crate) fn store(&mut self, range: ByteRange, bytes: &[u8]) -> &'static [u8]
-        ensures told { (images : List Entry) → packet_reply (gdb_state self.new images) result.now
-            ≡ store_told (gdb_state self.old images) range bytes.now }
+        ensures reported { (images : List Entry) → packet_reply (gdb_state self.new images) result.now
+            ≡ store_shown (gdb_state self.old images) range bytes.now }
         ensures setting { self.new.debug.setting ≡ self.old.debug.setting }
         ensures start { self.new.start.items ≡ self.old.start.items }
     {
@@ -32,7 +32,7 @@ impl GdbSession {
 }
 
 fn store_refusal(fault: Fault) -> &'static [u8]
-    ensures { result.now ≡ refusal_told fault }
+    ensures { result.now ≡ refusal_shown fault }
 {
     match fault {
         Fault::OwnedWord => b"E0d",

@@ -26,8 +26,8 @@ returns-in_err-push_all-clause-front g c =
     (front_of_part _ _ kept (subst (λ (text : List ℕ). AddsPart (g.W.Sink.contents c.acknowledge.new.sink) (g.W.Sink.contents c.push_all.new.sink) text)
     is c.in_err-push_all.ensures.part)))
 
-pub returns-clause-told : goal.returns-clause-told
-returns-clause-told g c =
+pub returns-clause-reported : goal.returns-clause-reported
+returns-clause-reported g c =
     let s : ServerState = server_state c.args.self.now c.args.images.now in
     let kept : List ℕ = (packet_served c.args.self.now.session.debug.setting c.args.self.now.session.start.items s).state.last in
     let is : c.as_slice.result.now ≡ kept =

@@ -10,8 +10,8 @@ use Rattle.gdb_server.specs.session.Runs.{stop_asked}
 use Rattle.gdb_server.proofs.ServingLemmas.{front_of_part, stands_served}
 use Rattle.gdb_server.proofs.server.GdbServer.take_stop.Goals as goal
 
-pub returns-then-not-is_running-clause-told : goal.returns-then-not-is_running-clause-told
-returns-then-not-is_running-clause-told g c images =
+pub returns-then-not-is_running-clause-reported : goal.returns-then-not-is_running-clause-reported
+returns-then-not-is_running-clause-reported g c images =
     let still : c.is_running.result ≡ false = grind arith in
     stands_served (server_state c.args.self.now images) (g.W.Sink.contents c.args.sink.now) (sym (c.is_running.ensures images) ∙ still)
 
@@ -31,8 +31,8 @@ returns-in_err-push_all-clause-front g c images =
     (subst (λ (text : List ℕ). AddsPart (g.W.Sink.contents c.args.sink.now) (g.W.Sink.contents c.push_all.new.sink) text)
     is c.in_err-push_all.ensures.part)))
 
-pub returns-clause-told : goal.returns-clause-told
-returns-clause-told g c images =
+pub returns-clause-reported : goal.returns-clause-reported
+returns-clause-reported g c images =
     let s : ServerState = server_state c.args.self.now images in
     let kept : List ℕ = (unasked_served s (stop_asked s.session)).text in
     let running : c.is_running.result ≡ true = grind arith in

@@ -2,7 +2,7 @@
 use Rattle.std.proofs.Common.{Bool, List, ap, ◌∙◌}
 use Rattle.std.specs.Prelude.{Option}
 use Rattle.image_loader.specs.Entries.{Entry}
-use Rattle.command_shell.specs.Parts.{state_of}
+use Rattle.command_shell.specs.GuestState.{state_of}
 use Rattle.command_shell.specs.Value.{MachineValue}
 use Rattle.gdb_machine.specs.declared.watches.WatchedPlace.{WatchedPlace}
 use Rattle.gdb_server.specs.declared.session.stepping.StepAhead.{StepAhead}

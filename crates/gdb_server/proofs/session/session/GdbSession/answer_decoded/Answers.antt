@@ -7,15 +7,15 @@ use Rattle.gdb_server.specs.session.Session.{gdb_state}
 use Rattle.gdb_server.proofs.SessionLemmas.RunLemmas.{line_answered}
 use Rattle.gdb_server.proofs.session.session.GdbSession.answer_decoded.Goals as goal
 
-pub returns-clause-told : goal.returns-clause-told
+pub returns-clause-reported : goal.returns-clause-reported
 unfolding block_lines
-returns-clause-told c =
+returns-clause-reported c =
     let g = gdb_state c.args.self.now c.args.images.now in
     let number : c.new-none.result.number ≡ 0 = cc (c.new-none.ensures) in
     let none : c.new-none.result.left ≡ [] = cc (c.new-none.ensures) in
     let alone : block_lines c.new-none.result.left ≡ [] = ap block_lines none in
-    line_answered c.args.self.now.debug.setting c.go_on.new.self.setting g _ (sink_text_of c.new-told.result)
+    line_answered c.args.self.now.debug.setting c.go_on.new.self.setting g _ (sink_text_of c.new-reported.result)
     (sink_text_of c.answer_line.new.sink) (debug_state c.go_on.new.self c.args.images.now)
     (debug_state c.answer_line.new.self c.answer_line.new.images) c.new-none.result.number (block_lines c.new-none.result.left)
-    c.args.line.now c.in_ok-answer_line.ensures.told c.go_on.ensures.setting (c.go_on.ensures.told c.args.images.now)
-    c.new-told.ensures number alone c.into_bytes.ensures (ap Some c.in_ok-reply.ensures.items)
+    c.args.line.now c.in_ok-answer_line.ensures.reported c.go_on.ensures.setting (c.go_on.ensures.reported c.args.images.now)
+    c.new-reported.ensures number alone c.into_bytes.ensures (ap Some c.in_ok-reply.ensures.items)

@@ -1,13 +1,13 @@
 use Rattle.std.proofs.Common.{ℕ, List, ap, ◌∙◌}
 use Rattle.gdb_machine.specs.declared.stops.GdbStop.TheVariants as reason
-use Rattle.gdb_server.specs.session.Runs.{gdb_stop_told}
+use Rattle.gdb_server.specs.session.Runs.{gdb_stop_shown}
 use Rattle.gdb_server.specs.session.Session.{gdb_state}
 use Rattle.gdb_server.specs.session.State.{GdbState}
 use Rattle.gdb_server.proofs.SessionLemmas.RunLemmas.{answered_as, asked_stops}
 use Rattle.gdb_server.proofs.session.session.GdbSession.ask_to_stop.Goals as goal
 
-pub returns-clause-told : goal.returns-clause-told
-returns-clause-told c images =
+pub returns-clause-reported : goal.returns-clause-reported
+returns-clause-reported c images =
     let g : GdbState = gdb_state c.args.self.now images in
-    answered_as _ _ _ _ (ap (λ (x : List ℕ). gdb_stop_told g x reason.Asked) c.new.ensures ∙ asked_stops g c.in-Some.field-0 c.in-Some.is)
-    (c.stopped.ensures.told images)
+    answered_as _ _ _ _ (ap (λ (x : List ℕ). gdb_stop_shown g x reason.Asked) c.new.ensures ∙ asked_stops g c.in-Some.field-0 c.in-Some.is)
+    (c.stopped.ensures.reported images)

@@ -2,23 +2,23 @@ use Rattle.std.proofs.Common.{◌≡◌, ap, ◌∙◌}
 use Rattle.std.specs.Str.Lines.{lines}
 use Rattle.debug_session.specs.Session.{debug_state}
 use Rattle.profile.specs.text_sink.TextSink.{sink_text_of}
-use Rattle.gdb_server.specs.session.Runs.{begin_told, without_quit}
+use Rattle.gdb_server.specs.session.Runs.{begin_shown, without_quit}
 use Rattle.gdb_server.specs.session.Session.{gdb_state}
 use Rattle.gdb_server.proofs.SessionLemmas.RunLemmas.{begun_so, lines_answered}
 use Rattle.gdb_server.proofs.session.session.GdbSession.begin_anew.Goals as goal
 
-pub returns-clause-told : goal.returns-clause-told
-returns-clause-told c =
+pub returns-clause-reported : goal.returns-clause-reported
+returns-clause-reported c =
     let setting = c.args.self.now.debug.setting in
     let g = gdb_state c.args.self.now c.args.images.now in
     let number : c.new-lines.result.number ≡ 0 = cc (c.new-lines.ensures) in
     let left : c.new-lines.result.left ≡ lines c.as_slice.result.now = cc (c.new-lines.ensures) in
-    (lines_answered setting c.go_on.new.self.setting c.args.self.now.start.items g (sink_text_of c.new-told.result)
+    (lines_answered setting c.go_on.new.self.setting c.args.self.now.start.items g (sink_text_of c.new-reported.result)
     (sink_text_of c.answer_lines.new.sink) (debug_state c.go_on.new.self c.args.images.now)
     (debug_state c.answer_lines.new.self c.answer_lines.new.images) c.new-lines.result.number c.new-lines.result.left
-    c.in_ok-answer_lines.ensures.told (c.go_on.ensures.setting ∙ c.in_ok-start_anew.ensures.setting)
-    (c.go_on.ensures.told c.args.images.now ∙ ap without_quit (c.in_ok-start_anew.ensures.made c.args.images.now))
-    c.new-told.ensures number (left ∙ ap lines c.as_slice.ensures.value)).text
+    c.in_ok-answer_lines.ensures.reported (c.go_on.ensures.setting ∙ c.in_ok-start_anew.ensures.setting)
+    (c.go_on.ensures.reported c.args.images.now ∙ ap without_quit (c.in_ok-start_anew.ensures.made c.args.images.now))
+    c.new-reported.ensures number (left ∙ ap lines c.as_slice.ensures.value)).text
 
 pub returns-clause-state : goal.returns-clause-state
 returns-clause-state c =
@@ -27,10 +27,10 @@ returns-clause-state c =
     let start = c.args.self.now.start.items in
     let number : c.new-lines.result.number ≡ 0 = cc (c.new-lines.ensures) in
     let left : c.new-lines.result.left ≡ lines c.as_slice.result.now = cc (c.new-lines.ensures) in
-    begun_so g (debug_state c.answer_lines.new.self c.answer_lines.new.images) (begin_told setting start g) c.new.result.items
-    (lines_answered setting c.go_on.new.self.setting start g (sink_text_of c.new-told.result)
+    begun_so g (debug_state c.answer_lines.new.self c.answer_lines.new.images) (begin_shown setting start g) c.new.result.items
+    (lines_answered setting c.go_on.new.self.setting start g (sink_text_of c.new-reported.result)
     (sink_text_of c.answer_lines.new.sink) (debug_state c.go_on.new.self c.args.images.now)
     (debug_state c.answer_lines.new.self c.answer_lines.new.images) c.new-lines.result.number c.new-lines.result.left
-    c.in_ok-answer_lines.ensures.told (c.go_on.ensures.setting ∙ c.in_ok-start_anew.ensures.setting)
-    (c.go_on.ensures.told c.args.images.now ∙ ap without_quit (c.in_ok-start_anew.ensures.made c.args.images.now))
-    c.new-told.ensures number (left ∙ ap lines c.as_slice.ensures.value)).state c.new.ensures.items
+    c.in_ok-answer_lines.ensures.reported (c.go_on.ensures.setting ∙ c.in_ok-start_anew.ensures.setting)
+    (c.go_on.ensures.reported c.args.images.now ∙ ap without_quit (c.in_ok-start_anew.ensures.made c.args.images.now))
+    c.new-reported.ensures number (left ∙ ap lines c.as_slice.ensures.value)).state c.new.ensures.items

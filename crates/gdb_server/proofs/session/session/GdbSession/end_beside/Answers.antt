@@ -1,6 +1,6 @@
 use Rattle.std.proofs.Common.{◌≡◌, Bool, false, true, ap, subst, sym, ◌∙◌, arith, ℕ}
 use Rattle.arm_core.specs.State.{State}
-use Rattle.command_shell.specs.Parts.{state_of}
+use Rattle.command_shell.specs.GuestState.{state_of}
 use Rattle.command_shell.specs.State.{ScriptState}
 use Rattle.command_shell.specs.Value.{MachineValue}
 use Rattle.gdb_server.specs.session.MoreBreaks.{is_among}

@@ -2,7 +2,7 @@ use Rattle.std.proofs.Common.{◌≡◌, true, ap, subst, sym, ◌∙◌, arith}
 use Rattle.std.specs.Prelude.{IfOk, None, Option}
 use Rattle.address_map.specs.Bytes.{Bytes}
 use Rattle.command_shell.proofs.GateLemmas.{none_else}
-use Rattle.command_shell.specs.Parts.{state_of}
+use Rattle.command_shell.specs.GuestState.{state_of}
 use Rattle.command_shell.specs.State.{ScriptState}
 use Rattle.command_shell.specs.Value.{MachineValue}
 use Rattle.gdb_machine.specs.Watches.{first_changed}

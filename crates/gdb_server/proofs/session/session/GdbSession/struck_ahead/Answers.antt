@@ -4,7 +4,7 @@ use Rattle.image_loader.specs.Entries.{Entry}
 use Rattle.address_map.specs.Bytes.{Bytes}
 use Rattle.address_map.specs.Memory.{bytes_of}
 use Rattle.arm_core.specs.State.{State}
-use Rattle.command_shell.specs.Parts.{state_of}
+use Rattle.command_shell.specs.GuestState.{state_of}
 use Rattle.command_shell.specs.Value.{MachineValue}
 use Rattle.gdb_machine.specs.Watches.{struck_place}
 use Rattle.gdb_server.proofs.SessionLemmas.StepLemmas.{known_ahead, none_ahead}
