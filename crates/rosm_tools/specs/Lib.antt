@@ -1,2 +1,3 @@
 -- Which tool a word names.
-pub mod Faces
+pub mod Subcommands
+pub mod gdb

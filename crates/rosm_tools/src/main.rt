@@ -4,17 +4,20 @@
 //! Promise: the first word chooses the tool, and another is refused.
 //!
 //! `rosm_tools debug WORD..` is what people type as `rosm_debug WORD..`; so it is with `rosm_gdb`.
+//! The tool `debug` is the library `debug_program`, and `gdb` a module here.
 #![tactic(auto)]
 
-mod faces;
+mod gdb;
+mod subcommands;
 
-use crate::faces::{Face, face_asked, refuse};
-use debug_face::RunMeter;
+use crate::gdb::run as run_gdb;
+use crate::subcommands::{Subcommand, refuse, subcommand_asked};
+use debug_program::RunMeter;
 use profile::Device;
 use std::io::IsTerminal;
 use std::process::ExitCode;
 
-// What tells a person how far a long run is: standard error, where that is a terminal as well.
+// What shows a person how far a long run is: standard error, where that is a terminal as well.
 fn meter(rt: &HostRuntime, is_terminal: bool) -> RunMeter {
     let errors = rt.stderr();
     if is_terminal && errors.is_terminal() {
@@ -26,12 +29,12 @@ fn meter(rt: &HostRuntime, is_terminal: bool) -> RunMeter {
 
 fn main(rt: HostRuntime) -> ExitCode {
     let mut errors = Device::new(rt.stderr());
-    match face_asked(&rt) {
-        Some(Face::Debug) => {
+    match subcommand_asked(&rt) {
+        Some(Subcommand::Debug) => {
             let is_terminal = rt.stdin().is_terminal();
-            debug_face::run(&rt, &mut errors, is_terminal, meter(&rt, is_terminal))
+            debug_program::run(&rt, &mut errors, is_terminal, meter(&rt, is_terminal))
         }
-        Some(Face::Gdb) => gdb_face::run(&rt, &mut errors),
+        Some(Subcommand::Gdb) => run_gdb(&rt, &mut errors),
         None => refuse(&rt),
     }
 }

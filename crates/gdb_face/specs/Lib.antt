@@ -1,6 +1,0 @@
--- The whole run of the face `gdb`. Begin with Serving.
-pub mod Endings
-pub mod Options
-pub mod Serving
-pub mod Start
-pub mod Streams

@@ -1,0 +1,84 @@
+-- The words that are left to be looked at, one after another.
+use Rattle.std.proofs.Common.{◌≡◌, ◌≤◌, ◌<◌, ◌+◌, ℕ, Bool, true, false, List, [], length, get_or, drop, map, refl, ◌∙◌}
+use Rattle.std.specs.Prelude.{codes, if◌then◌else◌}
+use Rattle.std.specs.Str.{bytes_eq}
+use Rattle.std.proofs.lemmas.List.{at_drop_more, at_drop_all}
+use denote.Ref.{Bor}
+use Rattle.rosm_tools.specs.gdb.Options.{any_sets_budget, sets_budget, and_machine_word, and_start_path, gdb_word_after, is_machine_word, last_gdb_word, machine_words_from, start_paths_from}
+use Rattle.rosm_tools.specs.declared.gdb.options.GdbWord.{GdbWord}
+
+abbrev word_texts : List (Bor (List ℕ)) → List (List ℕ)
+word_texts words = map (λ (w : Bor (List ℕ)). w.now) words
+
+pub paths_more : (t : GdbWord) (words : List (Bor (List ℕ))) (place : ℕ) (d : Bor (List ℕ)) → place < length words
+    → start_paths_from t (word_texts (drop place words))
+    ≡ and_start_path t (get_or words place d).now
+    (start_paths_from (gdb_word_after t (get_or words place d).now) (word_texts (drop (place + 1) words)))
+paths_more t words place d within = at_drop_more (λ (ws : List (Bor (List ℕ))). start_paths_from t (word_texts ws)) words place d within
+
+pub paths_end : (t : GdbWord) (words : List (Bor (List ℕ))) (place : ℕ) → length words ≤ place
+    → start_paths_from t (word_texts (drop place words)) ≡ []
+paths_end t words place all = at_drop_all (λ (ws : List (Bor (List ℕ))). start_paths_from t (word_texts ws)) words place all
+
+pub machine_more : (t : GdbWord) (words : List (Bor (List ℕ))) (place : ℕ) (d : Bor (List ℕ)) → place < length words
+    → machine_words_from t (word_texts (drop place words))
+    ≡ and_machine_word (is_machine_word t (get_or words place d).now) (get_or words place d).now
+    (machine_words_from (gdb_word_after t (get_or words place d).now) (word_texts (drop (place + 1) words)))
+machine_more t words place d within = at_drop_more (λ (ws : List (Bor (List ℕ))). machine_words_from t (word_texts ws)) words place d within
+
+pub machine_end : (t : GdbWord) (words : List (Bor (List ℕ))) (place : ℕ) → length words ≤ place
+    → machine_words_from t (word_texts (drop place words)) ≡ []
+machine_end t words place all = at_drop_all (λ (ws : List (Bor (List ℕ))). machine_words_from t (word_texts ws)) words place all
+
+pub last_more : (t : GdbWord) (words : List (Bor (List ℕ))) (place : ℕ) (d : Bor (List ℕ)) → place < length words
+    → last_gdb_word t (word_texts (drop place words))
+    ≡ last_gdb_word (gdb_word_after t (get_or words place d).now) (word_texts (drop (place + 1) words))
+last_more t words place d within = at_drop_more (λ (ws : List (Bor (List ℕ))). last_gdb_word t (word_texts ws)) words place d within
+
+pub last_end : (t : GdbWord) (words : List (Bor (List ℕ))) (place : ℕ) → length words ≤ place
+    → last_gdb_word t (word_texts (drop place words)) ≡ t
+last_end t words place all = at_drop_all (λ (ws : List (Bor (List ℕ))). last_gdb_word t (word_texts ws)) words place all
+
+pub ruleset option_steps = (paths_more, paths_end, machine_more, machine_end, last_more, last_end)
+
+-- whether one of the words that are left sets the budget
+budget_by : (words : List (Bor (List ℕ))) (place : ℕ) (d : Bor (List ℕ)) → place < length words
+    → any_sets_budget (word_texts (drop place words))
+    ≡ (if bytes_eq (get_or words place d).now (codes "--") then false else (if sets_budget (get_or words place d).now then true
+    else any_sets_budget (word_texts (drop (place + 1) words))))
+budget_by words place d within = at_drop_more (λ (ws : List (Bor (List ℕ))). any_sets_budget (word_texts ws)) words place d within
+
+if_past : (y a b : Bool) → a ≡ true → (if a then false else (if b then true else y)) ≡ false
+if_past y a b is = rw is refl
+
+if_set : (y a b : Bool) → a ≡ false → b ≡ true → (if a then false else (if b then true else y)) ≡ true
+if_set y a b other is = rw (other, is) refl
+
+if_more : (y a b : Bool) → a ≡ false → b ≡ false → (if a then false else (if b then true else y)) ≡ y
+if_more y a b other is = rw (other, is) refl
+
+pub budget_past : (words : List (Bor (List ℕ))) (place : ℕ) (d : Bor (List ℕ)) → place < length words
+    → bytes_eq (get_or words place d).now (codes "--") ≡ true → any_sets_budget (word_texts (drop place words)) ≡ false
+budget_past words place d within is = budget_by words place d within
+    ∙ if_past (any_sets_budget (word_texts (drop (place + 1) words))) (bytes_eq (get_or words place d).now (codes "--"))
+    (sets_budget (get_or words place d).now) is
+
+pub budget_set : (words : List (Bor (List ℕ))) (place : ℕ) (d : Bor (List ℕ)) → place < length words
+    → bytes_eq (get_or words place d).now (codes "--") ≡ false → sets_budget (get_or words place d).now ≡ true
+    → any_sets_budget (word_texts (drop place words)) ≡ true
+budget_set words place d within other is = budget_by words place d within
+    ∙ if_set (any_sets_budget (word_texts (drop (place + 1) words))) (bytes_eq (get_or words place d).now (codes "--"))
+    (sets_budget (get_or words place d).now) other is
+
+pub budget_more : (words : List (Bor (List ℕ))) (place : ℕ) (d : Bor (List ℕ)) → place < length words
+    → bytes_eq (get_or words place d).now (codes "--") ≡ false → sets_budget (get_or words place d).now ≡ false
+    → any_sets_budget (word_texts (drop place words)) ≡ any_sets_budget (word_texts (drop (place + 1) words))
+budget_more words place d within other is = budget_by words place d within
+    ∙ if_more (any_sets_budget (word_texts (drop (place + 1) words))) (bytes_eq (get_or words place d).now (codes "--"))
+    (sets_budget (get_or words place d).now) other is
+
+pub budget_end : (words : List (Bor (List ℕ))) (place : ℕ) → length words ≤ place
+    → any_sets_budget (word_texts (drop place words)) ≡ false
+budget_end words place all = at_drop_all (λ (ws : List (Bor (List ℕ))). any_sets_budget (word_texts ws)) words place all
+
+pub ruleset budget_steps = (budget_past, budget_set, budget_more, budget_end)

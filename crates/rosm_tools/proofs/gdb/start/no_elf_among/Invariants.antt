@@ -1,0 +1,7 @@
+use Rattle.std.proofs.Common.{◌≡◌, drop}
+use Rattle.rosm_tools.specs.gdb.Start.{first_elf}
+use Rattle.rosm_tools.proofs.gdb.start.no_elf_among.Given as goal
+
+-- the files so far are none
+abbrev pub invariant-loop-n : goal.invariant-loop-n
+invariant-loop-n l = first_elf l.images l.files ≡ first_elf l.images (drop l.n l.files)

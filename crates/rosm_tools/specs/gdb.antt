@@ -1,0 +1,6 @@
+-- The whole run of the subcommand `gdb`. Begin with Serving.
+pub mod Endings
+pub mod Options
+pub mod Serving
+pub mod Start
+pub mod Streams

@@ -1,0 +1,16 @@
+//! GDB's remote protocol over standard input and output: the subcommand `gdb` of the program
+//! `rosm_tools`, which people type as `rosm_gdb`.
+//!
+//! Promise: it serves what `gdb_server` answers, to the end of the input.
+//!
+//! `rosm_gdb [--script FILE] [--pages N] [--app N] [--rma N] [--budget N] [FILE...]`
+#![tactic(auto)]
+
+mod options;
+mod process;
+mod refusal;
+mod serve;
+mod start;
+mod words;
+
+pub use process::run;

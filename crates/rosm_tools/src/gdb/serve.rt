@@ -1,0 +1,118 @@
+//! GDB over two streams: each piece that is read is answered before the next one is read.
+
+ghost use Rattle.std.specs.Prelude.{◌≡◌, false, true, Err, IfSome, OnErr, OnOk};
+ghost use Rattle.profile.specs.Devices.{device_failed, device_inner};
+ghost use Rattle.gdb_server.specs.Serving.{bytes_served};
+ghost use Rattle.gdb_server.specs.Server.{IsServed, server_state};
+ghost use Rattle.rosm_tools.specs.gdb.Streams.{AnswersFront, AnswersInput, EndsWithInput};
+
+use gdb_server::{GdbServer, RunError};
+use image_loader::Images;
+use profile::{Device, ReadFault, Source, WriteFault};
+use std::io::Write;
+use thiserror::Error;
+
+// The most bytes that are read at once.
+const PIECE: usize = 4096;
+
+/// Why serving ended before the debugger was gone, and before the end of what it sends.
+#[derive(Clone, Copy, Debug, PartialEq, Eq, Error)]
+pub enum ServeError {
+    /// Memory ran out.
+    #[error("no memory for an answer to GDB")]
+    Memory,
+    /// What GDB sends can't be read.
+    #[error("what GDB sends can't be read")]
+    ReadFault,
+    /// The answers can't be written.
+    #[error("the answers to GDB can't be written")]
+    WriteFault,
+    /// GDB sends more pieces than can be counted.
+    #[error("GDB sends more than can be counted")]
+    TooMuch,
+}
+
+impl From<ReadFault> for ServeError {
+    ghost use Rattle.rosm_tools.specs.declared.gdb.serve.ServeError.TheVariants as why;
+
+    ghost from_gives = { λ _ e. e ≡ why.ReadFault };
+
+    fn from(_fault: ReadFault) -> ServeError {
+        ServeError::ReadFault
+    }
+}
+
+impl From<WriteFault> for ServeError {
+    ghost use Rattle.rosm_tools.specs.declared.gdb.serve.ServeError.TheVariants as why;
+
+    ghost from_gives = { λ _ e. e ≡ why.WriteFault };
+
+    fn from(_fault: WriteFault) -> ServeError {
+        ServeError::WriteFault
+    }
+}
+
+impl From<RunError> for ServeError {
+    ghost use Rattle.rosm_tools.specs.gdb.Streams.{serve_error};
+
+    ghost from_gives = { λ error e. e ≡ serve_error error };
+
+    fn from(error: RunError) -> ServeError {
+        match error {
+            RunError::Memory => ServeError::Memory,
+            RunError::ReadFault => ServeError::ReadFault,
+            RunError::WriteFault => ServeError::WriteFault,
+            RunError::ScriptTooLong => ServeError::TooMuch,
+        }
+    }
+}
+
+/// Answers what a reader gives, as it comes, up to its end or the end of the session. What the writer
+/// holds back is handed on before more is read.
+///
+/// # Errors
+///
+/// `ReadFault`, when all that was read is answered; `WriteFault` and `Memory`, when a front of the
+/// answers to that stands written; `TooMuch` after 2^64 - 1 pieces.
+pub fn serve<R: Source, W: Write>(
+    server: &mut GdbServer,
+    images: &mut Images,
+    reader: &mut R,
+    writer: &mut Device<W>,
+) -> Result<(), ServeError>
+    ensures whole { OnOk result (IfSome (R.remaining reader.old) (λ input.
+        IsServed (W.contents (device_inner writer.old)) (W.contents (device_inner writer.new))
+        (server_state server.new images.new)
+        (bytes_served server.old.session.debug.setting server.old.session.start.items input
+        (server_state server.old images.old)))) }
+    ensures read { OnOk result (EndsWithInput server.old.session.debug.setting server.old.session.start.items
+        (R.remaining reader.old) (R.remaining reader.new)
+        (W.contents (device_inner writer.old)) (W.contents (device_inner writer.new))
+        (server_state server.old images.old) (server_state server.new images.new)) }
+    ensures read_fault { result ≡ Err ServeError.ReadFault → (R.has_failed reader.new ≡ true)
+        × AnswersInput server.old.session.debug.setting server.old.session.start.items
+        (R.remaining reader.old) (R.remaining reader.new)
+        (W.contents (device_inner writer.old)) (W.contents (device_inner writer.new))
+        (server_state server.old images.old) (server_state server.new images.new) }
+    ensures front { OnErr result (AnswersFront server.old.session.debug.setting server.old.session.start.items
+        (R.remaining reader.old) (R.remaining reader.new)
+        (W.contents (device_inner writer.old)) (W.contents (device_inner writer.new))
+        (server_state server.old images.old)) }
+    ensures read_shown { R.has_failed reader.old ≡ false → R.has_failed reader.new ≡ true
+        → result ≡ Err ServeError.ReadFault }
+    ensures same_flag { OnOk result (device_failed writer.new ≡ device_failed writer.old) }
+{
+    let mut piece = [0u8; PIECE];
+    for _pulls in 0..u64::MAX {
+        if server.session().has_ended() {
+            return Ok(());
+        }
+        let count = reader.pull(&mut piece)?;
+        if count == 0 {
+            return Ok(());
+        }
+        server.take(images, writer, &piece[..count])?;
+        writer.flush()?;
+    }
+    Err(ServeError::TooMuch)
+}
