@@ -2,8 +2,8 @@
 
 ghost use Rattle.std.specs.Prelude.{◌≡◌, ◌<◌, ◌≤◌, length, IfOk};
 ghost use Rattle.profile.specs.text_sink.TextSink.{sink_text_of};
-ghost use Rattle.command_shell.specs.Script.{script_told};
-ghost use Rattle.rosm_c.specs.Answers.{TellsAnswersUnlessNone, room_with};
+ghost use Rattle.command_shell.specs.Script.{script_answer};
+ghost use Rattle.rosm_c.specs.Answers.{ShowsAnswersUnlessNone, room_with};
 
 use command_shell::{RunError, run_script};
 use image_loader::Images;
@@ -30,15 +30,15 @@ pub(crate) fn write_answers(
     room: &mut [u8],
     written: &mut usize,
 ) -> u32
-    ensures told { TellsAnswersUnlessNone (script_told config images.old budget script.now)
+    ensures reported { ShowsAnswersUnlessNone (script_answer config images.old budget script.now)
         result written.new room.old room.new }
     ensures too_long { 1048576 < length script.now → result ≡ 4 }
 {
     match answers_to(alloc, images, config, budget, script) {
         Err(_) => refuse(NOT_RUN, written),
-        Ok((told, last)) => {
-            *written = told.bytes().len();
-            put(told.bytes(), room);
+        Ok((reported, last)) => {
+            *written = reported.bytes().len();
+            put(reported.bytes(), room);
             u32::from(stop_status(last))
         }
     }
@@ -61,10 +61,10 @@ fn answers_to(
     budget: u64,
     script: &[u8],
 ) -> Result<(TextSink, Option<Stop>), RunError>
-    ensures text { IfOk result (λ told. sink_text_of told.0
-        ≡ (script_told config images.old budget script.now).text) }
-    ensures last { IfOk result (λ told. told.1
-        ≡ (script_told config images.old budget script.now).state.last) }
+    ensures text { IfOk result (λ reported. sink_text_of reported.0
+        ≡ (script_answer config images.old budget script.now).text) }
+    ensures last { IfOk result (λ reported. reported.1
+        ≡ (script_answer config images.old budget script.now).state.last) }
     ensures in_limit { IfOk result (λ _. length script.now ≤ 1048576) }
 {
     let mut sink = TextSink::new(alloc);

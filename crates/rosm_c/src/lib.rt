@@ -10,8 +10,8 @@ mod records;
 ghost use Rattle.std.specs.Prelude.{◌≡◌, ◌<◌, [], None, length, IfSome};
 ghost use Rattle.profile.specs.Sizes.{config_of};
 ghost use Rattle.image_loader.specs.Entries.{refusal_for, with_entry};
-ghost use Rattle.command_shell.specs.Script.{script_told};
-ghost use Rattle.rosm_c.specs.Answers.{TellsAnswersUnlessNone, TellsNothing, TellsRecordsUnlessNone};
+ghost use Rattle.command_shell.specs.Script.{script_answer};
+ghost use Rattle.rosm_c.specs.Answers.{ShowsAnswersUnlessNone, ShowsNothing, ShowsRecordsUnlessNone};
 
 use answers::{NOT_RUN, SIZES_REFUSED, refuse, write_answers};
 use image_loader::Images;
@@ -37,9 +37,9 @@ pub extern "C" fn rosm_run(
     out: &mut [u8],
     written: &mut usize,
 ) -> u32
-    ensures sizes { config_of pages app rma ≡ None → TellsNothing 2 result written.new out.old out.new }
-    ensures told { IfSome (config_of pages app rma) (λ config. TellsAnswersUnlessNone
-        (script_told config [] budget script.now) result written.new out.old out.new) }
+    ensures sizes { config_of pages app rma ≡ None → ShowsNothing 2 result written.new out.old out.new }
+    ensures reported { IfSome (config_of pages app rma) (λ config. ShowsAnswersUnlessNone
+        (script_answer config [] budget script.now) result written.new out.old out.new) }
     ensures too_long { IfSome (config_of pages app rma) (λ _. 1048576 < length script.now → result ≡ 4) }
 {
     match Config::new(pages, app, rma) {
@@ -73,12 +73,12 @@ pub extern "C" fn rosm_run_image(
     out: &mut [u8],
     written: &mut usize,
 ) -> u32
-    ensures sizes { config_of pages app rma ≡ None → TellsNothing 2 result written.new out.old out.new }
+    ensures sizes { config_of pages app rma ≡ None → ShowsNothing 2 result written.new out.old out.new }
     ensures refused { IfSome (config_of pages app rma) (λ _. IfSome (refusal_for [] name.now
-        (length image.now)) (λ _. TellsNothing 4 result written.new out.old out.new)) }
-    ensures told { IfSome (config_of pages app rma) (λ config.
-        refusal_for [] name.now (length image.now) ≡ None → TellsAnswersUnlessNone
-        (script_told config (with_entry [] name.now image.now) budget script.now)
+        (length image.now)) (λ _. ShowsNothing 4 result written.new out.old out.new)) }
+    ensures reported { IfSome (config_of pages app rma) (λ config.
+        refusal_for [] name.now (length image.now) ≡ None → ShowsAnswersUnlessNone
+        (script_answer config (with_entry [] name.now image.now) budget script.now)
         result written.new out.old out.new) }
     ensures too_long { IfSome (config_of pages app rma) (λ _. 1048576 < length script.now → result ≡ 4) }
 {
@@ -111,9 +111,9 @@ pub extern "C" fn rosm_records(
     out: &mut [u8],
     written: &mut usize,
 ) -> u32
-    ensures sizes { config_of pages app rma ≡ None → TellsNothing 2 result written.new out.old out.new }
+    ensures sizes { config_of pages app rma ≡ None → ShowsNothing 2 result written.new out.old out.new }
     ensures recorded { IfSome (config_of pages app rma) (λ _.
-        TellsRecordsUnlessNone result written.new out.old out.new) }
+        ShowsRecordsUnlessNone result written.new out.old out.new) }
     ensures too_long { IfSome (config_of pages app rma) (λ _. 1048576 < length script.now → result ≡ 4) }
 {
     match Config::new(pages, app, rma) {

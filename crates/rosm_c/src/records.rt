@@ -1,11 +1,11 @@
 //! The records of a debugging script, in room that a caller lends.
 
 ghost use Rattle.std.specs.Prelude.{◌≡◌, ◌<◌, length};
-ghost use Rattle.rosm_c.specs.Answers.{TellsRecordsUnlessNone};
+ghost use Rattle.rosm_c.specs.Answers.{ShowsRecordsUnlessNone};
 
 use crate::answers::{NOT_RUN, put, refuse};
 use debug_modes::expectations::reports::ReportForm;
-use debug_records::{DebugSetting, record_script};
+use debug_records::{DebugSettings, record_script};
 use debug_tables::run_meter::RunMeter;
 use image_loader::Images;
 use profile::Config;
@@ -25,13 +25,13 @@ pub(crate) fn write_records(
     room: &mut [u8],
     written: &mut usize,
 ) -> u32
-    ensures recorded { TellsRecordsUnlessNone result written.new room.old room.new }
+    ensures recorded { ShowsRecordsUnlessNone result written.new room.old room.new }
     ensures too_long { 1048576 < length script.now → result ≡ 4 }
 {
     if script.len() > MOST_BYTES {
         return refuse(NOT_RUN, written);
     }
-    let setting = DebugSetting {
+    let setting = DebugSettings {
         config,
         budget,
         form: ReportForm::Answers,

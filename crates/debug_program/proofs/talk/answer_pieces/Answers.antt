@@ -1,0 +1,50 @@
+-- By the lemmas of TalkLemmas.
+use Rattle.std.proofs.Common.{◌≡◌, ℕ, true, inl, inr, refl, rules, sym, ap, ◌∙◌}
+use Rattle.debug_records.specs.Session.{debug_state}
+use Rattle.debug_records.specs.DebugSession.{DebugSession}
+use Rattle.debug_program.proofs.TalkLemmas.{talked_front, talked_here, talked_more, talked_none, talked_part, talked_still_by}
+use Rattle.debug_program.proofs.talk.answer_pieces.Goals as goal
+
+pub loop-pulls-init : goal.loop-pulls-init
+loop-pulls-init g c = record {
+  talked = talked_none _ _ _ _ _;
+  read_flag = λ down. down;
+  same_flag = refl;
+}
+
+pub loop-pulls-preserved : goal.loop-pulls-preserved
+loop-pulls-preserved g c = record {
+  talked = talked_more _ _ _ _ _ _ _ _ _ _ _ _ _ _ _ _ c.loop-pulls.invariant.talked c.in-Ok.ensures.bytes.0
+      c.in_ok-push_prompt.ensures.plain c.hand_on.ensures.kept c.in_ok-answer_piece.ensures.taken c.answer_piece.ensures.setting;
+  read_flag = λ down. c.in-Ok.ensures.flag;
+  same_flag = c.in_ok-answer_piece.ensures.same_flag ∙ c.in_ok-hand_on.ensures.same_flag
+      ∙ c.in_ok-push_prompt.ensures.same_flag ∙ c.loop-pulls.invariant.same_flag;
+}
+
+pub returns-then-has_quit-clause-ends : goal.returns-then-has_quit-clause-ends
+returns-then-has_quit-clause-ends g c =
+    inr (sym (ap (λ (x : DebugSession). (debug_state x c.loop-pulls.images).has_quit) c.session.ensures)
+    ∙ sym (c.has_quit.ensures c.loop-pulls.images) ∙ c.if-has_quit.true)
+
+pub returns-then-count-eq0-clause-talked : goal.returns-then-count-eq0-clause-talked
+returns-then-count-eq0-clause-talked g c =
+    talked_still_by _ _ _ _ _ _ _ _ _ _ _ _ _ _ c.loop-pulls.invariant.talked c.in-Ok.ensures.bytes.0
+    c.if-count-eq0.true c.in_ok-push_prompt.ensures.plain c.hand_on.ensures.kept
+
+pub returns-in_default-clause-read_front : goal.returns-in_default-clause-read_front
+returns-in_default-clause-read_front g c = λ is.
+    talked_front _ _ _ _ _ _ _ _ _ _ _ c.loop-pulls.invariant.talked c.in_ok-push_prompt.ensures.plain
+    c.hand_on.ensures.kept
+
+pub returns-in_err-answer_piece-clause-memory : goal.returns-in_err-answer_piece-clause-memory
+returns-in_err-answer_piece-clause-memory g c = λ is.
+    talked_part _ _ _ _ _ _ _ _ _ _ _ _ _ _ c.loop-pulls.invariant.talked c.in-Ok.ensures.bytes.0
+    c.in_ok-push_prompt.ensures.plain c.hand_on.ensures.kept (c.in_err-answer_piece.ensures.memory (search rules))
+
+pub returns-in_err-answer_piece-clause-long_front : goal.returns-in_err-answer_piece-clause-long_front
+returns-in_err-answer_piece-clause-long_front g c = λ is.
+    talked_part _ _ _ _ _ _ _ _ _ _ _ _ _ _ c.loop-pulls.invariant.talked c.in-Ok.ensures.bytes.0
+    c.in_ok-push_prompt.ensures.plain c.hand_on.ensures.kept (c.in_err-answer_piece.ensures.long_front (search rules))
+
+pub returns-clause-long_front : goal.returns-clause-long_front
+returns-clause-long_front g c = λ is. talked_here _ _ _ _ _ _ _ _ _ c.loop-pulls.invariant.talked

@@ -1,0 +1,44 @@
+//! A script, and behind it what is typed.
+
+ghost use Rattle.std.specs.Prelude.{◌≡◌, IfOk, OnOk};
+ghost use Rattle.profile.specs.Devices.{device_inner};
+ghost use Rattle.debug_program.specs.GoingOn.{DebugsBoth, IsStatusOfBoth};
+
+use crate::talk::{answer_pieces, talk};
+use crate::whole_lines::WholeLines;
+use command_shell::RunError;
+use debug_records::DebugTyping;
+use image_loader::Images;
+use profile::{Device, Sink, Source};
+use std::io::Write;
+
+/// Answers the lines of a script, each with its end, and then what a reader gives, as [`talk`] does,
+/// and gives the exit status of both.
+///
+/// # Errors
+///
+/// As [`talk`].
+pub fn talk_behind_script<F: Source + Drop, R: Source, W: Write, E: Sink>(
+    typing: DebugTyping,
+    images: &mut Images,
+    script: F,
+    reader: &mut R,
+    writer: &mut Device<W>,
+    errors: &mut E,
+    is_terminal: bool,
+) -> Result<u8, RunError>
+    ensures text { OnOk result (DebugsBoth typing images.old is_terminal (F.remaining script)
+        (R.remaining reader.old)
+        (W.contents (device_inner writer.old)) (W.contents (device_inner writer.new))) }
+    ensures status { IfOk result (IsStatusOfBoth typing images.old (F.remaining script)
+        (R.remaining reader.old)) }
+{
+    let mut typing = typing;
+    let mut script = WholeLines {
+        inner: script,
+        is_line_open: false,
+    };
+    answer_pieces(&mut typing, images, &mut script, writer, errors, false)?;
+    let status = talk(typing, images, reader, writer, errors, is_terminal)?;
+    Ok(status)
+}

@@ -1,0 +1,218 @@
+//! A session: what is read is answered as it comes, line by line.
+
+ghost use Rattle.std.specs.Prelude.{◌≡◌, ◌⊎◌, true, false, Err, IfOk, IfErr, OnOk, OnErr};
+ghost use Rattle.std.specs.Io.KnownBytes.{IsAtEnd, Keeps};
+ghost use Rattle.profile.specs.Devices.{device_failed, device_inner};
+ghost use Rattle.command_shell.specs.Error.{IsLineError};
+ghost use Rattle.debug_records.specs.DebugState.{IsDebugTypingError};
+ghost use Rattle.debug_records.specs.Failing.{ReportsReadFault, ReportsWriteFault};
+ghost use Rattle.debug_modes.specs.declared.expectations.reports.reports.ReportForm.TheVariants.{Answers};
+ghost use Rattle.debug_program.specs.Talking.{BeginsInput, DebugsInput, HasTalked, IsStatusOfInput, TakesPiece, TakesPieceInPart};
+
+use command_shell::RunError;
+use debug_modes::expectations::reports::push_missing_end;
+use debug_records::{DebugTyping, ReportForm};
+use image_loader::Images;
+use profile::{Device, Sink, Source, WriteFault, push_all};
+use std::io::Write;
+
+// The most bytes that are read at once.
+const PIECE: usize = 4096;
+
+/// Answers what a reader gives, each line as soon as it is whole, up to its end or a line QUIT, and
+/// gives the exit status. At a terminal a prompt stands before each line. What the writer holds back
+/// is handed on before the next piece is read. Of each block that lacks its END standard error shows,
+/// or a comment of the protocol.
+///
+/// # Errors
+///
+/// `ReadFault`, `WriteFault`, `ScriptTooLong` and `Memory`, when a part of the answers may stand
+/// written.
+pub fn talk<R: Source, W: Write, E: Sink>(
+    typing: DebugTyping,
+    images: &mut Images,
+    reader: &mut R,
+    writer: &mut Device<W>,
+    errors: &mut E,
+    is_terminal: bool,
+) -> Result<u8, RunError>
+    ensures text { OnOk result (DebugsInput typing images.old is_terminal (R.remaining reader.old)
+        (W.contents (device_inner writer.old)) (W.contents (device_inner writer.new))) }
+    ensures status { IfOk result (IsStatusOfInput typing images.old (R.remaining reader.old)) }
+    ensures read_fault { ReportsReadFault R.has_failed reader.old reader.new result }
+    ensures read_front { result ≡ Err RunError.ReadFault → BeginsInput typing images.old is_terminal
+        (R.remaining reader.old) (W.contents (device_inner writer.old))
+        (W.contents (device_inner writer.new)) }
+    ensures memory { result ≡ Err RunError.Memory → BeginsInput typing images.old is_terminal
+        (R.remaining reader.old) (W.contents (device_inner writer.old))
+        (W.contents (device_inner writer.new)) }
+    ensures long_front { result ≡ Err RunError.ScriptTooLong → BeginsInput typing images.old is_terminal
+        (R.remaining reader.old) (W.contents (device_inner writer.old))
+        (W.contents (device_inner writer.new)) }
+    ensures write_fault { ReportsWriteFault device_failed writer.old writer.new result }
+{
+    let mut typing = typing;
+    answer_pieces(&mut typing, images, reader, writer, errors, is_terminal)?;
+    print_missing_at_end(&typing, writer, errors)?;
+    let session = typing.end(images, writer)?;
+    session.print_summary(writer)?;
+    hand_on(writer)?;
+    Ok(session.status())
+}
+
+// Answers all lines that are whole.
+pub(crate) fn answer_pieces<R: Source, W: Write, E: Sink>(
+    typing: &mut DebugTyping,
+    images: &mut Images,
+    reader: &mut R,
+    writer: &mut Device<W>,
+    errors: &mut E,
+    is_terminal: bool,
+) -> Result<(), RunError>
+    ensures talked { OnOk result (HasTalked typing.old typing.new images.old images.new
+        (R.remaining reader.old) (R.remaining reader.new)
+        (W.contents (device_inner writer.old)) (W.contents (device_inner writer.new)) is_terminal) }
+    ensures ends { OnOk result ((IsAtEnd (R.remaining reader.new)) ⊎ (typing.new.session.has_quit ≡ true)) }
+    ensures read_fault { ReportsReadFault R.has_failed reader.old reader.new result }
+    ensures read_front { result ≡ Err RunError.ReadFault → BeginsInput typing.old images.old is_terminal
+        (R.remaining reader.old) (W.contents (device_inner writer.old))
+        (W.contents (device_inner writer.new)) }
+    ensures memory { result ≡ Err RunError.Memory → BeginsInput typing.old images.old is_terminal
+        (R.remaining reader.old) (W.contents (device_inner writer.old))
+        (W.contents (device_inner writer.new)) }
+    ensures long_front { result ≡ Err RunError.ScriptTooLong → BeginsInput typing.old images.old is_terminal
+        (R.remaining reader.old) (W.contents (device_inner writer.old))
+        (W.contents (device_inner writer.new)) }
+    ensures write_fault { ReportsWriteFault device_failed writer.old writer.new result }
+    ensures read_flag { OnOk result (R.has_failed reader.old ≡ false → R.has_failed reader.new ≡ false) }
+    ensures same_flag { OnOk result (device_failed writer.new ≡ device_failed writer.old) }
+{
+    let mut piece = [0u8; PIECE];
+    for _pulls in 0..u64::MAX {
+        if typing.session().has_quit() {
+            return Ok(());
+        }
+        push_prompt(writer, is_terminal, typing.is_in_block())?;
+        hand_on(writer)?;
+        let Ok(count) = reader.pull(&mut piece) else {
+            return Err(RunError::ReadFault);
+        };
+        if count == 0 {
+            return Ok(());
+        }
+        answer_piece(typing, images, writer, errors, &piece[..count])?;
+    }
+    Err(RunError::ScriptTooLong)
+}
+
+/// Hands on what a writer holds back.
+///
+/// # Errors
+///
+/// `WriteFault`.
+pub fn hand_on<W: Write>(writer: &mut Device<W>) -> Result<(), RunError>
+    ensures kept { Keeps (W.contents (device_inner writer.old)) (W.contents (device_inner writer.new)) }
+    ensures errors { IfErr result (λ error. error ≡ RunError.WriteFault) }
+    ensures flag { OnErr result (device_failed writer.new ≡ true) }
+    ensures same_flag { OnOk result (device_failed writer.new ≡ device_failed writer.old) }
+{
+    match writer.flush() {
+        Ok(()) => Ok(()),
+        Err(_) => Err(RunError::WriteFault),
+    }
+}
+
+// Reports blocks that turn out to lack their END, and answers what is whole then.
+fn answer_piece<W: Sink, E: Sink>(
+    typing: &mut DebugTyping,
+    images: &mut Images,
+    sink: &mut W,
+    errors: &mut E,
+    piece: &[u8],
+) -> Result<(), RunError>
+    ensures taken { OnOk result (TakesPiece typing.old typing.new images.old images.new
+        (W.contents sink.old) (W.contents sink.new) piece.now) }
+    ensures setting { typing.new.session.setting ≡ typing.old.session.setting }
+    ensures memory { result ≡ Err RunError.Memory → TakesPieceInPart typing.old images.old
+        (W.contents sink.old) (W.contents sink.new) piece.now }
+    ensures long_front { result ≡ Err RunError.ScriptTooLong → TakesPieceInPart typing.old images.old
+        (W.contents sink.old) (W.contents sink.new) piece.now }
+    ensures errors { IfErr result IsDebugTypingError }
+    ensures write_fault { ReportsWriteFault W.has_failed sink.old sink.new result }
+    ensures same_flag { OnOk result (W.has_failed sink.new ≡ W.has_failed sink.old) }
+{
+    let read = typing.read(piece)?;
+    let form = typing.session().form();
+    print_missing_ends(sink, errors, form, read.missing_ends())?;
+    typing.answer(images, sink, read)
+}
+
+fn print_missing_at_end<W: Sink, E: Sink>(
+    typing: &DebugTyping,
+    sink: &mut W,
+    errors: &mut E,
+) -> Result<(), RunError>
+    ensures plain { OnOk result (typing.now.session.setting.form ≡ Answers
+        → W.contents sink.new ≡ W.contents sink.old) }
+    ensures memory { result ≡ Err RunError.Memory → sink.new ≡ sink.old }
+    ensures errors { IfErr result IsLineError }
+    ensures write_fault { ReportsWriteFault W.has_failed sink.old sink.new result }
+    ensures same_flag { OnOk result (W.has_failed sink.new ≡ W.has_failed sink.old) }
+{
+    if typing.session().has_quit() {
+        return Ok(());
+    }
+    let begins = typing.missing_ends_at_end()?;
+    let form = typing.session().form();
+    Ok(print_missing_ends(sink, errors, form, begins.as_slice())?)
+}
+
+// Standard error may be closed: what it is told is no answer.
+fn print_missing_ends<W: Sink, E: Sink>(
+    sink: &mut W,
+    errors: &mut E,
+    form: ReportForm,
+    begins: &[usize],
+) -> Result<(), WriteFault>
+    ensures plain { OnOk result (form ≡ Answers → W.contents sink.new ≡ W.contents sink.old) }
+    ensures flag { OnErr result (W.has_failed sink.new ≡ true) }
+    ensures same_flag { OnOk result (W.has_failed sink.new ≡ W.has_failed sink.old) }
+{
+    match form {
+        ReportForm::Answers => {
+            let _ = push_missing_ends(errors, b"rosm_debug: ", begins);
+            Ok(())
+        }
+        ReportForm::Tap => push_missing_ends(sink, b"# ", begins),
+    }
+}
+
+fn push_missing_ends<W: Sink>(
+    sink: &mut W,
+    front: &[u8],
+    begins: &[usize],
+) -> Result<(), WriteFault>
+    ensures flag { OnErr result (W.has_failed sink.new ≡ true) }
+    ensures same_flag { OnOk result (W.has_failed sink.new ≡ W.has_failed sink.old) }
+{
+    for begin in begins {
+        push_missing_end(sink, front, *begin)?;
+    }
+    Ok(())
+}
+
+// `> ` before a line, `| ` within a block.
+fn push_prompt<W: Sink>(
+    sink: &mut W,
+    is_terminal: bool,
+    is_in_block: bool,
+) -> Result<(), WriteFault>
+    ensures plain { OnOk result (is_terminal ≡ false → W.contents sink.new ≡ W.contents sink.old) }
+    ensures flag { OnErr result (W.has_failed sink.new ≡ true) }
+    ensures same_flag { OnOk result (W.has_failed sink.new ≡ W.has_failed sink.old) }
+{
+    if !is_terminal {
+        return Ok(());
+    }
+    push_all(sink, if is_in_block { b"| " } else { b"> " })
+}
