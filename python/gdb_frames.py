@@ -87,7 +87,7 @@ class GateUnwinder(Unwinder):
 
 
 def add_symbol() -> None:
-    """Tells GDB the name of the gate, by a file that is no more once it is read.
+    """Gives GDB the name of the gate, by a file that is no more once it is read.
 
     The symbol stands a word before it, since GDB looks for a caller's name before the address that it goes on at.
     """

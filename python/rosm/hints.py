@@ -8,6 +8,7 @@ from __future__ import annotations
 
 import difflib
 import re
+from typing import Sequence
 
 from .mnemonics import BASIC, OBJASM, why_not
 
@@ -38,9 +39,19 @@ def hint_of(line: str) -> str:
         return f"here that is {FOREIGN.get(word) or FOREIGN[label.upper()]}"
     if label.startswith("."):
         return "a label has no dot"
+    if re.search(r"//|/\*|\s@", code):
+        return "a comment begins with ;"
     if is_instruction(label) and word:
         return f"{label} is in the first column, where labels begin: put spaces before it"
     return hint_of_word(word) or hint_of_operands(word, rest)
+
+
+def hint_of_label(line: str, lines: Sequence[str]) -> str:
+    """A label of these lines that the line likely means, where it names one that isn't there; or nothing."""
+    labels = {label for each in lines if (label := re.match(r"[^\s;]*", each)[0])}  # type: ignore[index]
+    words = set(re.findall(r"[A-Za-z_]\w*", TEXTS.sub("", line).partition(";")[0])) - labels
+    near = sorted(label for label in labels if any(word.lower() == label.lower() for word in words))
+    return f"there is {near[0]}; capitals count" if near else ""
 
 
 def is_instruction(word: str) -> bool:

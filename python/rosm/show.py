@@ -115,7 +115,7 @@ def print_page(debugger: Debugger) -> int:
 
 
 def say_where_script_is(program: str, debugger: Debugger) -> None:
-    """Who types a script is told how it ends, and who names files beside none, what they are."""
+    """Says how a script that is typed ends, and what the files are where one names files and no script."""
     if debugger.script != "-":
         return
     if sys.stdin.isatty():

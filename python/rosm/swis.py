@@ -5,6 +5,8 @@ A number that stands among the names says where the next name is. X before a nam
 
 from __future__ import annotations
 
+import difflib
+
 X_BIT = 0x20000
 
 _KERNEL = """
@@ -143,6 +145,17 @@ def swi_number(name: str) -> int | None:
     if name.startswith("X") and name[1:] in NUMBERS:
         return NUMBERS[name[1:]] | X_BIT
     return None
+
+
+def near_swi(name: str) -> str:
+    """A name of the table that this one likely means, as a text for a message, or nothing."""
+    plain = name.lower()
+    for front in ("", "x"):
+        for known in NUMBERS:
+            if front + known.lower() == plain:
+                return f"; there is {front.upper()}{known}, and capitals count"
+    near = difflib.get_close_matches(name, NUMBERS, 1, 0.8)
+    return f"; there is {near[0]}" if near else ""
 
 
 def swi_name(number: int) -> str | None:

@@ -6,7 +6,7 @@ import pytest
 from library import needs_library
 
 from rosm import Machine, MachineError
-from rosm.hints import hint_of
+from rosm.hints import hint_of, hint_of_label
 
 # lines as people write them, what is said, and the line as it should be
 LINES = [
@@ -30,6 +30,9 @@ LINES = [
     (" MOV R0,#-1", "a number has no sign: use MVN for MOV, SUB for ADD, CMN for CMP", " MVN R0,#0"),
     (" MOV R0,R1,ASL #2", "ASL is LSL here", " MOV R0,R1,LSL #2"),
     (" STMFD sp!,{ R0 }", "spaces are only beside commas", " STMFD sp!,{R0}"),
+    (" MOV R0,#1 // one", "a comment begins with ;", " MOV R0,#1 ; one"),
+    (" MOV R0,#1 /* one */", "a comment begins with ;", " MOV R0,#1 ; one"),
+    (" MOV R0,#1 @ one", "a comment begins with ;", " MOV R0,#1 ; one"),
 ]
 # right lines, and wrong ones of which nothing is known; texts and comments are looked into by nobody
 SILENT = ["", " MOV R0,#1 ;\tx", "; loop: x", "loop", " LDR R0,[R1,#-4]", 'x DCB "loop: 0x10",0 ; ADR', " MOV R0,#':'", " MUL R0", " MOV R0 #1",
@@ -65,3 +68,9 @@ def test_each_error_of_a_block_has_its_hint() -> None:
         "line 2: loop: B loop: no line of the assembler (a label has no colon) (Syntax)",
         "line 3: MOVE R0,#2: no line of the assembler (no instruction MOVE; MOV?) (Syntax)",
         "line 4: B nowhere: no line has the label, or no SWI the name (UnknownLabel)"]
+
+
+def test_a_label_with_other_capitals() -> None:
+    lines = ["loop    SUBS    R0,R0,#1", "        BNE     Loop", "        B       there"]
+    assert hint_of_label(lines[1], lines) == "there is loop; capitals count"
+    assert hint_of_label(lines[2], lines) == "" and hint_of_label("        BNE     loop", lines) == ""

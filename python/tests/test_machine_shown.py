@@ -54,8 +54,8 @@ def looked_at(text: str) -> Balanced:
 def test_a_trace_is_text() -> None:
     machine = summed()
     lines = str(machine.trace(2)).splitlines()
-    assert re.fullmatch(r" +12 00008014 STR R0,\[PC\] +\[0000801C\]=00000006 was 000000FF", lines[0])
-    assert re.fullmatch(r" +13 00008018 SWI &11 +OS_Exit stops Exit", lines[1])
+    assert re.fullmatch(r" +12 00008014 7 STR R0,\[PC\] +\[0000801C\]=00000006 was 000000FF", lines[0])
+    assert re.fullmatch(r" +13 00008018 8 SWI OS_Exit +stops Exit", lines[1])
     trace = machine.trace()
     assert len(trace) == 13 and trace[0].effects == ("R0=00000000",) and trace[10].effects == ("skipped",)
     assert [step.number for step in machine.back(12).trace()] == [1]

@@ -9,6 +9,7 @@ import pytest
 from rosm import arm2
 from rosm.objasm import Options, assemble_files
 from rosm.program import Program
+from rosm.swis import near_swi
 
 # Directives (ObjAsm manual, "Directives" and "Macros", and AAsm's) with a line in which each is right.
 DONE = {
@@ -153,3 +154,10 @@ def test_each_spelling_means_one_thing() -> None:
 def test_attribute_of_an_area_is_noted(name: str, tmp_path: Path) -> None:
     program = program_of(f" AREA a, CODE, READONLY, {name}\n DCD 1\n", tmp_path)
     assert [message.word for message in program.messages.items] == [name]
+
+
+@pytest.mark.parametrize("name, hint", [("os_byte", "; there is OS_Byte, and capitals count"), ("xos_byte", "; there is XOS_Byte, and capitals count"),
+                                        ("OS_Writec", "; there is OS_WriteC, and capitals count"), ("OS_Claim_", "; there is OS_Claim"),
+                                        ("NoSuch_Thing", "")])
+def test_a_swi_that_is_nearly_known(name: str, hint: str) -> None:
+    assert near_swi(name) == hint

@@ -237,7 +237,7 @@ def place(scan: Scan) -> Find:
     scan.at = found.end()
     if name.endswith("("):
         if scan.take(")"):
-            raise BasicError("a whole array can't stand here", name + ")")
+            raise BasicError("a whole array can't be here", name + ")")
         indices = arguments(scan)
 
         def find(basic: Basic) -> Target:

@@ -157,7 +157,7 @@ def _part(basic: Basic, wanted: int) -> tuple:
         numbers.append(basic.integer())
     basic.need(")")
     if len(numbers) > wanted or (wanted == 2 and not numbers):
-        raise BasicError(f"{len(numbers)} numbers stand behind the string", "string")
+        raise BasicError(f"{len(numbers)} numbers follow the string", "string")
     return target, *(numbers + [None, None])[:2]
 
 

@@ -7,14 +7,17 @@ from __future__ import annotations
 
 import re
 from pathlib import Path
+from typing import Any, Iterator
 
 from ..native import Engine, Settings, bytes_of, library_engine
 from ..player import player_page
 from ..swis import swi_number
+from .emptiness import empty_walk
 from .history import History
 from .parts import (Area, Block, Flags, FlexBlock, Frame, Heap, Instance, Memory, Module, Registers, Unmapped,
                     register_number)
 from .session import LIMIT, Answered, Line, MachineError, Session, with_texts
+from .sources import Sources, source_of
 from .trace import Trace, trace_of
 
 __all__ = ["Answered", "Area", "Block", "Flags", "FlexBlock", "Frame", "Heap", "Instance", "Line", "Machine",
@@ -29,13 +32,15 @@ class Machine:
     """A store machine, its run so far, and a moment of it that is looked at: the last, or an earlier one.
 
     `pages`, `app` and `rma` are sizes in pages of 4,096 bytes, `budget` how many steps a line may take,
-    `limit` how many steps of a line are told one by one. LibraryMissing: librosm.so isn't there.
+    `limit` how many steps of a line are recorded one by one. LibraryMissing: librosm.so isn't there.
     """
 
     def __init__(self, *, pages: int = 256, app: int = 64, rma: int = 16, budget: int = 1_000_000,
                  limit: int = LIMIT, engine: Engine = library_engine) -> None:
         self._session = Session(engine, Settings(pages, app, rma, budget), limit)
         self._moment: int | None = None
+        # the program that was assembled last, if it had errors
+        self._lost = ""
         self.r = Registers(self)
         self.mem = Memory(self)
 
@@ -56,6 +61,8 @@ class Machine:
         return self.lines(text)[0]
 
     def _do(self, *lines: Line) -> list[Answered]:
+        if lines and (reason := empty_walk(lines[0].text, self._lost, self.history, self.moment)):
+            raise MachineError(f"{lines[0].text}: nothing was run: {reason}")
         self._session.cut(self.moment)
         self._moment = None
         return self._session.do(*lines)
@@ -76,9 +83,12 @@ class Machine:
         if ends:
             raise MachineError(f"line {ends[0]}: END ends a block of a script, and isn't wanted here")
         try:
-            return self._do(Line(f"ASM {name} &{at:X}", (*lines, "END")), *self._put(name, at))[0]
+            made = self._do(Line(f"ASM {name} &{at:X}", (*lines, "END")), *self._put(name, at))[0]
         except MachineError as error:
+            self._lost = name
             raise with_line(error, lines) from None
+        self._lost = ""
+        return made
 
     def image(self, data: bytes, name: str | None = None, at: int = WHERE_IMAGES_BOOT) -> Answered:
         """Puts bytes into memory, as asm does, or makes them an image for `load` where `at` is 0."""
@@ -178,7 +188,7 @@ class Machine:
     def forward(self, count: int = 1) -> Machine:
         """Looks at the machine so many steps later, at the last moment at most."""
         found = self.history.moment_of_step(self.steps + count)
-        # steps that weren't told one by one are one moment
+        # steps that weren't recorded one by one are one moment
         return self.go(found if found > self.moment else min(self.moment + 1, self.history.last))
 
     def writer(self, place: int | str) -> int:
@@ -264,18 +274,21 @@ class Machine:
 
     def labels(self) -> dict[str, int]:
         """The labels of all programs that were assembled, where they are now."""
-        found: dict[str, int] = {}
+        return {label: at + offset for at, image, _ in self._assembled()
+                for label, offset in image.get("labels", {}).items()}
+
+    def _assembled(self) -> Iterator[tuple[int, dict[str, Any], tuple[str, ...]]]:
+        """What was assembled up to the present moment: where it is now, the image, and the block's lines."""
         places = self.history.places.at(self.moment)
         for entry in self._session.entries:
             image = entry.answered.image
             if image and entry.before <= self.moment:
-                at = places.get(image["name"], image["origin"])
-                found.update({label: at + offset for label, offset in image.get("labels", {}).items()})
-        return found
+                yield places.get(image["name"], image["origin"]), image, entry.line.block
 
     def trace(self, count: int | None = None) -> Trace:
         """The last steps up to the present moment, or all."""
-        return trace_of(self.history, self.moment, count)
+        sources = Sources((at, source_of(image, block)) for at, image, block in self._assembled())
+        return trace_of(self.history, self.moment, count, sources)
 
     # ---- what is kept
 

@@ -49,7 +49,7 @@ class History:
         self.fixed: Cell[list[tuple[int, int]]] = Cell(fixed_ranges(start))
         self.places: Cell[dict[str, int]] = Cell({})
         self.flex: Cell[dict[int, tuple[int, int]]] = Cell({})
-        # None where steps that weren't told one by one may have entered or left some
+        # None where steps that weren't recorded one by one may have entered or left some
         self.frames: Cell[tuple[Record, ...] | None] = Cell(())
         self.heap_changes: list[tuple[int, Record]] = [(0, {"start": 1, "heaps": start["heaps"]})]
         self.printed: list[tuple[int, str]] = []
@@ -60,7 +60,7 @@ class History:
         return len(self.texts) - 1
 
     def moment_of_step(self, step: int) -> int:
-        """The last moment at which so many steps were taken, or fewer where they weren't told one by one."""
+        """The last moment at which so many steps were taken, or fewer where they weren't recorded one by one."""
         return bisect_right(self.steps, step) - 1
 
     def record(self, moment: int) -> Record:

@@ -1,8 +1,8 @@
 """A session: lines of a debugging script that are answered as they come, each with its records.
 
 Scripts are deterministic, so a session is its lines: where one is added, all of them are answered anew
-by an engine, and the records of the new one are kept. Steps of older lines aren't told again: a line
-`TRACE LIMIT 0` stands before them, and one with the session's own limit before the new line.
+by an engine, and the records of the new one are kept. Steps of older lines aren't recorded again: a line
+`TRACE LIMIT 0` is before them, and one with the session's own limit before the new line.
 """
 
 from __future__ import annotations
@@ -12,7 +12,7 @@ import re
 from dataclasses import dataclass, field
 from typing import Any, Iterator
 
-from ..hints import hint_of
+from ..hints import hint_of, hint_of_label
 from ..native import Engine, Settings, bytes_of
 from .history import History, Record
 
@@ -57,7 +57,8 @@ class Line:
 class Answered:
     """What a line is answered: its text, how many steps it took and what these printed.
 
-    `passed` is None where the line expects nothing, `image` what a block has made.
+    `passed` is None where the line expects nothing, `image` what a block has made: its lines are numbers
+    of the block's own.
     """
 
     text: str = ""
@@ -86,7 +87,7 @@ class Entry:
 
 @dataclass
 class Session:
-    """Lines and their records. `limit` is how many steps of a line are told one by one."""
+    """Lines and their records. `limit` is how many steps of a line are recorded one by one."""
 
     engine: Engine
     settings: Settings = field(default_factory=Settings)
@@ -222,8 +223,13 @@ def with_texts(text: str, lines: list[str]) -> str:
 
     def with_source(found: re.Match[str]) -> str:
         source = line_of(found).strip()[:MOST_SOURCE]
-        hint = hint_of(line_of(found)) if found[2] == "Syntax" else ""
+        hint = hint_by(found[2], line_of(found))
         return f"{found[0]}: {source}" + (f" ({hint})" if hint else "") if source else found[0]
+
+    def hint_by(reason: str, source: str) -> str:
+        if reason == "UnknownLabel":
+            return hint_of_label(source, lines)
+        return hint_of(source) if reason == "Syntax" else ""
 
     def with_hint(found: re.Match[str]) -> str:
         hint = hint_of(line_of(found))
@@ -247,4 +253,13 @@ def answered_of(records: list[Record]) -> Answered:
         refused=any("refused" in record for record in answers),
         passed=not failed if verdicts else None,
         reason=failed.get("is", ""),
-        image=last.get("image"))
+        image=own_image(last))
+
+
+def own_image(record: Record) -> dict[str, Any] | None:
+    """What a block has made, with the numbers of its own lines, from 1 on, in place of the script's."""
+    image: dict[str, Any] | None = record.get("image")
+    if image is None or "lines" not in image:
+        return image
+    begin = record["answer"]
+    return {**image, "lines": [[number - begin, *rest] for number, *rest in image["lines"]]}

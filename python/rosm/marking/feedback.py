@@ -37,6 +37,8 @@ PAGE = """<!doctype html>
 {body}
 </html>
 """
+TRACE_COLUMNS = ("Each with its number, its address, your line and label, the instruction, and what it"
+                 " changed.")
 LINE = re.compile(r"(?:^|: )line (\d+)\b", re.MULTILINE)
 
 
@@ -92,7 +94,8 @@ def case_part(case: CaseMark) -> str:
     if case.problems and case.hint:
         parts.append(f"<p>{escaped(case.hint)}</p>")
     if case.trace:
-        parts.append(f"<details><summary>The last steps</summary><pre>{escaped(case.trace)}</pre></details>")
+        parts.append(f"<details><summary>The last steps</summary><p>{TRACE_COLUMNS}</p>"
+                     f"<pre>{escaped(case.trace)}</pre></details>")
     elif not case.problems:
         parts.append(f"<p>{case.steps} steps</p>")
     return "\n".join([*parts, "</section>"])

@@ -7,6 +7,7 @@ from dataclasses import dataclass, field
 
 from ..machine.history import History
 from ..machine.session import Answered, Line, MachineError, Session
+from ..machine.sources import Sources
 from ..machine.trace import trace_of
 from ..native import Engine, Settings
 from .cases import Case, Exercise
@@ -15,8 +16,8 @@ from .submission import MOST_AT_ONCE, Image, Refused, image_of, shown_bytes
 # where a routine goes back to: somewhere here, where no memory is, in each case somewhere else
 TRAPS = range(0x3F00000, 0x3FFFF00, 4)
 USUAL_STOPS = {"program": "Exit", "routine": "Break", "module": ""}
-# how many steps are told for the trace of a case that failed, and how many of them it has
-TOLD_STEPS, SHOWN_STEPS = 5000, 12
+# how many steps are recorded for the trace of a case that failed, and how many of them it shows
+RECORDED_STEPS, SHOWN_STEPS = 5000, 12
 SHOWN_BYTES = 200
 
 
@@ -217,11 +218,20 @@ class CaseRun:
         return found
 
     def trace(self, engine: Engine) -> str:
-        """The last steps, where there aren't too many to be told."""
-        if self.answered.steps > TOLD_STEPS:
+        """The last steps, each with its line of the source and its label; nothing where there are too many steps."""
+        if self.answered.steps > RECORDED_STEPS:
             return ""
-        self.go(engine, TOLD_STEPS)
-        return str(trace_of(self.history, self.after, min(SHOWN_STEPS, max(self.answered.steps, 1))))
+        self.go(engine, RECORDED_STEPS)
+        count = min(SHOWN_STEPS, max(self.answered.steps, 1))
+        return str(trace_of(self.history, self.after, count, Sources([(self.image_place(), self.image.source)])))
+
+    def image_place(self) -> int:
+        """Where the image is: a module's where it was loaded, before the call."""
+        if self.exercise.kind != "module":
+            return self.exercise.origin
+        modules = self.history.whole["modules"].at(self.before)
+        place: int = modules[-1]["at"] if modules else 0
+        return place
 
 
 def poke_lines(at: int, content: bytes) -> list[Line]:

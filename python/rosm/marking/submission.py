@@ -9,6 +9,7 @@ from pathlib import Path
 
 from ..files import lines_of
 from ..machine.session import Line, MachineError, Session, with_texts
+from ..machine.sources import Source, source_of
 from ..native import Engine
 from .cases import Exercise
 
@@ -29,10 +30,11 @@ class Refused(Exception):
 
 @dataclass(frozen=True)
 class Image:
-    """The bytes of a submission, and its labels by their addresses."""
+    """The bytes of a submission, its labels by their addresses, and its lines."""
 
     data: bytes
     labels: dict[str, int]
+    source: Source = Source(0)
 
 
 def read_submission(path: Path, most: int) -> bytes:
@@ -84,7 +86,7 @@ def asm_image(exercise: Exercise, lines: list[str], engine: Engine) -> Image:
             raise Refused("no image was made of it")
         check_size(exercise, image["length"])
         labels = {label: exercise.origin + offset for label, offset in image.get("labels", {}).items()}
-        return Image(bytes_of_image(session, exercise.name, image["length"]), labels)
+        return Image(bytes_of_image(session, exercise.name, image["length"]), labels, source_of(image, lines))
     except MachineError as error:
         raise Refused(assembly_reason(exercise.name, str(error.answer or error), lines)) from error
 
@@ -122,7 +124,12 @@ def objasm_image(exercise: Exercise, lines: list[str]) -> Image:
     if wrong:
         raise Refused("\n".join(wrong[:MOST_ERRORS]))
     check_size(exercise, len(program.data))
-    return Image(program.data, {label.name: label.address for label in program.labels})
+    labels = {label.name: label.address for label in program.labels}
+    offsets = {label: address - exercise.origin for label, address in labels.items()}
+    rows = [[row.position.line, row.address - exercise.origin, row.length] for row in program.rows
+            if row.position.file == str(path)]
+    record = {"length": len(program.data), "labels": offsets, "lines": rows}
+    return Image(program.data, labels, source_of(record, lines))
 
 
 def end_reason(lines: list[str], number: int) -> str:

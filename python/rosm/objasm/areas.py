@@ -89,6 +89,29 @@ def place_areas(areas: list[Area], origin: int, linked: bool) -> bool:
     return moved
 
 
+def linker_names(areas: list[Area], origin: int) -> dict[str, int]:
+    """The names that a linker gives addresses: where the image's parts and each area begin and end.
+
+    A part without areas begins and ends where the one before it ends. `Image$$RW$$Limit` isn't given where
+    there are areas with NOINIT, since manuals differ in whether these are before it.
+    """
+    found: dict[str, int] = {}
+    named = [area for area in areas if area.name]
+    at = origin
+    for part, its in (("RO", [area for area in named if area.readonly and not area.zeros]),
+                      ("RW", [area for area in named if not area.readonly and not area.zeros]),
+                      ("ZI", [area for area in named if area.zeros])):
+        found[f"Image$${part}$$Base"] = min((area.address for area in its), default=at)
+        at = max((area.address + len(area.data) for area in its), default=at)
+        found[f"Image$${part}$$Limit"] = at
+    if any(area.zeros for area in named):
+        del found["Image$$RW$$Limit"]
+    for area in named:
+        found[f"{area.name}$$Base"] = area.address
+        found[f"{area.name}$$Limit"] = area.address + len(area.data)
+    return found
+
+
 def order_differs(areas: list[Area]) -> bool:
     """Whether the linker's order is another than the source's, among areas with bytes."""
     full = [area for area in areas if area.data and area.name]

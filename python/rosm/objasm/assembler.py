@@ -12,6 +12,7 @@ from .areas import LARGEST, Area, PoolEntry, Row
 from .control import end_of_frame
 from .directives import DIRECTIVES, REFUSED
 from .frames import Frame, Macro, Substitution, bind_parameters
+from .imports import imported, is_of_program
 from .operands import Operands
 from .symbols import Import, Numbered, NumberedLabels, Symbol, Symbols, Undefined, Variable
 from .tokens import Line, Stop, plain_name, split_line
@@ -51,6 +52,7 @@ class Assembler:
         self.origin = 0x8000 if options.origin is None else options.origin
         self.imports: dict[str, Import] = {}
         self.rooms: dict[str, int] = {}  # addresses, as the pass before ended
+        self.linked: dict[str, int] | None = None  # those that a linker gives, as the pass before ended
         self.texts: dict[str, list[tuple[int, str]]] = {}
         for name, value in options.bindings.items():
             self.symbols.bind(name, value)
@@ -113,14 +115,14 @@ class Assembler:
         if missing:
             self.lay(bytes(missing))
             if what:
-                self.warn(f"{missing} zero bytes stand before it, so that it is at a multiple of {step}",
+                self.warn(f"{missing} zero bytes are put before it, so that it is at a multiple of {step}",
                           what)
             self.line_offset = self.area.here()
         return missing
 
     def lay_word(self, value: Value, word: str) -> None:
         """Lays a word: a number or an address."""
-        if isinstance(value, Distance) and isinstance(value.base, Area) and value.base.fixed is None:
+        if isinstance(value, Distance) and is_of_program(self, value.base):
             self.area.relocated.append(self.area.here())
         self.lay((self.address_of(value, word) & WORD).to_bytes(4, "little"))
 
@@ -139,26 +141,10 @@ class Assembler:
             if isinstance(value.base, Area):
                 return value.base.address + value.offset & WORD
             if isinstance(value.base, ImportBase):
-                return self.imported(value.base.name) + value.offset & WORD
+                return imported(self, value.base.name) + value.offset & WORD
             raise SourceError(f"an address is wanted, and this is an offset from "
                               f"R{value.base.number}", word)
         return as_number(value, word)
-
-    def imported(self, name: str) -> int:
-        """The address of an imported name."""
-        if name in self.options.bindings:
-            return self.options.bindings[name]
-        if name in self.options.rooms:
-            return self.rooms.get(name, 0)
-        found = self.imports[name]
-        if not found.weak:
-            raise SourceError(f"it is imported, and nothing gives it an address; --bind {name}=&.. does",
-                              name)
-        if not found.warned:
-            found.warned = True
-            self.messages.warn(found.position, "it is imported as WEAK and not there: its address is 0",
-                               name)
-        return 0
 
     def builtin(self, name: str) -> Value:
         """A name between braces."""

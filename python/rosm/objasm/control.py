@@ -133,7 +133,7 @@ def end_if(assembler: "Assembler", line: Line) -> None:
 def nothing_behind(line: Line) -> None:
     """Refuses operands where a directive has none."""
     if line.operands:
-        raise SourceError(f"nothing may stand behind {line.operation}", line.operands)
+        raise SourceError(f"nothing may follow {line.operation}", line.operands)
 
 
 def while_(assembler: "Assembler", line: Line) -> None:

@@ -174,7 +174,7 @@ def ltorg(assembler: "Assembler", line: Line) -> None:
     """LTORG: the pool's words stand here."""
     assembler.define_label(line.label)
     if line.operands:
-        raise SourceError("nothing may stand behind LTORG", line.operands)
+        raise SourceError("nothing may follow LTORG", line.operands)
     assembler.lay_pool(assembler.area)
     assembler.line_offset = assembler.area.here()
 
@@ -269,7 +269,7 @@ def entry(assembler: "Assembler", line: Line) -> None:
     """ENTRY: where the program begins."""
     assembler.define_label(line.label)
     if line.operands:
-        raise SourceError("nothing may stand behind ENTRY", line.operands)
+        raise SourceError("nothing may follow ENTRY", line.operands)
     if assembler.entry is not None:
         first = assembler.entry[1]
         raise SourceError(f"the program begins at {first.file}:{first.line} already", line.operation)
@@ -279,7 +279,7 @@ def entry(assembler: "Assembler", line: Line) -> None:
 def rout(assembler: "Assembler", line: Line) -> None:
     """ROUT: numbered labels belong to what stands from here on."""
     if line.operands:
-        raise SourceError("nothing may stand behind ROUT", line.operands)
+        raise SourceError("nothing may follow ROUT", line.operands)
     if line.label and line.label[0].isdigit():
         raise SourceError("a routine has a name, and no number", line.label)
     assembler.define_label(line.label)

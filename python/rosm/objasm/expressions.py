@@ -60,7 +60,7 @@ class Expressions:
     def end(self) -> None:
         """Raises where anything is left."""
         if not self.at_end():
-            raise SourceError("nothing may stand here", self.peek().text)
+            raise SourceError("nothing may follow here", self.peek().text)
 
     def warn(self, reason: str) -> None:
         self.assembler.warn(reason)

@@ -4,7 +4,7 @@ from __future__ import annotations
 
 from ..arm2 import Operation, Place, encode_immediate
 from ..messages import SourceError
-from ..swis import swi_number
+from ..swis import near_swi, swi_number
 from .areas import Area
 from .expressions import Expressions, wanted
 from .symbols import REGISTERS, Undefined
@@ -43,7 +43,7 @@ class Operands(Expressions):
                 return Place(value.base.number, value.offset)
             if isinstance(value.base, Area) and value.base is not self.assembler.area:
                 self.warn("the address is in another area: ObjAsm refuses this, and the distance "
-                          "is right only where the areas stand as here")
+                          "is right only where the areas are as here")
             return Place(15, self.assembler.address_of(value, word) - self.assembler.address() - 8)
         raise SourceError(f"an address is wanted, and this is {kind_of(value)}; "
                           "write [register,#number]", word)
@@ -68,8 +68,8 @@ class Operands(Expressions):
             self.next()
             number = swi_number(str(token.value))
             if number is None:
-                raise SourceError("no SWI of the table has this name; EQU or --bind gives one its number",
-                                  token.text)
+                raise SourceError("no SWI of the table has this name; EQU or --bind gives one its number"
+                                  + near_swi(str(token.value)), token.text)
             return number
         return SwiExpressions.of(self).number()
 
@@ -162,7 +162,7 @@ class SwiExpressions(Expressions):
             number = swi_number(name)
             if number is None:
                 raise Undefined(f"{error.reason}, and no SWI of the table has it; EQU or --bind gives it "
-                                "a number", word) from None
+                                f"a number{near_swi(name)}", word) from None
             return number
 
 

@@ -4,7 +4,7 @@ from __future__ import annotations
 
 from ..messages import Position, SourceError
 from ..program import Label, Program, Row
-from .areas import LARGEST, Area, order_differs, place_areas
+from .areas import LARGEST, Area, linker_names, order_differs, place_areas
 from .assembler import Assembler, Options
 from .control import file_lines
 from .frames import Frame
@@ -53,6 +53,9 @@ def one_pass(assembler: Assembler, number: int) -> bool:
         assembler.lay_pool(area)
     moved = place_areas(areas, assembler.origin, assembler.options.linked)
     moved |= place_rooms(assembler, areas)
+    linked = linker_names(areas, assembler.origin)
+    moved |= bool(assembler.imports) and linked != assembler.linked
+    assembler.linked = linked
     moved |= any(area.pools != area.pools_laid for area in areas)
     assembler.labels.end_pass()
     check_names(assembler)
@@ -91,7 +94,7 @@ def build(assembler: Assembler, program: Program) -> None:
         return
     if options.linked and order_differs(list(assembler.areas.values())):
         names = ", ".join(area.name for area in areas if area.name)
-        program.messages.warn(source, "the areas stand in the linker's order, which isn't the source's: "
+        program.messages.warn(source, "the areas are in the linker's order, which isn't the source's: "
                               f"{names}; --source-order keeps that")
     program.origin = areas[0].address
     if options.origin is not None and program.origin != options.origin:

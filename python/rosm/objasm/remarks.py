@@ -74,4 +74,4 @@ REFUSED |= {name: "the ARM2 has no Thumb code" for name in ("CODE16", "THUMB")}
 REFUSED["WEAK"] = "write IMPORT name,WEAK"
 REFUSED["DATA"] = _LATER
 REFUSED["ASL"] = REFUSED["LSL"] = REFUSED["LSR"] = REFUSED["ASR"] = REFUSED["ROR"] = REFUSED["RRX"] = \
-    "on the ARM2 a shift stands behind an operand: MOV Rd,Rm,LSL #n"
+    "on the ARM2 a shift follows an operand: MOV Rd,Rm,LSL #n"

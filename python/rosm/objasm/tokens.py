@@ -89,7 +89,7 @@ def wrong_label(text: str) -> str:
     if re.match(rf"{_NAME}:", text):
         return "a label has no colon behind it"
     if text[0] == "$":
-        return "this stands for nothing"
+        return "this is nothing that is known"
     return "no label begins or ends so; anything but a label needs a space before it"
 
 
@@ -182,4 +182,4 @@ def plain_name(label: str) -> str:
 def no_label(line: Line) -> None:
     """Refuses a label before a directive that has no place."""
     if line.label:
-        raise SourceError(f"no label may stand before {line.operation}", line.label)
+        raise SourceError(f"{line.operation} takes no label", line.label)

@@ -26,7 +26,7 @@ class Heap:
         items = change.get("items", [])
         for item in items:
             if item[0] != "+" and self.items.pop(item[2], None) is None:
-                raise RecordError(f"no item of a heap stands at &{item[2]:X}, where one goes")
+                raise RecordError(f"there is no item of a heap at &{item[2]:X}, where one goes")
         for item in items:
             if item[0] == "+":
                 self.items[item[2]] = (item[1], item[3])

@@ -7,6 +7,7 @@ from dataclasses import dataclass, field
 from pathlib import Path
 from typing import Iterator
 
+from ..machine.emptiness import empty_walk, lost_program
 from ..machine.session import Answered, Line, MachineError, Session, with_texts
 from ..native import ScriptError, bytes_of
 from ..pictures.page import guest_text, spelt
@@ -96,8 +97,16 @@ class Talk:
         if self.opened:
             self.opened.clear()
             return [Shown("refused", "a block of the script has no END")]
-        return [each for line, answered in zip(lines, self._do(*lines))
-                for each in [Shown("line", line.text), *self._shown(line, answered)]]
+        first = len(self.session.entries)
+        return [each for place, (line, answered) in enumerate(zip(lines, self._do(*lines)), first)
+                for each in [Shown("line", line.text), *self._shown(line, answered), *self._walked(place)]]
+
+    def _walked(self, place: int) -> list[Shown]:
+        """That a line of a script walked through empty memory, if it did."""
+        entry = self.session.entries[place]
+        lost = lost_program(self.session.entries[:place])
+        reason = empty_walk(entry.line.text, lost, self.session.history, entry.before) if entry.answered.steps else ""
+        return [Shown("refused", f"these steps are of no program: {reason}")] if reason else []
 
     def _again(self) -> str:
         last = self.session.entries[-1].line.text if self.session.entries else ""
@@ -107,6 +116,10 @@ class Talk:
         return self.session.do(*lines, is_strict=False)
 
     def _answer(self, line: Line) -> list[Shown]:
+        history = self.session.history
+        if reason := empty_walk(line.text, lost_program(self.session.entries), history, history.last):
+            return [Shown("refused", f"nothing was run: {reason}"),
+                    Shown("refused", "correct it, and type its block again")]
         try:
             return self._shown(line, self._do(line)[0])
         except (MachineError, ScriptError, RecordError) as error:
@@ -121,7 +134,7 @@ class Talk:
         return shown + lines_of(kind_of(answered), text)
 
     def is_traced(self, line: Line) -> bool:
-        """Whether the steps of a line are told."""
+        """Whether the steps of a line are shown."""
         if TRACES.match(line.text):
             return True
         modes = [found[1].upper() for entry in self.session.entries

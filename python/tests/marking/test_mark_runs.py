@@ -208,3 +208,12 @@ def test_a_source_for_objasm_reads_no_other_file(line: str, tmp_path: Path) -> N
 def test_each_has_the_same_cases(tmp_path: Path) -> None:
     one, other = exercise_of(tmp_path), exercise_of(tmp_path)
     assert one == other
+
+
+@needs_library
+def test_a_trace_has_lines_and_labels(tmp_path: Path) -> None:
+    """A routine that never compares: its last steps have its own lines and labels."""
+    source = "divide  MOV     R2,#0\nloop    SUBS    R0,R0,R1\n        ADDCS   R2,R2,#1\n        BCS     loop\n" \
+             "        MOV     PC,R14\n"
+    traces = [case.trace for case in marked(tmp_path, source).cases if case.problems and not case.hidden]
+    assert traces and all("2 loop SUBS R0,R0,R1" in trace and "BCS loop" in trace for trace in traces)

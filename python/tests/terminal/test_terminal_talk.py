@@ -72,7 +72,7 @@ def test_traces_are_those_of_the_program(talk: Talk) -> None:
     assert texts(shown) == ["00008000 E3A00003 MOV R0,#&3                R0=00000003", "c:loop:",
                             "00008004 E2500001 SUBS R0,R0,#&1            R0=00000002 C=1", "at &8008"]
     typed(talk, "EXPECT R0 2", "TRACE ON")
-    assert texts(typed(talk, "STEP 1"))[0].startswith("00008008 1AFFFFFD BNE &8004")
+    assert texts(typed(talk, "STEP 1"))[0].startswith("00008008 1AFFFFFD BNE loop")
     typed(talk, "TRACE OFF")
     assert texts(typed(talk, "RUN")) == ["stop Exit"]
 

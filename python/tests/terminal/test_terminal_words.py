@@ -20,8 +20,8 @@ HELP = """lines of a script:
 lines of a debugging script:
   ; text, # text                             a comment, a heading
   SET PC a, SET PSR Nz SVC                   letters left out stay
-  TRACE line, TRACE n, TRACE ON, TRACE OFF   steps told one by one; TRACE LIMIT n of a line
-  TRACE LAST n                               RUN, of which the last n steps are told
+  TRACE line, TRACE n, TRACE ON, TRACE OFF   steps shown one by one; TRACE LIMIT n of a line
+  TRACE LAST n                               RUN, of which the last n steps are shown
   PUT name a                                 an image's bytes to an address
   COUNT ON, COUNT OFF, COUNTS name           how often the steps of an image were taken
   label, image:label+4, R1, PC-4             in place of an address, or behind SET x, EXPECT x
