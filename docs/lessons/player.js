@@ -469,6 +469,41 @@ function kept(name) {
 return { make, makeButton, makeSvg, colour, sizeOf, forgetColours, forgetSizes, themeName, calm, stillCanvas, fitCanvas, Tip, roving, firstStop, keepInView, keep, kept };
 })();
 
+const module_src_empty_run = (() => {
+/* Whether a script ran empty memory, since the block of the program that should be there has errors. */
+
+const BLOCK = /^\s*(?:ASM|HEX)\s+(\S+)/i;
+/* The lines that go on from the program counter. */
+const FROM_HERE = /^\s*((TRACE|REPEAT\s+\S+)\s+)*(RUN|STEP|TRACE\s+(\d|&|LAST))\b/i;
+
+/* The block with errors, and the first line whose steps began where no program is; null where none did. */
+function emptyRun(trace) {
+  const lost = new Map();
+  for (const line of trace.lines) {
+    const name = line.block ? BLOCK.exec(line.text) : null;
+    if (name) {
+      lost.delete(name[1]);
+      if (line.refused) lost.set(name[1], line);
+    } else if (lost.size && line.steps && FROM_HERE.test(line.text) && beganEmpty(trace, line)) {
+      return { block: [...lost.values()].at(-1), line };
+    }
+  }
+  return null;
+}
+
+function beganEmpty(trace, line) {
+  const before = line.first - 1, address = trace.pcAfter[before] & ~3;
+  return trace.knows(address, before) && trace.word(address, before) === 0;
+}
+
+/* That, in words. */
+function emptyRunText({ block, line }) {
+  const name = BLOCK.exec(block.text)[1];
+  return `${name} has errors (line ${block.line}), so line ${line.line} ran empty memory: correct ${name} first.`;
+}
+return { emptyRun, emptyRunText };
+})();
+
 const module_src_fragment = (() => {
 /* The page's fragment: "#step=63", "#line=65", and in the editor "#script=..&step=63". Pure. */
 
@@ -2630,6 +2665,7 @@ return { StackPanel };
 const module_src_player = (() => {
 const { sentence } = module_src_describe;
 const { Tip, forgetColours, forgetSizes, kept, make, makeButton } = module_src_dom;
+const { emptyRun, emptyRunText } = module_src_empty_run;
 const { FORMATS, FORMAT_NAMES, count, readable, withoutMarks } = module_src_format;
 const { momentNamed, nameMoment, readFragment, writeFragment } = module_src_fragment;
 const { HeapsPanel } = module_src_heaps_panel;
@@ -2717,16 +2753,18 @@ class Player {
       const text = `! ${count(errors.length)} ${errors.length === 1 ? "line" : "lines"} with an error`;
       results.append(this.badge(text, errors.map((line) => line.last)));
     }
+    const empty = emptyRun(trace);
+    if (empty) results.append(this.badge("! empty memory was run", [empty.block.last], emptyRunText(empty)));
     if (trace.gaps) results.append(make("span", "badge", count(trace.gaps) + " steps not listed"));
   }
 
   /* A badge that goes to the next of some moments, and round at the end. */
-  badge(text, moments) {
+  badge(text, moments, title = "To the next of them") {
     const button = makeButton("badge bad", text, () => {
       const next = moments.find((moment) => moment > this.moment);
       this.go(next === undefined ? moments[0] : next);
     });
-    button.title = "To the next of them";
+    button.title = title;
     return button;
   }
 

@@ -1,4 +1,4 @@
-# What GDB has to be told of an ARM2: gdb-multiarch -x rosm.gdb ..
+# What GDB has to know of an ARM2: gdb-multiarch -x rosm.gdb ..
 set arm apcs32 off
 set arm force-mode arm
 set confirm off

@@ -28,7 +28,7 @@ enum rosm_status {
     ROSM_FAILED = 5 /* of records: a line EXPECT failed, or a line or block was refused */
 };
 
-/* The sizes and the budget that `rosm` has where its command line tells none: pages of 4,096 bytes, and
+/* The sizes and the budget that `rosm` has where its command line gives none: pages of 4,096 bytes, and
  * steps. A machine has 1,024 pages at most, and `app` + `rma` + 3 at least, of which `app` and `rma`
  * are 1 at least. */
 #define ROSM_PAGES 256
@@ -51,7 +51,7 @@ uint32_t rosm_run_image(uint32_t pages, uint32_t app, uint32_t rma, uint64_t bud
                         const uint8_t *script, size_t script_length,
                         uint8_t *out, size_t room, size_t *written);
 
-/* Answers a debugging script (docs/DEBUG.md) as records: JSON objects, one a line, that tell the machine at
+/* Answers a debugging script (docs/DEBUG.md) as records: JSON objects, one a line, that have the machine at
  * the start, each line, each of its steps and its answer (docs/JSON.md). `name` is what the first record
  * calls the script. The status is that of `rosm_debug`: where the script expects something it is 0 if all of
  * that is so, and ROSM_FAILED if not. All else is as for rosm_run. */

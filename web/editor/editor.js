@@ -1,5 +1,6 @@
 /* The page rosm.html: an editor, the machine in a worker, and the player of what it did. */
 
+import { emptyRun, emptyRunText } from "../src/empty_run.js";
 import { plural, visible } from "../src/format.js";
 import { readFragment, writeFragment } from "../src/fragment.js";
 import { Player } from "../src/player.js";
@@ -171,18 +172,20 @@ class Editor {
       return;
     }
     try {
-      this.play(new Trace(bytesToText(result.records)));
-      this.say(`${plural(this.player.trace.steps, "step")} in ${milliseconds} ms`);
+      const trace = new Trace(bytesToText(result.records)), empty = emptyRun(trace);
+      this.play(trace, empty ? empty.block.last : trace.last);
+      this.say(empty ? emptyRunText(empty) : `${plural(trace.steps, "step")} in ${milliseconds} ms`, empty !== null);
     } catch (error) {
       this.close();
       this.say("The records can't be shown. " + error.message, true);
     }
   }
 
-  play(trace) {
+  /* Shows a run, at the moment that the address names, or else at this one. */
+  play(trace, moment) {
     this.player = new Player(find("player"), trace);
-    this.player.onDraw = (moment) => this.follow(moment);
-    if (!this.player.goToAddress()) this.player.go(trace.last, { isFast: true });
+    this.player.onDraw = (at) => this.follow(at);
+    if (!this.player.goToAddress()) this.player.go(moment, { isFast: true });
     window.rosm = { player: this.player, trace, editor: this };
   }
 

@@ -2,6 +2,7 @@
 
 import { sentence } from "./describe.js";
 import { Tip, forgetColours, forgetSizes, kept, make, makeButton } from "./dom.js";
+import { emptyRun, emptyRunText } from "./empty_run.js";
 import { FORMATS, FORMAT_NAMES, count, readable, withoutMarks } from "./format.js";
 import { momentNamed, nameMoment, readFragment, writeFragment } from "./fragment.js";
 import { HeapsPanel } from "./heaps_panel.js";
@@ -87,16 +88,18 @@ export class Player {
       const text = `! ${count(errors.length)} ${errors.length === 1 ? "line" : "lines"} with an error`;
       results.append(this.badge(text, errors.map((line) => line.last)));
     }
+    const empty = emptyRun(trace);
+    if (empty) results.append(this.badge("! empty memory was run", [empty.block.last], emptyRunText(empty)));
     if (trace.gaps) results.append(make("span", "badge", count(trace.gaps) + " steps not listed"));
   }
 
   /* A badge that goes to the next of some moments, and round at the end. */
-  badge(text, moments) {
+  badge(text, moments, title = "To the next of them") {
     const button = makeButton("badge bad", text, () => {
       const next = moments.find((moment) => moment > this.moment);
       this.go(next === undefined ? moments[0] : next);
     });
-    button.title = "To the next of them";
+    button.title = title;
     return button;
   }
 

@@ -375,6 +375,18 @@ class MachineTest(unittest.TestCase):
         self.assertEqual(wrong, [])
         print(f"records of {len(scripts)} transcripts in the browser", file=sys.stderr)
 
+    def test_a_program_with_errors_is_named_in_place_of_its_run(self) -> None:
+        if not self.browser.js("return !!rosm.player"):
+            self.skipTest("this build of the machine has no records")
+        script = "ASM p &8000\n        MOVE    R0,R1\nEND\nBOOT p\nRUN\nREGS\n"
+        self.browser.js("const t = document.getElementById('text'); t.value = arguments[0];"
+                        "t.dispatchEvent(new Event('input', { bubbles: true })); document.getElementById('run').click()", script)
+        wanted = "p has errors (line 1), so line 5 ran empty memory: correct p first."
+        self.assertTrue(self.browser.until(lambda: self.browser.text("#state") == wanted, 20), self.browser.text("#state"))
+        self.assertIn("bad", self.browser.one("#state").get_attribute("class"))
+        self.assertEqual(self.browser.js("return rosm.player.trace.lineAt(rosm.player.moment).line"), 1)
+        self.assertIn("! empty memory was run", self.browser.text("#results"))
+
     def test_a_long_run_is_stopped(self) -> None:
         records = self.browser.js("return typeof WebAssembly !== 'undefined' && !!rosm.player")
         if not records:
