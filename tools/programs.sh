@@ -1,12 +1,12 @@
-# Which programs stand as the sources are. The launchers and ./install read this file, with `here`, the
+# Which programs are built and as new as the sources. The launchers and ./install read this file, with `here`, the
 # repository's folder, set.
 #
-# A program that people type is a crate of its name, or a face of `rosm_tools`: `rosm_debug` is the crate
-# `debug_face`, and is run as `rosm_tools debug`.
+# A program that people type is a crate of its name, or a subcommand of `rosm_tools`: `rosm_debug` is run as
+# `rosm_tools debug`, since `subcommands.rt` of that crate compares its first word with `debug`.
 
 # The crate from which a program is built.
 crate_of() {
-    if [ -d "$here/crates/${1#rosm_}_face" ]; then
+    if [ -n "$(subcommand_of "$1")" ]; then
         echo rosm_tools
     else
         echo "$1"
@@ -14,8 +14,8 @@ crate_of() {
 }
 
 # The word that a program is run with before all others, if there is one.
-face_of() {
-    [ "$(crate_of "$1")" = "$1" ] || echo "${1#rosm_}"
+subcommand_of() {
+    sed -n "s/.*word == b\"\(${1#rosm_}\)\".*/\1/p" "$here/crates/rosm_tools/src/subcommands.rt"
 }
 
 # All that follows goes by the name of a crate.
