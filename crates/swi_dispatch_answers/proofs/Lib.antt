@@ -1,5 +1,3 @@
 mod ErrorBlock
 mod StringLemmas
 pub mod FramesLemmas
-pub mod FlexFrameLemmas
-pub mod FlexLemmas

@@ -7,5 +7,3 @@ pub mod Returns
 pub mod Strings
 pub mod Words
 pub mod frames
-pub mod flex_frame
-pub mod flex

@@ -9,8 +9,6 @@
 #![tactic(auto)]
 
 pub mod errors;
-pub mod flex;
-pub mod flex_frame;
 pub mod frames;
 pub mod refusal;
 pub mod returns;

@@ -5,7 +5,7 @@ use Rattle.profile.specs.Outcome.{Leaves}
 use Rattle.address_map.specs.declared.map.AddressMap.{AddressMap}
 use Rattle.address_map.specs.Memory.{free_pages}
 use Rattle.arm_core.specs.State.{State}
-use Rattle.swi_dispatch_answers.specs.flex.Flex.{Flex}
+use Rattle.swi_dispatch_plans.specs.flex.Flex.{Flex}
 use Rattle.instances.proofs.ModuleStateLemmas.ModuleStates.{few_records}
 use Rattle.instances.specs.module_state.Sound.{IsModuleState}
 use Rattle.instances.specs.module_state.ModuleState.{ModuleState, module_state_of}
@@ -14,8 +14,8 @@ use Rattle.instances_table.specs.plans.Plans.{Plan}
 use Rattle.instances_table.specs.declared.parts.Image.{Image}
 use Rattle.instances_table.specs.Modules.{Module, slots_of}
 use Rattle.swi_dispatch_answers.specs.declared.refusal.Refusal.{Refusal}
-use Rattle.swi_dispatch_answers.specs.flex.Calls.{FlexMemory, memory_of}
-use Rattle.swi_dispatch_answers.specs.flex.Leaving.{CanCallFlex, LeavesFlex}
+use Rattle.swi_dispatch_plans.specs.flex.Calls.{FlexMemory, memory_of}
+use Rattle.swi_dispatch_plans.specs.flex.Leaving.{CanCallFlex, LeavesFlex}
 use Rattle.instances.specs.Turns.{MayGoOn}
 use Rattle.instances.specs.actions.Pending.{is_pending, pending_by, pending_of}
 use Rattle.instances.specs.actions.Ready.{IsReady}

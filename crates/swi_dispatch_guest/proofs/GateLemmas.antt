@@ -34,7 +34,7 @@ use Rattle.swi_dispatch_guest.specs.Carried.{CodeUnderWay, IsCarriedNext}
 use Rattle.swi_dispatch_guest.specs.OpenFrames.{AreFrames}
 use Rattle.swi_dispatch_guest.specs.GuestState.{IsWellFormed, GuestState, parts_module_state}
 use Rattle.swi_dispatch_guest.specs.Returns.{outcome_of_halt}
-use Rattle.swi_dispatch_answers.specs.flex.Ground.{HasFlex}
+use Rattle.swi_dispatch_plans.specs.flex.Ground.{HasFlex}
 use Rattle.instances.specs.flex_frame.Keeping.{KeepsFlex}
 use Rattle.swi_dispatch_guest.proofs.CarriedFrames.{AreBeneath, opened_frames}
 use Rattle.swi_dispatch_guest.proofs.Kept.{flex_by}

@@ -25,9 +25,9 @@ use Rattle.dynamic_areas.proofs.HeapCalls.{areas_written}
 use Rattle.dynamic_areas.proofs.SystemWrites.{kept_classes, system_kept}
 use Rattle.swi_dispatch_guest.specs.declared.halt.Halt.{Halt}
 use Rattle.swi_dispatch_guest.specs.MachineState.{MachineState, Tables, with_memory}
-use Rattle.swi_dispatch_answers.proofs.FlexLemmas.Kept.{flex_frame, flex_stored}
-use Rattle.swi_dispatch_answers.specs.flex.Ground.{HasFlex}
-use Rattle.swi_dispatch_answers.specs.flex.Flex.{Flex}
+use Rattle.swi_dispatch_plans.proofs.FlexLemmas.Kept.{flex_frame, flex_stored}
+use Rattle.swi_dispatch_plans.specs.flex.Ground.{HasFlex}
+use Rattle.swi_dispatch_plans.specs.flex.Flex.{Flex}
 use Rattle.dynamic_areas.specs.Areas.{AreaTable}
 use Rattle.instances.proofs.Writes.{system_keeps}
 use Rattle.instances.specs.flex_frame.Keeping.{KeepsFlex}

@@ -17,7 +17,7 @@ use Rattle.swi_dispatch_answers.specs.declared.refusal.Refusal.{Refusal}
 use Rattle.swi_dispatch_answers.specs.declared.refusal.Refusal.TheVariants as refusal
 use Rattle.swi_dispatch_answers.specs.declared.strings.TextEnd.TheVariants as end
 use Rattle.swi_dispatch_answers.specs.Strings.{ends, text_at, next_word}
-use Rattle.swi_dispatch_answers.specs.flex.Calls.{FlexMemory, flex_called}
+use Rattle.swi_dispatch_plans.specs.flex.Calls.{FlexMemory, flex_called}
 use Rattle.swi_dispatch_plans.specs.store.Areas.{area_called, area_changed, area_read, change_asked}
 use Rattle.swi_dispatch_plans.specs.store.Heaps.{heap_called}
 use Rattle.swi_dispatch_plans.specs.modules.Calls.{result_of_module_call}

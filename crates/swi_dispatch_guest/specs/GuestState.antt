@@ -6,7 +6,7 @@ use Rattle.address_map.specs.Memory.{free_pages}
 use Rattle.os_heap.specs.Store.{AreClasses, store_of}
 use Rattle.dynamic_areas.specs.Ground.{AreAreas, IsRecorded, system_pages_range}
 use Rattle.dynamic_areas.specs.Rooms.{IsAreaTable}
-use Rattle.swi_dispatch_answers.specs.flex.Ground.{HasFlex}
+use Rattle.swi_dispatch_plans.specs.flex.Ground.{HasFlex}
 use Rattle.arm_core.specs.declared.turn.StepEnd.{StepEnd}
 use Rattle.arm_core.specs.declared.turn.StepEnd.TheVariants.{Done}
 use Rattle.arm_core.specs.State.{IsCore, State}

@@ -4,7 +4,7 @@ pub use Rattle.arm_core.specs.declared.psr.Mode as ArmCoreMode
 pub use Rattle.arm_core.specs.declared.psr.Psr as ArmCorePsr
 pub use Rattle.dynamic_areas.specs.Rooms
 pub use Rattle.swi_dispatch_answers.specs.declared.frames.frame.Frame as SwiDispatchAnswersFrame
-pub use Rattle.swi_dispatch_answers.specs.flex.Calls as SwiDispatchFlexCalls
+pub use Rattle.swi_dispatch_plans.specs.flex.Calls as SwiDispatchFlexCalls
 pub mod Additions
 pub mod Answers
 pub mod Calls

@@ -11,7 +11,7 @@ use Rattle.os_heap.specs.Store.{Store}
 use Rattle.dynamic_areas.specs.Areas.{AreaTable, start_area_table}
 use Rattle.dynamic_areas.specs.Ground.{AreaStore, pool_of}
 use Rattle.dynamic_areas.specs.Start.{start_store}
-use Rattle.swi_dispatch_answers.specs.flex.Flex.{Flex}
+use Rattle.swi_dispatch_plans.specs.flex.Flex.{Flex}
 use Rattle.instances.specs.module_state.ModuleState.{ModuleState}
 use Rattle.instances_table.specs.plans.Plans.{Plan}
 use Rattle.instances_table.specs.Modules.{Module}

@@ -17,8 +17,8 @@ use profile::memory_map::{ADDRESS_LIMIT, APPLICATION_START};
 use profile::word::is_bit_set;
 use std::alloc::{AllocError, Global};
 use std::marker::Model;
-use swi_dispatch_answers::flex::Flex;
 use swi_dispatch_answers::frames::Frames;
+use swi_dispatch_plans::flex::Flex;
 use swi_dispatch_plans::{Images, Scratch};
 
 /// The bit of a call's number that asks for errors to be returned.

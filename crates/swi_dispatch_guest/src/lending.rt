@@ -5,7 +5,7 @@ ghost use Rattle.std.specs.Option.{option_map};
 ghost use Rattle.address_map.specs.Memory.{bytes_of, free_pages};
 ghost use Rattle.os_heap.specs.Store.{store_of, IsSound};
 ghost use Rattle.dynamic_areas.specs.Rooms.{IsAreaTable};
-ghost use Rattle.swi_dispatch_answers.specs.flex.State.{IsFlex};
+ghost use Rattle.swi_dispatch_plans.specs.flex.State.{IsFlex};
 ghost use Rattle.swi_dispatch_guest.specs.MachineState.{stop_of, setting_of};
 ghost use Rattle.swi_dispatch_plans.specs.PlannerInput.{setting_in};
 
@@ -17,9 +17,9 @@ use dynamic_areas::Areas;
 use instances::Instances;
 use os_heap::Heaps;
 use profile::Stop;
-use swi_dispatch_answers::flex::Flex;
 use swi_dispatch_answers::frames::Frame;
 use swi_dispatch_plans::Planner;
+use swi_dispatch_plans::flex::Flex;
 
 impl Guest {
     ghost use Rattle.swi_dispatch_guest.specs.GuestState.{state_of};

@@ -6,7 +6,7 @@ ghost use Rattle.profile.specs.Outcome.{Leaves};
 ghost use Rattle.profile.specs.ErrorNames.{error_code};
 ghost use Rattle.profile.specs.declared.error.ErrorNumber.{ErrorNumber};
 ghost use Rattle.profile.specs.declared.fault.Fault.TheVariants.{ErrorStop};
-ghost use Rattle.swi_dispatch_answers.specs.flex.Calls.{flex_called};
+ghost use Rattle.swi_dispatch_plans.specs.flex.Calls.{flex_called};
 ghost use Rattle.swi_dispatch_plans.specs.store.Areas.{area_called, area_changed, area_read, change_asked};
 ghost use Rattle.swi_dispatch_plans.specs.store.Heaps.{heap_called};
 ghost use Rattle.swi_dispatch_plans.specs.modules.Calls.{result_of_module_call};
@@ -15,7 +15,7 @@ use crate::guest::Guest;
 use crate::halt::Halt;
 use profile::{ErrorNumber, SwiName};
 use swi_dispatch_answers::Refusal;
-use swi_dispatch_answers::flex::call_flex;
+use swi_dispatch_plans::flex::call_flex;
 use swi_dispatch_plans::modules::call_module;
 use swi_dispatch_plans::store::{call_area, call_heap, change_area, change_error, read_area};
 

@@ -3,3 +3,5 @@ pub mod Sparing
 pub mod Trials
 pub mod StoreLemmas
 pub mod ModulesLemmas
+pub mod FlexLemmas
+pub mod FlexFrameLemmas

@@ -12,3 +12,5 @@ pub mod PlannerInput
 pub mod Trials
 pub mod store
 pub mod modules
+pub mod flex
+pub mod flex_frame

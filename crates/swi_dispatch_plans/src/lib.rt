@@ -10,6 +10,8 @@
 //! say whether it ends with an error.
 #![tactic(auto)]
 
+pub mod flex;
+pub mod flex_frame;
 pub mod image_plans;
 pub mod module_plans;
 pub mod modules;

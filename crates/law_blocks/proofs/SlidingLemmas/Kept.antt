@@ -16,7 +16,7 @@ use Rattle.flex_store.specs.declared.flex.Extent.{Extent}
 use Rattle.flex_store.specs.declared.flex.Flex.{Flex}
 use Rattle.law_blocks.proofs.SlidingLemmas.Spelled.{kept_blocks}
 use Rattle.law_blocks.specs.sliding.FlexStore.{HasFlexStore, IsFlexRangeSpelled, IsSpelledAt, spelled_blocks}
-use Rattle.swi_dispatch_answers.proofs.FlexFrameLemmas.Kept.{count_is, recorded_beside}
+use Rattle.swi_dispatch_plans.proofs.FlexFrameLemmas.Kept.{count_is, recorded_beside}
 
 -- the words of anchors
 anchored_same : (mapped : ℕ → Bool) (start end : ℕ) (f g : ℕ → ℕ) (at : ℕ) (bs : List Block) → AreAnchorWords mapped start end bs

@@ -33,7 +33,7 @@ use Rattle.swi_dispatch_answers.specs.Errors.{memory_with_error}
 use Rattle.swi_dispatch_answers.specs.Returns.{return_word, state_after_return}
 use Rattle.swi_dispatch_answers.specs.declared.refusal.Refusal.{Refusal}
 use Rattle.swi_dispatch_answers.specs.declared.refusal.Refusal.TheVariants as refusal
-use Rattle.swi_dispatch_answers.specs.flex.Calls.{FlexMemory}
+use Rattle.swi_dispatch_plans.specs.flex.Calls.{FlexMemory}
 use Rattle.swi_dispatch_answers.specs.frames.Entering.{swi_entered}
 use Rattle.swi_dispatch_plans.specs.Openings.{opening_asked}
 use Rattle.swi_dispatch_plans.specs.declared.openings.Opening.{Opening}

@@ -18,7 +18,7 @@ use Rattle.arm_core.specs.declared.turn.StepEnd.{StepEnd}
 use Rattle.arm_core.specs.declared.turn.StepEnd.TheVariants as turn
 use Rattle.dynamic_areas.specs.Areas.{extent_asked}
 use Rattle.dynamic_areas.specs.declared.area.Extent.{Extent}
-use Rattle.swi_dispatch_answers.specs.flex_frame.Ground.{with_flex_record}
+use Rattle.swi_dispatch_plans.specs.flex_frame.Ground.{with_flex_record}
 use Rattle.flex_store.specs.Calls.{FlexState, flex_after_alloc, flex_after_init, flex_after_extend, mid_extended, flex_after_release, flex_block_size}
 use Rattle.image_loader.specs.Entries.{Entry}
 use Rattle.instances_table.specs.Lookup.{handler_of}

@@ -23,7 +23,7 @@ use Rattle.dynamic_areas.specs.declared.area.Created.{Created}
 use Rattle.dynamic_areas.specs.declared.area.Wanted.{Wanted}
 use Rattle.flex_store.specs.Calls.{FlexState, flex_after_alloc, flex_after_init, flex_after_extend, mid_extended, flex_after_release}
 use Rattle.flex_store.specs.Runs.{Alloc, Extend, MidExtend, Release}
-use Rattle.swi_dispatch_answers.specs.flex_frame.Ground.{flex_state, with_flex_record}
+use Rattle.swi_dispatch_plans.specs.flex_frame.Ground.{flex_state, with_flex_record}
 use Rattle.law_blocks.specs.heap_calls.Laws.{HeapHasNoAnchor, KeepsHeap}
 use Rattle.law_blocks.proofs.HeapFrameLemmas.Areas.{area_calls_keep, heap_same}
 use Rattle.law_blocks.proofs.HeapFrameLemmas.Turns.{turns_keep}

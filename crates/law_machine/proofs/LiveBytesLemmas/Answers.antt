@@ -21,7 +21,7 @@ use Rattle.instances_table.specs.declared.parts.Handler.{Handler}
 use Rattle.swi_dispatch_answers.specs.Refusals.{or_error}
 use Rattle.swi_dispatch_answers.specs.declared.refusal.Refusal.{Refusal}
 use Rattle.swi_dispatch_answers.specs.declared.refusal.Refusal.TheVariants as refusal
-use Rattle.swi_dispatch_answers.specs.flex.Calls.{flex_called, state_in}
+use Rattle.swi_dispatch_plans.specs.flex.Calls.{flex_called, state_in}
 use Rattle.swi_dispatch_plans.specs.store.Areas.{area_called, area_read, with_extent}
 use Rattle.swi_dispatch_guest.specs.declared.halt.Halt.TheVariants as halt
 use Rattle.swi_dispatch_guest.specs.Answers.{Answer, refusal_answer, went_on}

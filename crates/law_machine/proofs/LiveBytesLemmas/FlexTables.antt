@@ -34,7 +34,7 @@ use Rattle.swi_dispatch_answers.specs.Refusals.{or_error}
 use Rattle.swi_dispatch_answers.specs.Words.{host_string}
 use Rattle.swi_dispatch_answers.specs.declared.refusal.Refusal.{Refusal}
 use Rattle.swi_dispatch_answers.specs.declared.refusal.Refusal.TheVariants as refusal
-use Rattle.swi_dispatch_answers.specs.flex.Calls.{flex_called, state_in}
+use Rattle.swi_dispatch_plans.specs.flex.Calls.{flex_called, state_in}
 use Rattle.swi_dispatch_answers.specs.declared.frames.call.Call.{Call}
 use Rattle.swi_dispatch_answers.specs.declared.frames.frame.Frame.{Frame}
 use Rattle.swi_dispatch_answers.specs.declared.frames.frame.FrameKind.{FrameKind}

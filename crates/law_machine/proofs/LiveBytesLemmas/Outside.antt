@@ -24,7 +24,7 @@ use Rattle.law_machine.proofs.LiveBytesLemmas.Heaps.{KeepsBlocks, all_kept, has_
 use Rattle.law_machine.proofs.LiveBytesLemmas.ModuleRows.{loaded_both}
 use Rattle.law_machine.proofs.LiveBytesLemmas.Rows.{all_same}
 use Rattle.law_machine.specs.live_bytes.Changes.{LoadsKeepLiveBytes, PokesChangeOneWord}
-use Rattle.swi_dispatch_answers.proofs.FlexFrameLemmas.Kept.{whole_word}
+use Rattle.swi_dispatch_plans.proofs.FlexFrameLemmas.Kept.{whole_word}
 
 unhalted : (s : MachineState) (o : Option Halt) (a : StepOutcome) → KeepsBlocks s.store a.now.store → KeepsBlocks s.store (unless_halted s o a).now.store
 unhalted s None a kept = kept

@@ -23,7 +23,7 @@ use Rattle.instances_table.specs.declared.parts.Handler.{Handler}
 use Rattle.instances_table.specs.Lookup.{handler_of}
 use Rattle.swi_dispatch_answers.specs.declared.refusal.Refusal.{Refusal}
 use Rattle.swi_dispatch_answers.specs.declared.refusal.Refusal.TheVariants as refusal
-use Rattle.swi_dispatch_answers.specs.flex.Calls.{FlexMemory}
+use Rattle.swi_dispatch_plans.specs.flex.Calls.{FlexMemory}
 use Rattle.swi_dispatch_plans.specs.ImagePlans.{Loading, copy_asked, image_header_in, insertion_asked, instantiation_planned, load_asked, may_add, may_load, may_replace, range_asked, well_named}
 use Rattle.swi_dispatch_plans.specs.ModulePlans.{clear_planned, delete_planned, may_begin_alone, may_finalise, reinit_planned, tidy_planned}
 use Rattle.swi_dispatch_plans.specs.Openings.{opening_asked}

@@ -18,7 +18,7 @@ use Rattle.arm_core.specs.State.{State, register_of}
 use Rattle.arm_core.specs.declared.turn.StepEnd.{StepEnd}
 use Rattle.arm_core.specs.declared.turn.StepEnd.TheVariants as turn
 use Rattle.image_loader.specs.Entries.{Entry}
-use Rattle.swi_dispatch_answers.specs.flex_frame.Ground.{spelled_store}
+use Rattle.swi_dispatch_plans.specs.flex_frame.Ground.{spelled_store}
 use Rattle.flex_store.specs.Blocks.{FlexStore}
 use Rattle.flex_store.specs.Runs.{Alloc, Extend, FlexCall, MidExtend, Release}
 use Rattle.flex_store.specs.declared.flex.Extent.{Extent}

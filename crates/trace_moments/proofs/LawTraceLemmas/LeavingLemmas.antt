@@ -35,7 +35,7 @@ use Rattle.swi_dispatch_answers.specs.Refusals.{or_error}
 use Rattle.swi_dispatch_answers.specs.Strings.{string_in}
 use Rattle.swi_dispatch_answers.specs.declared.refusal.Refusal.{Refusal}
 use Rattle.swi_dispatch_answers.specs.declared.refusal.Refusal.TheVariants as refusal
-use Rattle.swi_dispatch_answers.specs.flex.Calls.{flex_called, state_in}
+use Rattle.swi_dispatch_plans.specs.flex.Calls.{flex_called, state_in}
 use Rattle.swi_dispatch_plans.specs.modules.Calls.{module_called_for, result_of_module_call}
 use Rattle.swi_dispatch_plans.specs.modules.Naming.{looked_for, place_asked, with_found, with_shown}
 use Rattle.swi_dispatch_plans.specs.store.Areas.{area_called, area_called_for, area_read, with_area_shown, with_extent}

@@ -1,7 +1,7 @@
 use Rattle.profile.specs.MemoryMap.{application_start}
 use Rattle.std.proofs.Common.{◌≤◌, ◌*◌, ◌∙◌, length, ap, refl, arith}
 use Rattle.os_heap.specs.Store.{Store, store_of}
-use Rattle.swi_dispatch_answers.proofs.FlexLemmas.Kept.{flex_unmade}
+use Rattle.swi_dispatch_plans.proofs.FlexLemmas.Kept.{flex_unmade}
 use Rattle.swi_dispatch_guest.specs.MachineState.{MachineState, machine_start}
 use Rattle.swi_dispatch_guest.specs.GuestState.{state_of}
 use Rattle.swi_dispatch_guest.proofs.Kept.{well_kept, program_kept, program_put}

@@ -1,3 +1,0 @@
-pub use Rattle.swi_dispatch_answers.proofs.FlexFrameLemmas.Kept
-pub mod Called
-pub mod Made

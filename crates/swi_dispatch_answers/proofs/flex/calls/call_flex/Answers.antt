@@ -1,5 +1,0 @@
-use Rattle.swi_dispatch_answers.proofs.FlexLemmas.Called.{leaves_same}
-use Rattle.swi_dispatch_answers.proofs.flex.calls.call_flex.Goals as goal
-
-pub returns-in-Some-FlexSize-clause-leaves : goal.returns-in-Some-FlexSize-clause-leaves
-returns-in-Some-FlexSize-clause-leaves c = leaves_same _ _ c.requires

@@ -1,5 +1,0 @@
-use Rattle.swi_dispatch_answers.proofs.FlexFrameLemmas.Kept.{blocks_kept}
-use Rattle.swi_dispatch_answers.proofs.flex_frame.laws.calls_keep_blocks.Goals as goal
-
-pub returns : goal.returns
-returns c = blocks_kept

@@ -1,5 +1,0 @@
-use Rattle.swi_dispatch_answers.proofs.FlexFrameLemmas.Kept.{flex_unmade}
-use Rattle.swi_dispatch_answers.proofs.flex_frame.laws.no_flex_stays.Goals as goal
-
-pub returns : goal.returns
-returns c = flex_unmade

@@ -1,5 +1,0 @@
-use Rattle.swi_dispatch_answers.proofs.FlexFrameLemmas.Kept.{flex_stored}
-use Rattle.swi_dispatch_answers.proofs.flex_frame.laws.stores_keep_flex.Goals as goal
-
-pub returns : goal.returns
-returns c = flex_stored

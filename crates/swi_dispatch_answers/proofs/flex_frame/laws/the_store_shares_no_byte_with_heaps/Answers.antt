@@ -1,5 +1,0 @@
-use Rattle.swi_dispatch_answers.proofs.FlexFrameLemmas.Kept.{store_apart}
-use Rattle.swi_dispatch_answers.proofs.flex_frame.laws.the_store_shares_no_byte_with_heaps.Goals as goal
-
-pub returns : goal.returns
-returns c = store_apart

@@ -1,5 +1,0 @@
-use Rattle.swi_dispatch_answers.proofs.FlexFrameLemmas.ModuleStates.{begun_module_state}
-use Rattle.swi_dispatch_answers.proofs.flex_frame.module_state_laws.module_states_with_flex.Goals as goal
-
-pub returns : goal.returns
-returns c = begun_module_state

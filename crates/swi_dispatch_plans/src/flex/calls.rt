@@ -1,0 +1,205 @@
+//! The flex calls (Acorn C manual, "flex").
+
+ghost use Rattle.std.specs.Prelude.{◌≡◌};
+ghost use Rattle.profile.specs.Outcome.{Gives, Leaves};
+ghost use Rattle.flex_store.specs.Calls.{flex_after_alloc, flex_after_extend, mid_extended, flex_after_release, flex_block_size};
+ghost use Rattle.swi_dispatch_plans.specs.flex.Calls.{flex_allocated, flex_called, flex_extended, flex_in_range, flex_made, flex_mid_extended, flex_released, flex_sized, memory_after_flex, memory_of, state_in, room_word_of};
+ghost use Rattle.swi_dispatch_plans.specs.flex.Leaving.{CanCallFlex, LeavesFlex};
+
+use dynamic_areas::AddressMap;
+use flex_store::Flex;
+use profile::{ErrorNumber, SwiName};
+use swi_dispatch_answers::{Cpu, Refusal};
+
+/// A flex call by its name; any other is unknown. What it asks for is in R0 to R2; what it answers
+/// goes to R0.
+///
+/// # Errors
+///
+/// As the call of `Flex` refuses it, or `SwiUnknown` where the name is no flex call's; nothing is
+/// changed then.
+#[tactic(auto, unfolding(crate::specs::flex::Calls::flex_called))]
+pub fn call_flex(
+    cpu: &mut Cpu,
+    memory: &mut AddressMap,
+    flex: &mut Flex,
+    name: Option<SwiName>,
+) -> Result<(), Refusal>
+    requires { CanCallFlex memory.old flex.old }
+    ensures state { Leaves (cpu.old, memory_of memory.old flex.old)
+        (flex_called cpu.old (memory_of memory.old flex.old) name) result
+        (cpu.new, memory_of memory.new flex.new) }
+    ensures leaves { LeavesFlex memory.old memory.new flex.new }
+{
+    match name {
+        Some(SwiName::FlexInit) => make_flex(cpu, memory, flex),
+        Some(SwiName::FlexAlloc) => alloc_flex(cpu, memory, flex),
+        Some(SwiName::FlexFree) => release_flex(cpu, memory, flex),
+        Some(SwiName::FlexSize) => size_flex(cpu, memory, flex),
+        Some(SwiName::FlexExtend) => extend_flex(cpu, memory, flex),
+        Some(SwiName::FlexMidExtend) => mid_extend_flex(cpu, memory, flex),
+        _ => Err(Refusal::System(ErrorNumber::SwiUnknown)),
+    }
+}
+
+fn make_flex(cpu: &mut Cpu, memory: &mut AddressMap, flex: &mut Flex) -> Result<(), Refusal>
+    requires { CanCallFlex memory.old flex.old }
+    ensures state { Leaves (cpu.old, memory_of memory.old flex.old)
+        (flex_made cpu.old (memory_of memory.old flex.old)) result (cpu.new, memory_of memory.new flex.new) }
+    ensures leaves { LeavesFlex memory.old memory.new flex.new }
+{
+    let start = cpu.register(0);
+    let end = cpu.register(1);
+    begin_flex(memory, flex, start, end)?;
+    Ok(())
+}
+
+fn begin_flex(
+    memory: &mut AddressMap,
+    flex: &mut Flex,
+    start: u32,
+    end: u32,
+) -> Result<(), ErrorNumber>
+    requires { CanCallFlex memory.old flex.old }
+    ensures state { let s = memory_of memory.old flex.old in
+        Gives s (flex_in_range s start end) result (memory_of memory.new flex.new) }
+    ensures leaves { LeavesFlex memory.old memory.new flex.new }
+{
+    flex.init(memory, start, end)
+}
+
+fn alloc_flex(cpu: &mut Cpu, memory: &mut AddressMap, flex: &mut Flex) -> Result<(), Refusal>
+    requires { CanCallFlex memory.old flex.old }
+    ensures state { Leaves (cpu.old, memory_of memory.old flex.old)
+        (flex_allocated cpu.old (memory_of memory.old flex.old)) result
+        (cpu.new, memory_of memory.new flex.new) }
+    ensures leaves { LeavesFlex memory.old memory.new flex.new }
+{
+    let anchor = cpu.register(0);
+    let size = cpu.register(1);
+    let fits = alloc_block(memory, flex, anchor, size)?;
+    cpu.set_register(0, word_of(fits));
+    Ok(())
+}
+
+fn alloc_block(
+    memory: &mut AddressMap,
+    flex: &mut Flex,
+    anchor: u32,
+    size: u32,
+) -> Result<bool, ErrorNumber>
+    requires { CanCallFlex memory.old flex.old }
+    ensures state { let s = memory_of memory.old flex.old in
+        Gives s (memory_after_flex s.store (flex_after_alloc s.store (state_in s) anchor size)) result
+        (memory_of memory.new flex.new) }
+    ensures leaves { LeavesFlex memory.old memory.new flex.new }
+{
+    flex.alloc(memory, anchor, size)
+}
+
+fn release_flex(cpu: &mut Cpu, memory: &mut AddressMap, flex: &mut Flex) -> Result<(), Refusal>
+    requires { CanCallFlex memory.old flex.old }
+    ensures state { Leaves (cpu.old, memory_of memory.old flex.old)
+        (flex_released cpu.old (memory_of memory.old flex.old)) result
+        (cpu.new, memory_of memory.new flex.new) }
+    ensures leaves { LeavesFlex memory.old memory.new flex.new }
+{
+    let anchor = cpu.register(0);
+    release_block(memory, flex, anchor)?;
+    Ok(())
+}
+
+fn release_block(memory: &mut AddressMap, flex: &mut Flex, anchor: u32) -> Result<(), ErrorNumber>
+    requires { CanCallFlex memory.old flex.old }
+    ensures state { let s = memory_of memory.old flex.old in
+        Gives s (memory_after_flex s.store (flex_after_release (state_in s) anchor)) result
+        (memory_of memory.new flex.new) }
+    ensures leaves { LeavesFlex memory.old memory.new flex.new }
+{
+    flex.release(memory, anchor)
+}
+
+fn size_flex(cpu: &mut Cpu, memory: &AddressMap, flex: &Flex) -> Result<(), Refusal>
+    requires { CanCallFlex memory.now flex.now }
+    ensures { Leaves (cpu.old, memory_of memory.now flex.now)
+        (flex_sized cpu.old (memory_of memory.now flex.now)) result (cpu.new, memory_of memory.now flex.now) }
+{
+    let anchor = cpu.register(0);
+    let size = block_size(memory, flex, anchor)?;
+    cpu.set_register(0, size);
+    Ok(())
+}
+
+fn block_size(memory: &AddressMap, flex: &Flex, anchor: u32) -> Result<u32, ErrorNumber>
+    requires { CanCallFlex memory.now flex.now }
+    ensures { result ≡ flex_block_size (state_in (memory_of memory.now flex.now)) anchor }
+{
+    flex.size(memory, anchor)
+}
+
+fn extend_flex(cpu: &mut Cpu, memory: &mut AddressMap, flex: &mut Flex) -> Result<(), Refusal>
+    requires { CanCallFlex memory.old flex.old }
+    ensures state { Leaves (cpu.old, memory_of memory.old flex.old)
+        (flex_extended cpu.old (memory_of memory.old flex.old)) result
+        (cpu.new, memory_of memory.new flex.new) }
+    ensures leaves { LeavesFlex memory.old memory.new flex.new }
+{
+    let anchor = cpu.register(0);
+    let size = cpu.register(1);
+    let fits = extend_block(memory, flex, anchor, size)?;
+    cpu.set_register(0, word_of(fits));
+    Ok(())
+}
+
+fn extend_block(
+    memory: &mut AddressMap,
+    flex: &mut Flex,
+    anchor: u32,
+    size: u32,
+) -> Result<bool, ErrorNumber>
+    requires { CanCallFlex memory.old flex.old }
+    ensures state { let s = memory_of memory.old flex.old in
+        Gives s (memory_after_flex s.store (flex_after_extend (state_in s) anchor size)) result
+        (memory_of memory.new flex.new) }
+    ensures leaves { LeavesFlex memory.old memory.new flex.new }
+{
+    flex.extend(memory, anchor, size)
+}
+
+fn mid_extend_flex(cpu: &mut Cpu, memory: &mut AddressMap, flex: &mut Flex) -> Result<(), Refusal>
+    requires { CanCallFlex memory.old flex.old }
+    ensures state { Leaves (cpu.old, memory_of memory.old flex.old)
+        (flex_mid_extended cpu.old (memory_of memory.old flex.old)) result
+        (cpu.new, memory_of memory.new flex.new) }
+    ensures leaves { LeavesFlex memory.old memory.new flex.new }
+{
+    let anchor = cpu.register(0);
+    let at = cpu.register(1);
+    let by = cpu.register(2);
+    let fits = mid_extend_block(memory, flex, anchor, at, by)?;
+    cpu.set_register(0, word_of(fits));
+    Ok(())
+}
+
+fn mid_extend_block(
+    memory: &mut AddressMap,
+    flex: &mut Flex,
+    anchor: u32,
+    at: u32,
+    by: u32,
+) -> Result<bool, ErrorNumber>
+    requires { CanCallFlex memory.old flex.old }
+    ensures state { let s = memory_of memory.old flex.old in
+        Gives s (memory_after_flex s.store (mid_extended (state_in s) anchor at by)) result
+        (memory_of memory.new flex.new) }
+    ensures leaves { LeavesFlex memory.old memory.new flex.new }
+{
+    flex.mid_extend(memory, anchor, at, by)
+}
+
+// What R0 reports whether a block fits.
+fn word_of(fits: bool) -> u32
+    ensures { result ≡ room_word_of fits }
+{
+    u32::from(fits)
+}
