@@ -36,10 +36,25 @@ has_places_behind word second =
     if is_same_name word (codes "EXPECT") then not (is_text_check second) else
     is_same_name word (codes "PUT"))
 
+-- lines of these two words look for a place in the past, before which its size may stand
+abbrev pub looks_back : List ℕ → List ℕ → Bool
+looks_back word second =
+    if is_same_name word (codes "BACK") then is_same_name second (codes "UNTIL") else (
+    is_same_name word (codes "LAST") && (is_same_name second (codes "CHANGE")
+    || is_same_name second (codes "CLAIM") || is_same_name second (codes "FREE")))
+
+-- how many words stand as they are there
+abbrev pub kept_by_size : List (List ℕ) → ℕ
+kept_by_size (third ∷ others) =
+    if is_same_name third (codes "WORD") || is_same_name third (codes "BYTE") then 3 else 2
+kept_by_size [] = 2
+
 -- how many words stand as they are before those that may name places, if any may
 abbrev pub kept_untraced : List (List ℕ) → Option ℕ
 kept_untraced (word ∷ second ∷ others) =
-    if is_place_word word then Some 1 else (if has_places_behind word second then Some 2 else None)
+    if is_place_word word then Some 1 else (
+    if has_places_behind word second then Some 2 else (
+    if looks_back word second then Some (kept_by_size others) else None))
 kept_untraced _ = None
 
 -- the same where TRACE may stand before the line

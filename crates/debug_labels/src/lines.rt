@@ -4,7 +4,7 @@ ghost use Rattle.std.specs.Prelude.{◌≡◌, ◌≤◌, ◌++◌, IfOk, IfSome
 ghost use Rattle.std.specs.List.{join_with_byte};
 ghost use Rattle.address_map.specs.Memory.{bytes_of};
 ghost use Rattle.command_shell_lines.specs.Requests.{words};
-ghost use Rattle.debug_labels.specs.Lines.{has_places_behind, is_number_or_bytes, is_place_word, is_text_check, kept_untraced, kept_words, numbered_call, unnumbered_word};
+ghost use Rattle.debug_labels.specs.Lines.{has_places_behind, is_number_or_bytes, is_place_word, is_text_check, kept_by_size, kept_untraced, kept_words, looks_back, numbered_call, unnumbered_word};
 
 use crate::module_swis::swi_of_modules;
 use crate::words::PlaceNames;
@@ -22,8 +22,9 @@ impl PlaceNames<'_> {
     /// What a tidy line means: the line with a number, as `&8004`, in place of each word that names
     /// a place, in the lines that have places: behind BREAK, UNBREAK, MEM, CODE, HEAP, POKE, STEP,
     /// WORDS, GOSUB, WATCH, UNWATCH, DUMP, FILL and FIND, and behind one word more after PUT, SET and
-    /// EXPECT, but behind SET PSR and where EXPECT compares text. Behind CALL, it is the number of the
-    /// SWI that a loaded module's table in memory names so. TRACE may stand before these.
+    /// EXPECT, but behind SET PSR and where EXPECT compares text, and after BACK UNTIL, LAST CHANGE,
+    /// LAST CLAIM and LAST FREE. Behind CALL, it is the number of the SWI that a loaded module's table
+    /// in memory names so. TRACE may stand before these.
     ///
     /// # Errors
     ///
@@ -148,16 +149,35 @@ fn kept_words(line: &[u8]) -> Option<usize>
 // The same of a line before which no TRACE stands.
 fn kept_untraced(line: &[u8]) -> Option<usize>
     ensures kept { result ≡ kept_untraced (words line.now) }
-    ensures few { IfSome result (λ n. n ≤ 2) }
+    ensures few { IfSome result (λ n. n ≤ 3) }
 {
     let (word, rest) = cut(line, b' ');
-    let (second, _) = cut(rest?, b' ');
+    let (second, others) = cut(rest?, b' ');
     if is_place_word(word) {
         Some(1)
     } else if has_places_behind(word, second) {
         Some(2)
+    } else if looks_back(word, second) {
+        match others {
+            Some(others) => Some(kept_by_size(others)),
+            None => Some(2),
+        }
     } else {
         None
+    }
+}
+
+// How many words stand as they are where places in the past are looked for: before the place may stand
+// its size.
+fn kept_by_size(line: &[u8]) -> usize
+    ensures kept { result ≡ kept_by_size (words line.now) }
+    ensures few { result ≤ 3 }
+{
+    let (third, _) = cut(line, b' ');
+    if is_name(third, b"WORD") || is_name(third, b"BYTE") {
+        3
+    } else {
+        2
     }
 }
 
@@ -171,6 +191,18 @@ fn has_places_behind(word: &[u8], second: &[u8]) -> bool
         !is_text_check(second)
     } else {
         is_name(word, b"PUT")
+    }
+}
+
+// Whether lines of these two words look for a place in the past.
+fn looks_back(word: &[u8], second: &[u8]) -> bool
+    ensures { result ≡ looks_back word.now second.now }
+{
+    if is_name(word, b"BACK") {
+        is_name(second, b"UNTIL")
+    } else {
+        is_name(word, b"LAST")
+            && (is_name(second, b"CHANGE") || is_name(second, b"CLAIM") || is_name(second, b"FREE"))
     }
 }
 

@@ -25,6 +25,7 @@ pub use block_ends::missing_ends;
 pub use expectations::Expectation;
 pub use modes::{MOST_STUB_SETTINGS, ModeCommand, StubSetting};
 pub use openers::opens_block;
+pub use registers::{banked_register_named, register_of_name};
 pub use repeats::{RepeatedLine, is_known_line, is_repeatable_line, repeated_line, repeated_text};
 pub use requests::{DebugCommand, DebugView, is_script_command, is_script_line};
 pub use status::StatusPattern;

@@ -11,7 +11,7 @@ use command_shell_lines::RegisterNumber;
 use profile::text_lines::cut;
 
 /// The register of that name, in either case: R0 to R14, SP or LR.
-pub(crate) fn register_of_name(word: &[u8]) -> Option<RegisterNumber>
+pub fn register_of_name(word: &[u8]) -> Option<RegisterNumber>
     ensures { result ≡ register_of_name word.now }
 {
     if has_letters(word, b"SP") {
@@ -39,7 +39,7 @@ fn register_with_number(word: &[u8]) -> Option<RegisterNumber>
 }
 
 /// The register of a mode's bank: a register's name, `_` and the mode.
-pub(crate) fn banked_register_named(word: &[u8]) -> Option<(Mode, RegisterNumber)>
+pub fn banked_register_named(word: &[u8]) -> Option<(Mode, RegisterNumber)>
     ensures { result ≡ banked_register_named word.now }
 {
     let (name, rest) = cut(word, b'_');
