@@ -1,0 +1,12 @@
+pub mod ActLemmas
+pub mod AgainLemmas
+pub mod CallNotedLemmas
+pub mod LineNotedLemmas
+pub mod LinesLemmas
+pub mod LookingLemmas
+pub mod NotedLemmas
+pub mod PastLemmas
+pub mod ScanLemmas
+pub mod SearchLemmas
+pub mod StepLemmas
+pub mod UndoLemmas

@@ -1,0 +1,153 @@
+-- Acts that are cut, and how many steps are left of them.
+use Rattle.std.proofs.Common.{◌≡◌, ◌≢◌, ◌<◌, ◌≤◌, ℕ, Bool, true, false, zero, suc, ◌+◌, ◌-◌, ◌&&◌, ◌==◌, Option, Some, None, List, [], ◌∷◌, ◌++◌, length, get_or, take, drop, refl, sym, ◌∙◌, ap, arith, append_assoc, if◌then◌else◌}
+use Rattle.std.specs.Prelude.{map, nat_le}
+use Rattle.std.specs.List.{last_or}
+use Rattle.std.proofs.lemmas.Bool.Decides.{nat_tests}
+use Rattle.std.proofs.lemmas.List.{append-nil, drop_all, drop_more, take-append-drop, take_more}
+use Rattle.debug_history.specs.Acts.{steps_of_acts, steps_of_deed}
+use Rattle.debug_history.specs.Past.{acts_before_line, acts_until, first_steps}
+use Rattle.debug_history.specs.declared.act.Act.{Act}
+use Rattle.debug_history.proofs.ActLemmas.{steps_joined, steps_of_none}
+
+-- WHERE ACTS ARE CUT
+
+-- those that stay so far, and those of the rest
+abbrev pub IsCutFrom : List Act → ℕ → ℕ → ℕ → Type 0
+IsCutFrom acts step i left = acts_until step acts ≡ take i acts ++ acts_until left (drop i acts)
+
+fits : (n left : ℕ) → n ≤ left → nat_le n left ≡ true
+fits n left h = grind (arith, nat_tests, h)
+
+kept_by : (act : Act) (rest : List Act) (left : ℕ) → steps_of_deed act.deed ≤ left
+    → acts_until left (act ∷ rest) ≡ act ∷ acts_until (left - steps_of_deed act.deed) rest
+unfolding acts_until
+kept_by act rest left h =
+    let n : ℕ = steps_of_deed act.deed in
+    ap (λ (b : Bool). if b then act ∷ acts_until (left - n) rest else first_steps act.line left) (fits n left h)
+
+less : (n left : ℕ) → left < n → nat_le n left ≡ false
+less n left h = grind (arith, nat_tests, h)
+
+cut_by : (act : Act) (rest : List Act) (left : ℕ) → left < steps_of_deed act.deed
+    → acts_until left (act ∷ rest) ≡ first_steps act.line left
+unfolding acts_until
+cut_by act rest left h =
+    let n : ℕ = steps_of_deed act.deed in
+    ap (λ (b : Bool). if b then act ∷ acts_until (left - n) rest else first_steps act.line left) (less n left h)
+
+pub cut_goes_on : (acts : List Act) (step i left : ℕ) (act : Act) → i < length acts → act ≡ get_or acts i act
+    → steps_of_deed act.deed ≤ left → IsCutFrom acts step i left → IsCutFrom acts step (i + 1) (left - steps_of_deed act.deed)
+cut_goes_on acts step i left act below is few h =
+    let rest : List Act = drop (i + 1) acts in
+    let more : List Act = acts_until (left - steps_of_deed act.deed) rest in
+    let split = drop_more acts i act below ∙ ap (λ (a : Act). a ∷ rest) (sym is) in
+    let front = take_more acts i act below ∙ ap (λ (a : Act). take i acts ++ a ∷ []) (sym is) in
+    h ∙ ap (λ (xs : List Act). take i acts ++ acts_until left xs) split
+    ∙ ap (λ (xs : List Act). take i acts ++ xs) (kept_by act rest left few)
+    ∙ sym (append_assoc (take i acts) (act ∷ []) more)
+    ∙ sym (ap (λ (xs : List Act). xs ++ more) front)
+
+pub cut_here : (acts : List Act) (step i left : ℕ) (act : Act) → i < length acts → act ≡ get_or acts i act
+    → left < steps_of_deed act.deed → IsCutFrom acts step i left → acts_until step acts ≡ take i acts ++ first_steps act.line left
+cut_here acts step i left act below is more h =
+    let rest : List Act = drop (i + 1) acts in
+    let split = drop_more acts i act below ∙ ap (λ (a : Act). a ∷ rest) (sym is) in
+    h ∙ ap (λ (xs : List Act). take i acts ++ acts_until left xs) split
+    ∙ ap (λ (xs : List Act). take i acts ++ xs) (cut_by act rest left more)
+
+until_none : (left : ℕ) → acts_until left [] ≡ []
+unfolding acts_until
+until_none left = refl
+
+pub cut_nowhere : (acts : List Act) (step i left : ℕ) → length acts ≤ i → IsCutFrom acts step i left → acts_until step acts ≡ acts
+cut_nowhere acts step i left all h =
+    let none = drop_all i acts all in
+    h ∙ ap (λ (xs : List Act). take i acts ++ acts_until left xs) none
+    ∙ ap (λ (xs : List Act). take i acts ++ xs) (until_none left ∙ sym none)
+    ∙ take-append-drop i acts
+
+-- HOW MANY STEPS ARE LEFT
+
+pub fewer_taken : (acts : List Act) (n : ℕ) → steps_of_acts (take n acts) ≤ steps_of_acts acts
+fewer_taken acts n =
+    let both = ap steps_of_acts (sym (take-append-drop n acts)) ∙ steps_joined (take n acts) (drop n acts) in
+    omega (arith, both)
+
+first_counted : (act : Act) (rest : List Act) → steps_of_acts (act ∷ rest) ≡ steps_of_deed act.deed + steps_of_acts rest
+unfolding steps_of_acts
+first_counted act rest = refl
+
+pub counted_first : (acts : List Act) (i : ℕ) (act : Act) → i < length acts → act ≡ get_or acts i act
+    → steps_of_acts (drop i acts) ≡ steps_of_deed act.deed + steps_of_acts (drop (i + 1) acts)
+counted_first acts i act below is =
+    ap steps_of_acts (drop_more acts i act below ∙ ap (λ (a : Act). a ∷ drop (i + 1) acts) (sym is))
+    ∙ first_counted act (drop (i + 1) acts)
+
+pub counted_none : (acts : List Act) (i : ℕ) → length acts ≤ i → steps_of_acts (drop i acts) ≡ 0
+counted_none acts i all = ap steps_of_acts (drop_all i acts all) ∙ steps_of_none
+
+-- THE LAST LINE
+
+pub before_last : (line : ℕ) (acts : List Act) (act : Act) → (act.line == line) ≡ true
+    → acts_before_line line (acts ++ act ∷ []) ≡ acts_before_line line acts
+unfolding acts_before_line
+before_last line [] act e =
+    ap (λ (b : Bool). if true && b then [] else act ∷ []) e
+before_last line (first ∷ rest) act e =
+    ap (λ (before : List Act). if (length before == 0) && (first.line == line) then [] else first ∷ before)
+    (before_last line rest act e)
+
+kept_behind : (xs : List Act) (act : Act) (n : ℕ) → length (xs ++ act ∷ []) ≡ suc n
+    → (length (xs ++ act ∷ []) == 0) ≡ false
+kept_behind xs act n e = grind (arith, nat_tests, e)
+
+one_more : (xs : List Act) (act : Act) → length (xs ++ act ∷ []) ≡ suc (length xs)
+one_more [] act = refl
+one_more (x ∷ xs) act = ap suc (one_more xs act)
+
+pub all_before_last : (line : ℕ) (acts : List Act) (act : Act) → (act.line == line) ≡ false
+    → acts_before_line line (acts ++ act ∷ []) ≡ acts ++ act ∷ []
+unfolding acts_before_line
+all_before_last line [] act e = ap (λ (b : Bool). if true && b then [] else act ∷ []) e
+all_before_last line (first ∷ rest) act e =
+    let all : List Act = rest ++ act ∷ [] in
+    ap (λ (before : List Act). if (length before == 0) && (first.line == line) then [] else first ∷ before)
+    (all_before_last line rest act e)
+    ∙ ap (λ (b : Bool). if b && (first.line == line) then [] else first ∷ all)
+    (kept_behind rest act (length rest) (one_more rest act))
+
+before_none : (line : ℕ) → acts_before_line line [] ≡ []
+unfolding acts_before_line
+before_none line = refl
+
+-- the acts up to the last one of another line
+pub line_goes_on : (acts : List Act) (line n : ℕ) (act : Act) → n < length acts → act ≡ get_or acts n act → act.line ≡ line
+    → acts_before_line line (take (n + 1) acts) ≡ acts_before_line line acts
+    → acts_before_line line (take n acts) ≡ acts_before_line line acts
+line_goes_on acts line n act below is same h =
+    let front = take_more acts n act below ∙ ap (λ (a : Act). take n acts ++ a ∷ []) (sym is) in
+    let e : (act.line == line) ≡ true = grind (arith, nat_tests, same) in
+    sym (before_last line (take n acts) act e) ∙ ap (acts_before_line line) (sym front) ∙ h
+
+pub line_ends : (acts : List Act) (line n : ℕ) (act : Act) → n < length acts → act ≡ get_or acts n act → act.line ≢ line
+    → acts_before_line line (take (n + 1) acts) ≡ acts_before_line line acts
+    → acts_before_line line acts ≡ take (n + 1) acts
+line_ends acts line n act below is other h =
+    let front = take_more acts n act below ∙ ap (λ (a : Act). take n acts ++ a ∷ []) (sym is) in
+    let e : (act.line == line) ≡ false = grind (arith, nat_tests, other) in
+    sym h ∙ ap (acts_before_line line) front ∙ all_before_last line (take n acts) act e ∙ sym front
+
+pub line_never : (acts : List Act) (line : ℕ) → acts_before_line line (take 0 acts) ≡ acts_before_line line acts
+    → acts_before_line line acts ≡ take 0 acts
+line_never acts line h = sym h ∙ before_none line
+
+-- the line of the last act
+pub lines_first : (acts : List Act) (i : ℕ) (act : Act) (o : Option ℕ) → i < length acts → act ≡ get_or acts i act
+    → last_or o (map (λ (a : Act). a.line) (drop i acts)) ≡ last_or (Some act.line) (map (λ (a : Act). a.line) (drop (i + 1) acts))
+lines_first acts i act o below is =
+    ap (λ (xs : List Act). last_or o (map (λ (a : Act). a.line) xs))
+    (drop_more acts i act below ∙ ap (λ (a : Act). a ∷ drop (i + 1) acts) (sym is))
+
+pub lines_end : (acts : List Act) (i : ℕ) (o : Option ℕ) → length acts ≤ i
+    → last_or o (map (λ (a : Act). a.line) (drop i acts)) ≡ o
+lines_end acts i o all = ap (λ (xs : List Act). last_or o (map (λ (a : Act). a.line) xs)) (drop_all i acts all)

@@ -1,0 +1,44 @@
+use Rattle.std.proofs.Common.{◌≡◌, ℕ, subst, sym}
+use Rattle.swi_dispatch_guest.specs.Writes.{machine_after_poke, machine_at, machine_with_register, machine_with_status}
+use Rattle.command_shell.specs.Session.{script_state}
+use Rattle.debug_history.specs.Acts.{changed_moment, moment_after_deed, moment_after_word, moment_of_script}
+use Rattle.debug_history.specs.Again.{IsAtMoment}
+use Rattle.debug_history.specs.declared.act.PastDeed.{PastDeed}
+use Rattle.debug_history.proofs.AgainLemmas.{poke_at, with_machine_at}
+use Rattle.debug_history.proofs.again.deed_again.Goals as goal
+
+pub returns-in-Register-clause-moment : goal.returns-in-Register-clause-moment
+returns-in-Register-clause-moment c =
+    let s = script_state c.args.session.now c.args.images.now in
+    let now = script_state c.set_register.new.self c.args.images.now in
+    subst (λ (d : PastDeed). IsAtMoment s now (moment_after_deed s.images s.sizes d (moment_of_script s))) (sym c.in-Register.is)
+    (subst (λ (number : ℕ). IsAtMoment s now (changed_moment (machine_with_register s.machine number c.in-Register.value)))
+    c.number-number.ensures.value
+    (with_machine_at s now (machine_with_register s.machine c.number-number.result c.in-Register.value)
+    (c.set_register.ensures c.args.images.now)))
+
+pub returns-in-Word-clause-moment : goal.returns-in-Word-clause-moment
+returns-in-Word-clause-moment c =
+    let s = script_state c.args.session.now c.args.images.now in
+    let now = script_state c.store_word.new.self c.args.images.now in
+    subst (λ (d : PastDeed). IsAtMoment s now (moment_after_deed s.images s.sizes d (moment_of_script s))) (sym c.in-Word.is)
+    (subst (λ (at : ℕ). IsAtMoment s now
+    (moment_after_word (moment_of_script s) (machine_after_poke s.machine at c.in-Word.value)))
+    c.address-at.ensures.value
+    (poke_at s now c.address-at.result c.in-Word.value c.store_word.result (c.store_word.ensures c.args.images.now)))
+
+pub returns-in-Place-clause-moment : goal.returns-in-Place-clause-moment
+returns-in-Place-clause-moment c =
+    let s = script_state c.args.session.now c.args.images.now in
+    let now = script_state c.set_pc.new.self c.args.images.now in
+    subst (λ (d : PastDeed). IsAtMoment s now (moment_after_deed s.images s.sizes d (moment_of_script s))) (sym c.in-Place.is)
+    (subst (λ (pc : ℕ). IsAtMoment s now (changed_moment (machine_at s.machine pc)))
+    c.address-pc.ensures.value
+    (with_machine_at s now (machine_at s.machine c.address-pc.result) (c.set_pc.ensures c.args.images.now)))
+
+pub returns-in-Status-clause-moment : goal.returns-in-Status-clause-moment
+returns-in-Status-clause-moment c =
+    let s = script_state c.args.session.now c.args.images.now in
+    let now = script_state c.set_psr.new.self c.args.images.now in
+    subst (λ (d : PastDeed). IsAtMoment s now (moment_after_deed s.images s.sizes d (moment_of_script s))) (sym c.in-Status.is)
+    (with_machine_at s now (machine_with_status s.machine c.in-Status.status) (c.set_psr.ensures c.args.images.now))

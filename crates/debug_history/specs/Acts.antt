@@ -1,0 +1,92 @@
+-- What is done to a machine: steps, calls, and changes from outside.
+use Rattle.std.specs.Prelude.{ℕ, Bool, true, false, ◌&&◌, ◌+◌, ◌==◌, List, [], ◌∷◌, Option, Some, None, Result, Ok, Err, if◌then◌else◌}
+use Rattle.image_loader.specs.Entries.{Entry, bytes_of_image}
+use Rattle.profile.specs.Sizes.{Sizes}
+use Rattle.profile.specs.declared.fault.Fault.{Fault}
+use Rattle.swi_dispatch.specs.Boot.{machine_after_boot}
+use Rattle.swi_dispatch.specs.declared.boot_error.BootError.{BootError}
+use Rattle.swi_dispatch_guest.specs.MachineState.{MachineState, machine_start}
+use Rattle.swi_dispatch_guest.specs.Step.{machine_step, module_loaded, store_called}
+use Rattle.swi_dispatch_guest.specs.Writes.{machine_after_poke, machine_at, machine_with_register, machine_with_status}
+use Rattle.command_shell.specs.State.{ScriptState}
+use Rattle.debug_history.specs.Steps.{steps_after}
+use Rattle.debug_history.specs.declared.act.Act.{Act}
+use Rattle.debug_history.specs.declared.act.PastDeed.{PastDeed}
+use Rattle.debug_history.specs.declared.act.PastDeed.TheVariants.{Steps, FaultingStep, Boot, Call, Load, Register, Word, Place, Status}
+
+-- a machine, and whether it still stands as it was made
+pub record PastMoment : Type 0 where
+  pub machine : MachineState
+  pub is_fresh : Bool
+
+abbrev pub moment_of_script : ScriptState → PastMoment
+moment_of_script s = record { machine = s.machine; is_fresh = s.is_fresh }
+
+-- a machine as it is made
+abbrev pub fresh_moment : Sizes → PastMoment
+fresh_moment sizes = record { machine = machine_start sizes; is_fresh = true }
+
+abbrev pub changed_moment : MachineState → PastMoment
+changed_moment machine = record { machine = machine; is_fresh = false }
+
+abbrev pub moment_after_steps : List Entry → ℕ → PastMoment → PastMoment
+moment_after_steps images count m = record {
+  machine = steps_after images count m.machine;
+  is_fresh = m.is_fresh && (count == 0);
+}
+
+-- a word that can't be stored changes nothing
+abbrev pub moment_after_word : PastMoment → Result MachineState Fault → PastMoment
+moment_after_word m (Ok machine) = changed_moment machine
+moment_after_word m (Err fault) = m
+
+-- nor does a program that can't be booted, or that isn't there
+abbrev pub moment_after_program : PastMoment → Result MachineState BootError → PastMoment
+moment_after_program m (Ok machine) = changed_moment machine
+moment_after_program m (Err error) = m
+
+abbrev pub moment_after_boot : Sizes → PastMoment → Option (List ℕ) → PastMoment
+moment_after_boot sizes m (Some program) =
+    moment_after_program m (machine_after_boot sizes m.is_fresh m.machine program)
+moment_after_boot sizes m None = m
+
+-- one deed; a step that ends in a fault isn't counted
+abbrev pub moment_after_deed : List Entry → Sizes → PastDeed → PastMoment → PastMoment
+moment_after_deed images sizes (Steps count) m = moment_after_steps images count m
+moment_after_deed images sizes FaultingStep m = changed_moment (machine_step images m.machine).now
+moment_after_deed images sizes (Boot name) m = moment_after_boot sizes m (bytes_of_image images name)
+moment_after_deed images sizes (Call number is_counted) m =
+    changed_moment (store_called images m.machine number).now
+moment_after_deed images sizes (Load text is_counted) m =
+    changed_moment (module_loaded images m.machine text).now
+moment_after_deed images sizes (Register number value) m =
+    changed_moment (machine_with_register m.machine number value)
+moment_after_deed images sizes (Word address value) m =
+    moment_after_word m (machine_after_poke m.machine address value)
+moment_after_deed images sizes (Place address) m = changed_moment (machine_at m.machine address)
+moment_after_deed images sizes (Status status) m = changed_moment (machine_with_status m.machine status)
+
+-- one act after another
+unfoldable pub moment_after_acts : List Entry → Sizes → List Act → PastMoment → PastMoment
+moment_after_acts images sizes [] m = m
+moment_after_acts images sizes (act ∷ rest) m =
+    moment_after_acts images sizes rest (moment_after_deed images sizes act.deed m)
+
+-- how many steps a deed counts
+abbrev pub count_if : Bool → ℕ
+count_if is_counted = if is_counted then 1 else 0
+
+abbrev pub steps_of_deed : PastDeed → ℕ
+steps_of_deed (Steps count) = count
+steps_of_deed (Call number is_counted) = count_if is_counted
+steps_of_deed (Load text is_counted) = count_if is_counted
+steps_of_deed _ = 0
+
+-- how many steps were counted in all
+unfoldable pub steps_of_acts : List Act → ℕ
+steps_of_acts [] = 0
+steps_of_acts (act ∷ rest) = steps_of_deed act.deed + steps_of_acts rest
+
+-- so many steps, by a line
+abbrev pub steps_act : ℕ → ℕ → Act
+steps_act line count = record { line = line; deed = Steps count }

@@ -1,0 +1,15 @@
+-- The past of a machine: what was done to it, and how it stood. Begin with Past.
+pub use Rattle.swi_dispatch_guest.specs.declared.halt.Halt
+pub mod Acts
+pub mod Again
+pub mod Answers
+pub mod Cutting
+pub mod Laws
+pub mod LineKinds
+pub mod Lines
+pub mod Noted
+pub mod Past
+pub mod Scan
+pub mod Search
+pub mod Steps
+pub mod Texts

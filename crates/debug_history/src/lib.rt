@@ -1,0 +1,26 @@
+//! Going back in time: the past of a machine is what was done to it since it was made, and the machine
+//! at a moment of it is made anew by doing the same again.
+//!
+//! Promise: going back leaves the machine that was there then, and what is found last is the last.
+#![tactic(auto)]
+
+mod act;
+mod again;
+mod answering;
+pub mod laws;
+mod line_kinds;
+mod lines;
+mod noting;
+mod nowhere;
+mod past;
+mod scan;
+mod search;
+mod texts;
+
+pub use act::{Act, KeptText, PastDeed};
+pub use answering::PastSetting;
+pub use line_kinds::{asks_nothing, is_named_image, is_refused_block, takes_steps};
+pub use lines::{PastCommand, past_line};
+pub use noting::is_faulted;
+pub use past::Past;
+pub use search::{PastFound, Sought};

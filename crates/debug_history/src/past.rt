@@ -1,0 +1,322 @@
+//! The past of a machine, and how the machine goes back.
+
+ghost use Rattle.std.specs.Prelude.{◌≡◌, ◌≤◌, ◌<◌, ◌^◌, length, take, Some, IfSome, OnOk, IfErr};
+ghost use Rattle.command_shell.specs.Error.{IsLineError};
+ghost use Rattle.command_shell.specs.Session.{script_state};
+ghost use Rattle.debug_history.specs.Acts.{steps_of_acts};
+ghost use Rattle.debug_history.specs.Again.{script_at_moment};
+ghost use Rattle.debug_history.specs.Cutting.{acts_cut};
+ghost use Rattle.debug_history.specs.Past.{acts_before_line, acts_until, line_of_last_act};
+
+use crate::act::{Act, PastDeed};
+use crate::again::acts_again;
+use command_shell::{RunError, Session};
+use image_loader::Images;
+use profile::{Config, Stop};
+use std::alloc::{AllocError, Global};
+use std::marker::Model;
+
+/// What was done to a machine since it was made, as far as it is known.
+#[derive(Drop)]
+pub struct Past {
+    is_kept: bool,
+    acts: Vec<Act>,
+    // How many steps were counted in all.
+    steps: u64,
+}
+
+impl Model for Past {
+    ghost use Rattle.std.specs.Prelude.{◌≡◌};
+    ghost use Rattle.debug_history.specs.Acts.{steps_of_acts};
+    ghost use Rattle.debug_history.specs.Past.{PastState};
+
+    ghost Value = { PastState };
+
+    ghost view = { λ p. record { is_kept = p.is_kept; acts = p.acts.items } };
+
+    ghost invariant = { λ p. p.steps ≡ steps_of_acts p.acts.items };
+}
+
+impl Past {
+    ghost use Rattle.debug_history.specs.Past.{moment_after_past, past_before_line, past_from_start, past_until, past_with_act, past_with_images, past_with_other_images, unknown_past};
+
+    /// That of a machine as it was made, where it is to be kept.
+    #[tactic(auto, unfolding(crate::specs::Acts::steps_of_acts))]
+    pub fn new(alloc: Global, is_kept: bool) -> Past
+        ensures { result ≡ past_from_start is_kept }
+    {
+        Past {
+            is_kept,
+            acts: Vec::new(alloc),
+            steps: 0,
+        }
+    }
+
+    /// The machine was made anew.
+    #[tactic(auto, unfolding(crate::specs::Acts::steps_of_acts))]
+    pub fn begin(&mut self, is_kept: bool)
+        ensures { self.new ≡ past_from_start is_kept }
+    {
+        self.is_kept = is_kept;
+        self.acts.clear();
+        self.steps = 0;
+    }
+
+    /// The machine was changed in a way that isn't kept.
+    pub fn lose(&mut self)
+        ensures { self.new ≡ unknown_past }
+    {
+        self.begin(false);
+    }
+
+    /// The images may be others now.
+    pub fn change_images_if(&mut self, are_others: bool)
+        ensures { self.new ≡ past_with_images are_others self.old }
+    {
+        if are_others {
+            self.change_images();
+        }
+    }
+
+    /// The images are others now.
+    pub(crate) fn change_images(&mut self)
+        ensures { self.new ≡ past_with_other_images self.old }
+    {
+        if !self.acts.is_empty() {
+            self.lose();
+        }
+    }
+
+    /// This was done to the machine.
+    ///
+    /// # Errors
+    ///
+    /// Memory ran out.
+    #[tactic(auto, using(crate::proofs::ActLemmas::steps_with_one))]
+    pub fn add(&mut self, act: Act) -> Result<(), AllocError>
+        ensures { OnOk result (self.new ≡ past_with_act self.old act) }
+    {
+        if !self.is_kept {
+            return Ok(());
+        }
+        match self.steps.checked_add(act.deed.steps()) {
+            None => {
+                self.lose();
+                Ok(())
+            }
+            Some(steps) => {
+                self.acts.push(act)?;
+                self.steps = steps;
+                Ok(())
+            }
+        }
+    }
+
+    /// Whether it is known.
+    pub fn is_kept(&self) -> bool
+        ensures { result ≡ self.now.is_kept }
+    {
+        self.is_kept
+    }
+
+    /// What was done, one after another.
+    pub fn acts(&self) -> &[Act]
+        ensures { result.now ≡ self.now.acts }
+    {
+        self.acts.as_slice()
+    }
+
+    /// How many steps were counted.
+    pub fn steps(&self) -> u64
+        ensures { result ≡ steps_of_acts self.now.acts }
+    {
+        self.steps
+    }
+
+    /// The number of the line that did something last, if anything was done.
+    pub fn last_line(&self) -> Option<u64>
+        ensures { result ≡ line_of_last_act self.now.acts }
+    {
+        last_line_of(self.acts.as_slice())
+    }
+
+    // What came after a moment is forgotten.
+    #[tactic(auto, using(crate::proofs::ActLemmas::until_steps))]
+    fn forget_after(&mut self, step: u64)
+        ensures { self.new ≡ past_until step self.old }
+    {
+        if step < self.steps {
+            keep_until(&mut self.acts, step);
+            self.steps = step;
+        }
+    }
+
+    // What a line did last is forgotten.
+    #[tactic(auto, using(crate::proofs::PastLemmas::fewer_taken))]
+    fn forget_line(&mut self, line: u64)
+        ensures { self.new ≡ past_before_line line self.old }
+    {
+        let count = count_before_line(self.acts.as_slice(), line);
+        self.acts.truncate(count);
+        self.steps = count_steps(self.acts.as_slice());
+    }
+
+    /// The session's machine becomes as it was before the step of that number, and what came after
+    /// that is forgotten. The session then has the whole budget; its breaks stay.
+    ///
+    /// # Errors
+    ///
+    /// `Memory` where the host has none for a fresh machine.
+    pub fn go_back(
+        &mut self,
+        session: &mut Session,
+        images: &mut Images,
+        config: Config,
+        budget: u64,
+        step: u64,
+    ) -> Result<(), RunError>
+        ensures past { OnOk result (self.new ≡ past_until step self.old) }
+        ensures machine { let s = script_state session.old images.old in
+            OnOk result (script_state session.new images.new ≡ script_at_moment s config budget
+            (moment_after_past s.images config (past_until step self.old))) }
+        ensures errors { IfErr result IsLineError }
+    {
+        self.forget_after(step);
+        self.stand_there(session, images, config, budget)
+    }
+
+    /// The session's machine becomes as it was before what the line of that number did last, which is
+    /// forgotten. The session then has the whole budget; its breaks stay.
+    ///
+    /// # Errors
+    ///
+    /// `Memory` where the host has none for a fresh machine.
+    pub fn undo(
+        &mut self,
+        session: &mut Session,
+        images: &mut Images,
+        config: Config,
+        budget: u64,
+        line: u64,
+    ) -> Result<(), RunError>
+        ensures past { OnOk result (self.new ≡ past_before_line line self.old) }
+        ensures machine { let s = script_state session.old images.old in
+            OnOk result (script_state session.new images.new ≡ script_at_moment s config budget
+            (moment_after_past s.images config (past_before_line line self.old))) }
+        ensures errors { IfErr result IsLineError }
+    {
+        self.forget_line(line);
+        self.stand_there(session, images, config, budget)
+    }
+
+    // The session's machine becomes as it is after all that was done.
+    fn stand_there(
+        &self,
+        session: &mut Session,
+        images: &mut Images,
+        config: Config,
+        budget: u64,
+    ) -> Result<(), RunError>
+        ensures machine { let s = script_state session.old images.old in
+            OnOk result (script_state session.new images.new
+            ≡ script_at_moment s config budget (moment_after_past s.images config self.now)) }
+        ensures errors { IfErr result IsLineError }
+    {
+        let last = session.last().unwrap_or(Stop::Budget);
+        session.start_anew(config, budget)?;
+        acts_again(session, images, self.acts())?;
+        session.set_budget(budget);
+        session.set_last(last);
+        Ok(())
+    }
+}
+
+// Where acts are cut: so many stay, and so many steps of the next one, which a line took.
+#[derive(Clone, Copy, Debug)]
+struct Cut {
+    index: usize,
+    line: u64,
+    left: u64,
+}
+
+// Where acts are cut by a moment within them, if it is.
+fn cut_at(acts: &[Act], step: u64) -> Option<Cut>
+    ensures within { IfSome result (λ cut. cut.index < length acts.now) }
+    ensures until { acts_until step acts.now ≡ acts_cut acts.now result }
+{
+    let mut left = step;
+    for (index, act) in acts.iter().enumerate() {
+        let count = act.deed.steps();
+        if count > left {
+            return Some(Cut {
+                index,
+                line: act.line,
+                left,
+            });
+        }
+        left -= count;
+    }
+    None
+}
+
+// Acts after a moment go.
+fn keep_until(acts: &mut Vec<Act>, step: u64)
+    ensures { acts.new.items ≡ acts_until step acts.old.items }
+{
+    if let Some(cut) = cut_at(acts.as_slice(), step) {
+        keep_first(acts, cut);
+    }
+}
+
+fn keep_first(acts: &mut Vec<Act>, cut: Cut)
+    requires { cut.index < length acts.old.items }
+    ensures { acts.new.items ≡ acts_cut acts.old.items (Some cut) }
+{
+    if cut.left == 0 {
+        acts.truncate(cut.index);
+    } else {
+        acts[cut.index] = Act {
+            line: cut.line,
+            deed: PastDeed::Steps(cut.left),
+        };
+        acts.truncate(cut.index + 1);
+    }
+}
+
+// How many acts come before those at the end that are all of one line.
+fn count_before_line(acts: &[Act], line: u64) -> usize
+    ensures most { result ≤ length acts.now }
+    ensures before { acts_before_line line acts.now ≡ take result acts.now }
+{
+    let mut count = acts.len();
+    while count > 0 {
+        if acts[count - 1].line != line {
+            return count;
+        }
+        count -= 1;
+    }
+    0
+}
+
+// The line of the last act.
+fn last_line_of(acts: &[Act]) -> Option<u64>
+    ensures { result ≡ line_of_last_act acts.now }
+{
+    let mut line = None;
+    for act in acts {
+        line = Some(act.line);
+    }
+    line
+}
+
+// How many steps some acts count.
+fn count_steps(acts: &[Act]) -> u64
+    requires { steps_of_acts acts.now < 2 ^ 64 }
+    ensures { result ≡ steps_of_acts acts.now }
+{
+    let mut steps = 0;
+    for act in acts {
+        steps += act.deed.steps();
+    }
+    steps
+}
