@@ -4,7 +4,7 @@ use Rattle.std.specs.Io.KnownBytes.{Appends}
 use Rattle.profile.specs.Output.{AddsAllBut}
 use Rattle.profile.proofs.OutputLemmas.{AddsAllBut-start, AddsAllBut-more, Appends-from_all_but}
 use Rattle.address_map.specs.Bytes.{Bytes}
-use Rattle.debug_runs.specs.counts.Counts.{CountTable}
+use Rattle.debug_tables.specs.counts.Counts.{CountTable}
 use Rattle.debug_modes.specs.Counting.{counted_line, counted_lines, one_if_taken, words_taken}
 
 one_line : (c : CountTable) (b : Bytes) (a n k : ℕ) → k < n

@@ -7,14 +7,14 @@ use Rattle.debug_lines.specs.ModeRequests.{ModeRequest, Count, Trace, TraceLimit
 use Rattle.debug_lines.specs.ModeRequests as request
 use Rattle.debug_lines.specs.declared.modes.StubSetting.{StubSetting}
 use Rattle.debug_modes.specs.declared.modes.DebugModes.{DebugModes}
-use Rattle.debug_runs.specs.counts.Counts.{counts_begun, counts_stopped}
-use Rattle.debug_runs.specs.StubNames.{stub_error_name}
-use Rattle.debug_runs.specs.Stubs.{with_stub, without_stub}
-use Rattle.debug_runs.specs.WordWatches.{watch_error_name, with_word_watch, without_word_watch}
-use Rattle.debug_runs.specs.Stub.{Stub}
-use Rattle.debug_runs.specs.StubError.{StubError}
-use Rattle.debug_runs.specs.StubRegister.{StubRegister}
-use Rattle.debug_runs.specs.WordWatchError.{WordWatchError}
+use Rattle.debug_tables.specs.counts.Counts.{counts_begun, counts_stopped}
+use Rattle.debug_tables.specs.StubNames.{stub_error_name}
+use Rattle.debug_tables.specs.Stubs.{with_stub, without_stub}
+use Rattle.debug_tables.specs.WordWatches.{watch_error_name, with_word_watch, without_word_watch}
+use Rattle.debug_tables.specs.declared.stubs.Stub.{Stub}
+use Rattle.debug_tables.specs.declared.stubs.StubError.{StubError}
+use Rattle.debug_tables.specs.declared.stubs.StubRegister.{StubRegister}
+use Rattle.debug_tables.specs.declared.watches.WordWatchError.{WordWatchError}
 use Rattle.command_shell.specs.MachineState.{MachineState}
 use Rattle.command_shell.specs.Step.{without_x}
 

@@ -5,10 +5,10 @@ use Rattle.std.specs.Fmt.{decimal}
 use Rattle.address_map.specs.Bytes.{Bytes}
 use Rattle.command_shell.specs.Code.{code_text}
 use Rattle.command_shell.specs.Answers.{refused_text}
-use Rattle.debug_runs.specs.Images.{image_place}
-use Rattle.debug_runs.specs.Words.{Naming}
-use Rattle.debug_runs.specs.ImagePlace.{ImagePlace}
-use Rattle.debug_runs.specs.counts.Counts.{CountTable, times_at}
+use Rattle.debug_labels.specs.Images.{image_place}
+use Rattle.debug_labels.specs.Words.{Naming}
+use Rattle.debug_labels.specs.declared.images.ImagePlace.{ImagePlace}
+use Rattle.debug_tables.specs.counts.Counts.{CountTable, times_at}
 
 -- behind as many blanks as fill ten columns
 abbrev pub ten_columns : List ℕ → List ℕ

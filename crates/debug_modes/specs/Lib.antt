@@ -1,8 +1,6 @@
 -- The modes of a debugger, and the lines that change them or are shown in them. Begin with Modes.
-pub use Rattle.debug_runs.specs.TraceWriter
 pub mod Changes
 pub mod Counting
 pub mod Modes
 pub mod OwnAnswers
-pub mod Stepping
 pub mod expectations

@@ -1,8 +1,8 @@
 -- The modes of a debugger, by which lines that take steps are answered.
 use Rattle.std.specs.Prelude.{ℕ, Bool, false, not, ◌||◌, [], Option, Some, None, if◌then◌else◌}
 use Rattle.debug_modes.specs.declared.modes.DebugModes.{DebugModes}
-use Rattle.debug_runs.specs.counts.Counts.{no_counts}
-use Rattle.debug_runs.specs.Modes.{are_plain}
+use Rattle.debug_tables.specs.counts.Counts.{no_counts}
+use Rattle.debug_tables.specs.Modes.{are_plain}
 
 -- as a debugger begins
 abbrev pub no_modes : DebugModes

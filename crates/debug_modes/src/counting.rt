@@ -8,7 +8,8 @@ ghost use Rattle.command_shell.specs.GuestState.{state_of};
 use crate::answers::refused_line;
 use crate::modes::DebugModes;
 use command_shell::{Machine, show_code};
-use debug_runs::{ImagePlace, LabelTable, PlaceNames, StepCounts};
+use debug_labels::{ImagePlace, LabelTable, PlaceNames};
+use debug_tables::counts::StepCounts;
 use itoa::Buffer;
 use profile::text_sink::TextSink;
 use profile::{Sink, WriteFault, push_all, push_parts};
@@ -18,7 +19,7 @@ use std::alloc::{AllocError, Global};
 const BLANKS: &[u8] = b"          ";
 
 impl DebugModes {
-    ghost use Rattle.debug_runs.specs.TraceWriter.{naming_in};
+    ghost use Rattle.debug_labels.specs.place_views.Places.{naming_on};
 
     /// How often the steps of the words of an image of that name were taken, of those that were assembled:
     /// a line for each word, where the image stands now, with the line that CODE has for it, and behind
@@ -35,7 +36,7 @@ impl DebugModes {
         name: &[u8],
     ) -> Result<Vec<u8>, AllocError>
         ensures { let s = state_of machine.now.guest in IfOk result (λ text. text.items
-            ≡ counts_text self.now.counts (naming_in labels.now s) s.store.bytes name.now) }
+            ≡ counts_text self.now.counts (naming_on labels.now s) s.store.bytes name.now) }
     {
         let names = PlaceNames::new(labels, machine.instances(), machine.cpu());
         match names.image_place(name) {

@@ -1,7 +1,7 @@
 //! The modes of a debugger, for `debug_session`: whether steps are shown one by one, and how many,
-//! stubs, watches and counts; the lines that change them, and lines that take steps in them.
+//! stubs, watches and counts, and the lines that change them.
 //!
-//! Promise: a mode changes just what its line says, and steps are taken in the modes that are set.
+//! Promise: a mode changes just what its line says.
 #![tactic(auto)]
 
 mod answers;
@@ -11,7 +11,6 @@ pub mod expectations;
 mod help;
 mod modes;
 mod own_answers;
-mod stepping;
 mod stub_lines;
 
 pub use answers::refused_line;

@@ -3,7 +3,8 @@
 ghost use Rattle.std.specs.Prelude.{◌≡◌};
 ghost use Rattle.debug_modes.specs.Modes.{no_modes, takes_over, answer_of_line};
 
-use debug_runs::{StepCounts, StepModes};
+use debug_tables::StepModes;
+use debug_tables::counts::StepCounts;
 use std::alloc::Global;
 
 /// So many steps of a line are shown where no line says otherwise.

@@ -6,7 +6,7 @@ ghost use Rattle.debug_modes.specs.Changes.{stub_register_of, stub_with, stub_nu
 use arrayvec::ArrayVec;
 use command_shell::without_x_bit;
 use debug_lines::StubSetting;
-use debug_runs::{MOST_STUB_REGISTERS, Stub, StubRegister};
+use debug_tables::{MOST_STUB_REGISTERS, Stub, StubRegister};
 
 /// The number of a SWI that a line shows as CALL takes it, without its X bit.
 pub(crate) fn stub_number(number: u32) -> u32

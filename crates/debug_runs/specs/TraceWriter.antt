@@ -5,7 +5,7 @@ use Rattle.std.specs.Fmt.{decimal}
 use Rattle.arm_core.specs.State.{State}
 use Rattle.debug_labels.specs.Labels.{ImageLabels}
 use Rattle.debug_labels.specs.Places.{LabelledPlace, place_of}
-use Rattle.debug_labels.specs.Words.{Naming}
+use Rattle.debug_labels.specs.place_views.Places.{naming_on}
 use Rattle.swi_dispatch_guest.specs.MachineState.{MachineState, StepOutcome}
 use Rattle.trace_effects.specs.changes.Status.{following_word}
 use Rattle.trace_effects.specs.Cause.{cause_of}
@@ -24,11 +24,8 @@ step_label_line None = []
 step_label_line (Some place) = if place.offset == 0 then place.image ++
     (codes ":" ++ (place.label ++ codes ":\n")) else []
 
-abbrev pub naming_in : List ImageLabels → MachineState → Naming
-naming_in labels s = record { labels = labels; modules = s.tables.modules; cpu = s.cpu }
-
 abbrev pub label_line_in : List ImageLabels → MachineState → List ℕ
-label_line_in labels s = step_label_line (place_of (naming_in labels s) s.cpu.pc)
+label_line_in labels s = step_label_line (place_of (naming_on labels s) s.cpu.pc)
 
 -- the label itself, where it stands at the place
 abbrev pub label_itself : Option LabelledPlace → Option (List ℕ)
@@ -38,7 +35,7 @@ label_itself (Some place) = if place.offset == 0 then Some place.label else None
 -- the label to which the branch goes that stands at the program counter
 abbrev pub label_ahead : List ImageLabels → MachineState → Option (List ℕ)
 label_ahead labels s =
-    option_and_then (λ (target : ℕ). label_itself (place_of (naming_in labels s) target))
+    option_and_then (λ (target : ℕ). label_itself (place_of (naming_on labels s) target))
     (branch_destination s.cpu.pc (cause_of s.cpu s.store.bytes))
 
 -- a step that a stub answers, with what it leaves in the core

@@ -4,8 +4,8 @@ use Rattle.std.specs.Prelude.{codes}
 use Rattle.profile.specs.Outcome.{Leaves}
 use Rattle.command_shell.specs.GuestState.{state_of}
 use Rattle.debug_modes.specs.Changes.{change_text, stub_number, stub_with}
-use Rattle.debug_runs.specs.Stubs.{with_stub}
-use Rattle.debug_runs.specs.Stub.{Stub}
+use Rattle.debug_tables.specs.Stubs.{with_stub}
+use Rattle.debug_tables.specs.declared.stubs.Stub.{Stub}
 use Rattle.debug_modes.proofs.ChangeLemmas.{on_err, stubs_changed, stubs_refused_if, stubs_stay}
 use Rattle.debug_modes.proofs.modes.DebugModes.add_stub.Goals as goal
 

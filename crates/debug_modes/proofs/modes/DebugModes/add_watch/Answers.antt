@@ -2,7 +2,7 @@
 use Rattle.std.proofs.Common.{◌≡◌, ap, ◌∙◌}
 use Rattle.std.specs.Prelude.{codes}
 use Rattle.debug_modes.specs.Changes.{change_text}
-use Rattle.debug_runs.specs.WordWatches.{with_word_watch}
+use Rattle.debug_tables.specs.WordWatches.{with_word_watch}
 use Rattle.debug_modes.proofs.ChangeLemmas.{on_err, watches_changed, watches_refused_if, watches_stay}
 use Rattle.debug_modes.proofs.modes.DebugModes.add_watch.Goals as goal
 

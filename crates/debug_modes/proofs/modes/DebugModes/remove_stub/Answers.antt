@@ -3,7 +3,7 @@ use Rattle.std.proofs.Common.{◌≡◌, ℕ, Ok, Err, ap, subst, ◌∙◌}
 use Rattle.std.specs.Prelude.{codes}
 use Rattle.profile.specs.Outcome.{Leaves}
 use Rattle.debug_modes.specs.Changes.{change_text, stub_number}
-use Rattle.debug_runs.specs.Stubs.{without_stub}
+use Rattle.debug_tables.specs.Stubs.{without_stub}
 use Rattle.debug_modes.proofs.ChangeLemmas.{on_err, stubs_changed, stubs_refused_if, stubs_stay}
 use Rattle.debug_modes.proofs.modes.DebugModes.remove_stub.Goals as goal
 
