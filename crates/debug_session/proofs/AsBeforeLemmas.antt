@@ -15,7 +15,8 @@ use Rattle.debug_lines.specs.DebugRequests.{is_script_request}
 use Rattle.debug_session.specs.AsBefore.{LookingLeavesTheMachine, ScriptAsBefore, are_script_lines, stepping_lines}
 use Rattle.debug_modes.specs.expectations.Checks.{check_answer}
 use Rattle.debug_modes.specs.Modes.{takes_over}
-use Rattle.debug_session.specs.DebugScript.{checked_answer, asks_nothing, is_refused_block, state_after_line, state_with_answer, plain_line_answer, seen_of, some_lines_answer, takes_steps, answer_or_refused}
+use Rattle.debug_session.specs.DebugScript.{checked_answer, state_after_line, state_with_answer, plain_line_answer, seen_of, some_lines_answer, answer_or_refused}
+use Rattle.debug_history.specs.LineKinds.{asks_nothing, is_refused_block, takes_steps}
 use Rattle.debug_session.specs.DebugState.{DebugAnswered, DebugState, then_debugged}
 use Rattle.debug_modes.specs.declared.expectations.reports.reports.ReportForm.TheVariants.{Answers}
 use Rattle.debug_session.specs.declared.session.DebugSettings.{DebugSettings}
@@ -42,20 +43,20 @@ answer_quit : (c : DebugSettings) (d after : DebugState) (number : ℕ) (refused
 answer_quit c d after number true text = refl
 answer_quit c d after number false text = refl
 
-noted_by_if : (c : DebugSettings) (d : DebugState) (r : Request) (reported : Answered) (block : List (List ℕ)) (nothing : Bool)
-    → (if nothing then record d { script = reported.state } else state_with_answer c d r reported block).script ≡ reported.state
-noted_by_if c d r reported block true = refl
-noted_by_if c d r reported block false = refl
+noted_by_if : (c : DebugSettings) (d : DebugState) (number : ℕ) (r : Request) (reported : Answered) (block : List (List ℕ)) (nothing : Bool)
+    → (if nothing then record d { script = reported.state } else state_with_answer c d number r reported block).script ≡ reported.state
+noted_by_if c d number r reported block true = refl
+noted_by_if c d number r reported block false = refl
 
-quit_by_if : (c : DebugSettings) (d : DebugState) (r : Request) (reported : Answered) (block : List (List ℕ)) (nothing : Bool)
-    → (if nothing then record d { script = reported.state } else state_with_answer c d r reported block).has_quit ≡ d.has_quit
-quit_by_if c d r reported block true = refl
-quit_by_if c d r reported block false = refl
+quit_by_if : (c : DebugSettings) (d : DebugState) (number : ℕ) (r : Request) (reported : Answered) (block : List (List ℕ)) (nothing : Bool)
+    → (if nothing then record d { script = reported.state } else state_with_answer c d number r reported block).has_quit ≡ d.has_quit
+quit_by_if c d number r reported block true = refl
+quit_by_if c d number r reported block false = refl
 
-modes_by_if : (c : DebugSettings) (d : DebugState) (r : Request) (reported : Answered) (block : List (List ℕ)) (nothing : Bool)
-    → (if nothing then record d { script = reported.state } else state_with_answer c d r reported block).modes ≡ d.modes
-modes_by_if c d r reported block true = refl
-modes_by_if c d r reported block false = refl
+modes_by_if : (c : DebugSettings) (d : DebugState) (number : ℕ) (r : Request) (reported : Answered) (block : List (List ℕ)) (nothing : Bool)
+    → (if nothing then record d { script = reported.state } else state_with_answer c d number r reported block).modes ≡ d.modes
+modes_by_if c d number r reported block true = refl
+modes_by_if c d number r reported block false = refl
 
 -- two scripts that differ in their budgets alone, if at all
 SameBut : ℕ → ScriptState → ScriptState → Type 0
@@ -85,12 +86,12 @@ answer_stepping c d s number r block form assembled same whole =
     let is : with_budget ≡ s = same ∙ with_own_budget s c.budget whole in
     let answers : reported ≡ request_answer s number r block = ap (λ (t : ScriptState). request_answer t number r block) is in
     record {
-      text = answer_text c d (state_after_line c d r reported block) number refused shown form ∙ behind ∙ ap (λ (a : Answered). a.text) answers;
+      text = answer_text c d (state_after_line c d number r reported block) number refused shown form ∙ behind ∙ ap (λ (a : Answered). a.text) answers;
       script = ap (λ (t : ScriptState). script_with_budget t c.budget)
-          (answer_script c d (state_after_line c d r reported block) number refused shown ∙ noted_by_if c d r reported block (asks_nothing r)
+          (answer_script c d (state_after_line c d number r reported block) number refused shown ∙ noted_by_if c d number r reported block (asks_nothing r)
           ∙ ap (λ (a : Answered). a.state) answers);
-      quit = answer_quit c d (state_after_line c d r reported block) number refused shown ∙ quit_by_if c d r reported block (asks_nothing r);
-      modes = answer_modes c d (state_after_line c d r reported block) number refused shown ∙ modes_by_if c d r reported block (asks_nothing r);
+      quit = answer_quit c d (state_after_line c d number r reported block) number refused shown ∙ quit_by_if c d number r reported block (asks_nothing r);
+      modes = answer_modes c d (state_after_line c d number r reported block) number refused shown ∙ modes_by_if c d number r reported block (asks_nothing r);
     }
 
 -- one that takes none
@@ -107,13 +108,13 @@ answer_still c d s number r block form assembled same none =
     let answers : reported ≡ other = ap (λ (t : ScriptState). request_answer t number r block) same in
     let unread : IsUnread s c.budget (request_answer s number r block) other = budget_unread s c.budget number r block none in
     record {
-      text = answer_text c d (state_after_line c d r reported block) number refused shown form ∙ behind
+      text = answer_text c d (state_after_line c d number r reported block) number refused shown form ∙ behind
           ∙ ap (λ (a : Answered). a.text) answers ∙ unread.text;
       script = ap (λ (t : ScriptState). script_with_budget t c.budget)
-          (answer_script c d (state_after_line c d r reported block) number refused shown ∙ noted_by_if c d r reported block (asks_nothing r)
+          (answer_script c d (state_after_line c d number r reported block) number refused shown ∙ noted_by_if c d number r reported block (asks_nothing r)
           ∙ ap (λ (a : Answered). a.state) answers ∙ unread.state);
-      quit = answer_quit c d (state_after_line c d r reported block) number refused shown ∙ quit_by_if c d r reported block (asks_nothing r);
-      modes = answer_modes c d (state_after_line c d r reported block) number refused shown ∙ modes_by_if c d r reported block (asks_nothing r);
+      quit = answer_quit c d (state_after_line c d number r reported block) number refused shown ∙ quit_by_if c d number r reported block (asks_nothing r);
+      modes = answer_modes c d (state_after_line c d number r reported block) number refused shown ∙ modes_by_if c d number r reported block (asks_nothing r);
     }
 
 -- the first line of some, and the others

@@ -2,12 +2,13 @@ pub use Rattle.debug_tables.proofs.RunMeterLemmas.SliceLemmas
 pub mod AloneLemmas
 pub mod AsBeforeLemmas
 pub mod FailLemmas
+pub mod HistoryLemmas
 pub mod JoinLemmas
 pub mod LineLemmas
 pub mod NamingLemmas
 pub mod OwnLemmas
+pub mod PastLineLemmas
 pub mod RefusalLemmas
 pub mod RepeatLemmas
 pub mod SteppingLemmas
-pub mod TakenLemmas
 pub mod UnreadLemmas

@@ -15,7 +15,11 @@ use Rattle.debug_modes.specs.expectations.Endings.{ending_of, output_of}
 use Rattle.debug_labels.specs.Labels.{ImageLabels}
 use Rattle.debug_modes.specs.declared.modes.DebugModes.{DebugModes}
 use Rattle.debug_session.specs.Naming.{labels_with_block}
-use Rattle.debug_session.specs.DebugScript.{machine_change_answer, checked_answer, labels_after, simple_request_answer, is_named_image, asks_nothing, is_refused_block, state_after_line, state_with_answer, script_line_answer_by, takes_steps, answer_or_refused, view_answer}
+use Rattle.debug_session.specs.DebugScript.{machine_change_answer, checked_answer, labels_after, past_after_line, simple_request_answer, state_after_line, state_with_answer, script_line_answer_by, answer_or_refused, view_answer}
+use Rattle.debug_history.specs.LineKinds.{asks_nothing, is_named_image, is_refused_block, takes_steps}
+use Rattle.debug_history.specs.Noted.{is_faulted, past_after_request}
+use Rattle.debug_history.specs.Past.{PastState}
+use Rattle.debug_history.specs.declared.act.PastDeed.{PastDeed}
 use Rattle.image_loader.specs.Entries.{Entry}
 use Rattle.debug_tables.specs.run_meter.Session.{script_state}
 use Rattle.debug_session.specs.DebugState.{DebugAnswered, DebugState, IsDebugged}
@@ -34,9 +38,9 @@ pub untested_status : (d : DebugState) (untested : Bool) (last : Option Stop) (s
 untested_status d untested last status is none same reported = rw (sym is ∙ none) (reported ∙ ap status_after same)
 
 -- another script, and no answer
-pub changed_script : (d : DebugState) (s t : ScriptState) (answer : List ℕ) → s ≡ t → answer ≡ []
-    → record d { script = s; answer = answer } ≡ record d { script = t; answer = [] }
-changed_script d s t answer same none = rw (same, none) refl
+pub changed_script : (d : DebugState) (s t : ScriptState) (p q : PastState) (answer : List ℕ) → s ≡ t → p ≡ q → answer ≡ []
+    → record d { script = s; answer = answer; past = p } ≡ record d { script = t; answer = []; past = q }
+changed_script d s t p q answer same kept none = rw (same, kept, none) refl
 
 -- an answer that was gathered in memory
 pub gathered : (held text bytes : List ℕ) (now s t : ScriptState) (number : ℕ) (r : Request) (block : List (List ℕ))
@@ -51,19 +55,19 @@ gathered held text bytes now s t number r block none same with_budget reported =
 -- the tally and the form alone count of the state before
 by_refusal : (c : DebugSettings) (d : DebugState) (number : ℕ) (r : Request) (reported : Answered) (block : List (List ℕ)) (shown : List ℕ)
     (refused : Bool)
-    → answer_or_refused c (state_with_answer c d r reported block) number refused (state_with_answer c d r reported block) shown
-    ≡ answer_or_refused c d number refused (state_with_answer c d r reported block) shown
+    → answer_or_refused c (state_with_answer c d number r reported block) number refused (state_with_answer c d number r reported block) shown
+    ≡ answer_or_refused c d number refused (state_with_answer c d number r reported block) shown
 by_refusal c d number r reported block shown true = refl
 by_refusal c d number r reported block shown false = refl
 
-noted_is : (c : DebugSettings) (d : DebugState) (r : Request) (reported : Answered) (block : List (List ℕ)) (nothing : Bool)
+noted_is : (c : DebugSettings) (d : DebugState) (number : ℕ) (r : Request) (reported : Answered) (block : List (List ℕ)) (nothing : Bool)
     → nothing ≡ asks_nothing r → nothing ≡ false
-    → state_with_answer c d r reported block ≡ state_after_line c d r reported block
-noted_is c d r reported block nothing asks some = rw (sym asks ∙ some) refl
+    → state_with_answer c d number r reported block ≡ state_after_line c d number r reported block
+noted_is c d number r reported block nothing asks some = rw (sym asks ∙ some) refl
 
 pub line_answer : (before after : Option (List ℕ)) (c : DebugSettings) (d at_print now : DebugState) (number : ℕ)
     (r : Request) (reported : Answered) (block : List (List ℕ)) (text shown : List ℕ) (refused nothing : Bool)
-    → at_print ≡ state_with_answer c d r reported block → text ≡ reported.text → shown ≡ text_with_errors refused number r block text
+    → at_print ≡ state_with_answer c d number r reported block → text ≡ reported.text → shown ≡ text_with_errors refused number r block text
     → nothing ≡ asks_nothing r → nothing ≡ false
     → refused ≡ is_refused_block d.script.images reported.state.images r
     → IsDebugged before after now (answer_or_refused c at_print number refused at_print shown)
@@ -71,13 +75,13 @@ pub line_answer : (before after : Option (List ℕ)) (c : DebugSettings) (d at_p
 line_answer before after c d at_print now number r reported block text shown refused nothing note same behind asks some is written =
     subst (λ (x : DebugAnswered). IsDebugged before after now x)
     (ap (λ (x : DebugState). answer_or_refused c x number refused x shown) note
-    ∙ ap (λ (xs : List ℕ). answer_or_refused c (state_with_answer c d r reported block) number refused (state_with_answer c d r reported block) xs)
+    ∙ ap (λ (xs : List ℕ). answer_or_refused c (state_with_answer c d number r reported block) number refused (state_with_answer c d number r reported block) xs)
     (behind ∙ ap (λ (xs : List ℕ). text_with_errors refused number r block xs) same)
     ∙ by_refusal c d number r reported block (text_with_errors refused number r block reported.text) refused
-    ∙ ap (λ (b : Bool). answer_or_refused c d number b (state_with_answer c d r reported block) (text_with_errors b number r block reported.text)) is
+    ∙ ap (λ (b : Bool). answer_or_refused c d number b (state_with_answer c d number r reported block) (text_with_errors b number r block reported.text)) is
     ∙ ap (λ (x : DebugState). answer_or_refused c d number (is_refused_block d.script.images reported.state.images r) x
     (text_with_errors (is_refused_block d.script.images reported.state.images r) number r block reported.text))
-    (noted_is c d r reported block nothing asks some))
+    (noted_is c d number r reported block nothing asks some))
     written
 
 -- the same by other names of the setting and the line
@@ -90,8 +94,8 @@ answer_with before after now at_print c e line number refused text setting at re
     (subst (λ (n : ℕ). IsDebugged before after now (answer_or_refused c at_print n refused at_print text)) at reported)
 
 -- a state by its parts
-made : ScriptState → List ImageLabels → DebugModes → List ℕ → List ℕ → ℕ → CheckTally → Bool → DebugState
-made script labels modes answer output steps tally quit = record {
+made : ScriptState → List ImageLabels → DebugModes → List ℕ → List ℕ → ℕ → CheckTally → Bool → PastState → DebugState
+made script labels modes answer output steps tally quit past = record {
   script = script;
   labels = labels;
   modes = modes;
@@ -100,18 +104,19 @@ made script labels modes answer output steps tally quit = record {
   steps = steps;
   tally = tally;
   has_quit = quit;
+  past = past;
 }
 
-made_same : (s s' : ScriptState) (l l' : List ImageLabels) (m m' : DebugModes) (a a' o o' : List ℕ) (n n' : ℕ) (t t' : CheckTally) (q q' : Bool)
-    → s ≡ s' → l ≡ l' → m ≡ m' → a ≡ a' → o ≡ o' → n ≡ n' → t ≡ t' → q ≡ q'
-    → made s l m a o n t q ≡ made s' l' m' a' o' n' t' q'
-made_same s s' l l' m m' a a' o o' n n' t t' q q' script labels modes answer output steps tally quit = cc
+made_same : (s s' : ScriptState) (l l' : List ImageLabels) (m m' : DebugModes) (a a' o o' : List ℕ) (n n' : ℕ) (t t' : CheckTally) (q q' : Bool) (p p' : PastState)
+    → s ≡ s' → l ≡ l' → m ≡ m' → a ≡ a' → o ≡ o' → n ≡ n' → t ≡ t' → q ≡ q' → p ≡ p'
+    → made s l m a o n t q p ≡ made s' l' m' a' o' n' t' q' p'
+made_same s s' l l' m m' a a' o o' n n' t t' q q' p p' script labels modes answer output steps tally quit past = cc
 
 by_takes : {A : Type 0} (takes other : Bool) (x x' y y' : A) → takes ≡ other → x ≡ x' → y ≡ y'
     → (if takes then x else y) ≡ (if other then x' else y')
 by_takes takes other x x' y y' is first rest = rw (is, first, rest) refl
 
--- what is kept of an answer, but for the labels
+-- what is kept of an answer, but for the labels and the past
 pub noted_state : DebugSettings → DebugState → Request → Answered → DebugState
 noted_state c d r reported = record d {
   script = reported.state;
@@ -136,7 +141,7 @@ session_noted old mid new images after answer takes r reported first next kept p
     ∙ made_same (script_state mid.session after) reported.state mid.labels old.labels mid.modes old.modes new.answer.items
     (if takes_steps r then ending_of reported.text else reported.text) new.output.items
     (if takes_steps r then output_of reported.text else old.output.items) new.steps
-    (if takes_steps r then old.setting.budget - reported.state.left else old.steps) mid.tally old.tally mid.has_quit old.has_quit
+    (if takes_steps r then old.setting.budget - reported.state.left else old.steps) mid.tally old.tally mid.has_quit old.has_quit mid.past old.past
     state (ap (λ (s : DebugSession). s.labels) first) (ap (λ (s : DebugSession). s.modes) first)
     (kept ∙ by_takes takes (takes_steps r) (ending_of answer) (ending_of reported.text) answer reported.text is (ap ending_of text) text)
     (printed ∙ by_takes takes (takes_steps r) (output_of answer) (output_of reported.text) mid.output.items old.output.items is
@@ -146,7 +151,34 @@ session_noted old mid new images after answer takes r reported first next kept p
     (ap (λ (s : DebugSession). s.setting.budget - mid.session.left) first
     ∙ ap (λ (s : ScriptState). old.setting.budget - s.left) state)
     (ap (λ (s : DebugSession). s.steps) first))
-    (ap (λ (s : DebugSession). s.tally) first) (ap (λ (s : DebugSession). s.has_quit) first)
+    (ap (λ (s : DebugSession). s.tally) first) (ap (λ (s : DebugSession). s.has_quit) first) (ap (λ (s : DebugSession). s.past) first)
+
+-- and with the past
+pub kept_state : DebugSettings → DebugState → ℕ → Request → Answered → DebugState
+kept_state c d number r reported = record (noted_state c d r reported) { past = past_after_line c d number r reported }
+
+-- what a session keeps of its past
+pub session_kept : (noted new : DebugSession) (after : List Entry) (c : DebugSettings) (d : DebugState) (line number : ℕ) (r : Request)
+    (reported : Answered) (refused : Bool)
+    → new ≡ record noted { past = new.past } → debug_state noted after ≡ noted_state c d r reported → noted.setting ≡ c → line ≡ number
+    → refused ≡ is_refused_block d.script.images reported.state.images r
+    → new.past ≡ (if refused then noted.past else past_after_request noted.past line r (noted.setting.budget - noted.session.left)
+    (is_faulted (script_state noted.session after).machine.halt))
+    → debug_state new after ≡ kept_state c d number r reported
+unfolding noted_state kept_state
+session_kept noted new after c d line number r reported refused next state setting at refusal kept =
+    ap (λ (s : DebugSession). debug_state s after) next
+    ∙ ap (λ (x : DebugState). let with_past : DebugState = record x { past = new.past } in with_past) state
+    ∙ ap (λ (q : PastState). let with_past : DebugState = record (noted_state c d r reported) { past = q } in with_past)
+    (kept
+    ∙ ap (λ (x : DebugState). if refused then x.past else past_after_request x.past line r (noted.setting.budget - x.script.left)
+    (is_faulted x.script.machine.halt)) state
+    ∙ ap (λ (e : DebugSettings). if refused then d.past else past_after_request d.past line r (e.budget - reported.state.left)
+    (is_faulted reported.state.machine.halt)) setting
+    ∙ ap (λ (n : ℕ). if refused then d.past else past_after_request d.past n r (c.budget - reported.state.left)
+    (is_faulted reported.state.machine.halt)) at
+    ∙ ap (λ (b : Bool). if b then d.past else past_after_request d.past number r (c.budget - reported.state.left)
+    (is_faulted reported.state.machine.halt)) refusal)
 
 -- the labels that a session takes in
 pub labels_taken : (taken noted : List ImageLabels) (d : DebugState) (refused : Bool) (images : List Entry) (r : Request)
@@ -167,15 +199,15 @@ pub noted_labels : (old mid new : DebugSession) → mid ≡ record old { session
 noted_labels old mid new first next =
     ap (λ (s : DebugSession). s.labels) next ∙ ap (λ (s : DebugSession). s.labels) first
 
-pub session_labelled : (noted new : DebugSession) (after : List Entry) (c : DebugSettings) (d : DebugState) (r : Request)
+pub session_labelled : (noted new : DebugSession) (after : List Entry) (c : DebugSettings) (d : DebugState) (number : ℕ) (r : Request)
     (reported : Answered) (block : List (List ℕ))
-    → new ≡ record noted { labels = new.labels } → debug_state noted after ≡ noted_state c d r reported
-    → new.labels ≡ labels_after d r reported block → debug_state new after ≡ state_with_answer c d r reported block
-unfolding noted_state
-session_labelled noted new after c d r reported block next state labels =
+    → new ≡ record noted { labels = new.labels } → debug_state noted after ≡ kept_state c d number r reported
+    → new.labels ≡ labels_after d r reported block → debug_state new after ≡ state_with_answer c d number r reported block
+unfolding noted_state kept_state
+session_labelled noted new after c d number r reported block next state labels =
     ap (λ (s : DebugSession). debug_state s after) next
     ∙ ap (λ (x : DebugState). let with_labels : DebugState = record x { labels = new.labels } in with_labels) state
-    ∙ ap (λ (ls : List ImageLabels). let with_labels : DebugState = record (noted_state c d r reported) { labels = ls } in with_labels)
+    ∙ ap (λ (ls : List ImageLabels). let with_labels : DebugState = record (kept_state c d number r reported) { labels = ls } in with_labels)
     labels
 
 -- a session whose script alone is another
@@ -193,6 +225,33 @@ pub refused_as_answer : (refused there : Bool) (before after images : List Entry
 refused_as_answer refused there before after images r is was same = is
     ∙ ap (λ (b : Bool). opens_block r && (b || not (is_named_image after r))) was
     ∙ ap (λ (es : List Entry). opens_block r && (is_named_image before r || not (is_named_image es r))) same
+
+-- a line that opens no block has no labels, and is refused by no block
+pub lone_refused : (before after : List Entry) (r : Request) → opens_block r ≡ false → is_refused_block before after r ≡ false
+lone_refused before after r is = ap (λ (b : Bool). b && (is_named_image before r || not (is_named_image after r))) is
+
+pub lone_labels : (d : DebugState) (r : Request) (reported : Answered) (block : List (List ℕ)) → opens_block r ≡ false
+    → labels_after d r reported block ≡ d.labels
+lone_labels d Nothing reported block is = refl
+lone_labels d (Hex name) reported block is = absurd (cc)
+lone_labels d (Asm name origin) reported block is = absurd (cc)
+lone_labels d (Boot name) reported block is = refl
+lone_labels d Run reported block is = refl
+lone_labels d Regs reported block is = refl
+lone_labels d (Set register value) reported block is = refl
+lone_labels d (Poke address value) reported block is = refl
+lone_labels d (Call called) reported block is = refl
+lone_labels d (Load text) reported block is = refl
+lone_labels d (Step count) reported block is = refl
+lone_labels d (Break address) reported block is = refl
+lone_labels d (Unbreak address) reported block is = refl
+lone_labels d (Mem address count) reported block is = refl
+lone_labels d (Code address count) reported block is = refl
+lone_labels d (Heap address) reported block is = refl
+lone_labels d Areas reported block is = refl
+lone_labels d Modules reported block is = refl
+lone_labels d Flex reported block is = refl
+lone_labels d Unknown reported block is = refl
 
 empty_in : (form : ReportForm) → answer_in form [] ≡ []
 empty_in Answers = refl
@@ -259,15 +318,16 @@ checked_by result before after now d c line number words reason reported at is w
     (subst (λ (n : ℕ). OnOk result (IsDebugged before after now (checked_answer c d n words reason))) at written)
 
 -- a change that writes nothing
-pub changed_silently : (held : Option (List ℕ)) (now d : DebugState) (script : ScriptState)
-    → now ≡ (machine_change_answer d script).state → IsDebugged held held now (machine_change_answer d script)
-changed_silently held now d script is = record { text = Appends-nothing held; state = is }
+pub changed_silently : (held : Option (List ℕ)) (now d : DebugState) (number : ℕ) (deed : PastDeed) (script : ScriptState)
+    → now ≡ (machine_change_answer d number deed script).state → IsDebugged held held now (machine_change_answer d number deed script)
+changed_silently held now d number deed script is = record { text = Appends-nothing held; state = is }
 
 -- a session whose images and labels are others
-pub without_image : (d : DebugState) (images after : List Entry) (labels left : List ImageLabels) → after ≡ images → labels ≡ left
-    → record d { script = record d.script { images = after }; labels = labels }
-    ≡ record d { script = record d.script { images = images }; labels = left }
-without_image d images after labels left stay go = rw (stay, go) refl
+pub without_image : (d : DebugState) (images after : List Entry) (labels left : List ImageLabels) (p q : PastState)
+    → after ≡ images → labels ≡ left → p ≡ q
+    → record d { script = record d.script { images = after }; labels = labels; past = p }
+    ≡ record d { script = record d.script { images = images }; labels = left; past = q }
+without_image d images after labels left p q stay go kept = rw (stay, go, kept) refl
 
 -- a view of another state
 pub view_after : (before after : Option (List ℕ)) (now d e : DebugState) (c f : DebugSettings) (text shown : List ℕ)

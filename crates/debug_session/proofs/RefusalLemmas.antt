@@ -7,7 +7,8 @@ use Rattle.debug_modes.specs.declared.expectations.reports.reports.ReportForm.{R
 use Rattle.debug_modes.specs.expectations.reports.Reports.{report_of_refusal}
 use Rattle.debug_modes.specs.declared.expectations.reports.reports.ReportForm.TheVariants.{Answers}
 use Rattle.debug_session.specs.AsBefore.{BlockAnsweredAsBefore, LineRefusedAsBefore, RefusedAsBefore}
-use Rattle.debug_session.specs.DebugScript.{is_refused_block, state_after_line, answer_or_refused}
+use Rattle.debug_history.specs.LineKinds.{is_refused_block}
+use Rattle.debug_session.specs.DebugScript.{state_after_line, answer_or_refused}
 use Rattle.debug_session.specs.DebugState.{DebugState}
 use Rattle.debug_session.specs.Naming.{naming_of}
 use Rattle.debug_modes.specs.OwnAnswers.{reasoned_text}
@@ -39,7 +40,7 @@ answer_by c d after number r block text false form = record { more = []; debuggi
 
 block_answered : BlockAnsweredAsBefore
 block_answered c d number r reported block form =
-    answer_by c d (state_after_line c d r reported block) number r block reported.text
+    answer_by c d (state_after_line c d number r reported block) number r block reported.text
     (is_refused_block d.script.images reported.state.images r) form
 
 pub refused_as_before : RefusedAsBefore

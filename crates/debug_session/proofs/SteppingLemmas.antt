@@ -9,6 +9,7 @@ use Rattle.profile.specs.declared.fault.Fault.{Fault}
 use Rattle.debug_tables.specs.run_meter.Answers.{refused_text}
 use Rattle.debug_tables.specs.run_meter.State.{ScriptState}
 use Rattle.command_shell_lines.specs.Requests.{Request, Nothing, Hex, Asm, Boot, Run, Regs, Set, Poke, Call, Load, Step, Break, Unbreak, Mem, Code, Heap, Areas, Modules, Flex, Unknown, opens_block}
+use Rattle.debug_history.specs.Past.{PastState, unknown_past}
 use Rattle.debug_lines.specs.SteppingRequests.{SteppingRequest, stepping_in}
 use Rattle.debug_modes.specs.declared.modes.DebugModes.{DebugModes}
 use Rattle.debug_modes.specs.OwnAnswers.{put_text}
@@ -65,23 +66,24 @@ written_both a b c form xs ys first next =
 
 -- what steps left, shown from the state and in the modes after them
 pub answer_of_steps : (before after : Option (List ℕ)) (c : DebugSettings) (d now : DebugState) (mid : ScriptState) (modes kept : DebugModes)
+    (p q : PastState)
     (s : ScriptState) (text text' printed printed' ending ending' : List ℕ)
-    → modes ≡ kept → mid ≡ s → text ≡ text' → printed ≡ printed' → ending ≡ ending'
+    → modes ≡ kept → p ≡ q → mid ≡ s → text ≡ text' → printed ≡ printed' → ending ≡ ending'
     → IsDebugged before after now
-    (stepping_answer_by c (record d { script = mid; modes = modes }) mid text printed ending)
-    → IsDebugged before after now (stepping_answer_by c (record d { modes = kept }) s text' printed' ending')
-answer_of_steps before after c d now mid modes kept s text text' printed printed' ending ending' same is reported prints ends written =
-    subst (λ (x : DebugAnswered). IsDebugged before after now x) (rw (same, is, reported, prints, ends) refl) written
+    (stepping_answer_by c (record d { script = mid; modes = modes; past = p }) mid text printed ending)
+    → IsDebugged before after now (stepping_answer_by c (record d { modes = kept; past = q }) s text' printed' ending')
+answer_of_steps before after c d now mid modes kept p q s text text' printed printed' ending ending' same past is reported prints ends written =
+    subst (λ (x : DebugAnswered). IsDebugged before after now x) (rw (same, past, is, reported, prints, ends) refl) written
 
 -- the bytes of an image written, or refused
 pub put_ok : (before after : Option (List ℕ)) (c : DebugSettings) (d now : DebugState) (name : List ℕ) (address : ℕ)
-    (old new : ScriptState) (o : Result ScriptState Fault) (u : Unit {0}) (text : List ℕ) → Leaves {U = Unit {0}} old o (Ok u) new
-    → text ≡ put_text name address
-    → IsDebugged before after now (view_answer c (record d { script = new }) text)
+    (old new : ScriptState) (p : PastState) (o : Result ScriptState Fault) (u : Unit {0}) (text : List ℕ)
+    → Leaves {U = Unit {0}} old o (Ok u) new → text ≡ put_text name address → p ≡ unknown_past
+    → IsDebugged before after now (view_answer c (record d { script = new; past = p }) text)
     → IsDebugged before after now (put_done c d name address o)
-put_ok before after c d now name address old new (Ok s) u text leaves same reported =
-    subst (λ (x : DebugAnswered). IsDebugged before after now x) (rw (leaves, same) refl) reported
-put_ok before after c d now name address old new (Err fault) u text leaves same reported = absurd leaves
+put_ok before after c d now name address old new p (Ok s) u text leaves same lost reported =
+    subst (λ (x : DebugAnswered). IsDebugged before after now x) (rw (leaves, same, lost) refl) reported
+put_ok before after c d now name address old new p (Err fault) u text leaves same lost reported = absurd leaves
 
 pub put_refused : (before after : Option (List ℕ)) (c : DebugSettings) (d now : DebugState) (name : List ℕ) (address : ℕ)
     (new : ScriptState) (o : Result ScriptState Fault) (fault : Fault) (text : List ℕ)
@@ -93,13 +95,13 @@ put_refused before after c d now name address new (Err f) fault text leaves same
     subst (λ (x : DebugAnswered). IsDebugged before after now x) (rw (leaves.1, same, leaves.0) refl) reported
 
 -- bytes that a line names, written or refused
-pub write_ok : (before after : Option (List ℕ)) (c : DebugSettings) (d now : DebugState) (old new : ScriptState)
+pub write_ok : (before after : Option (List ℕ)) (c : DebugSettings) (d now : DebugState) (old new : ScriptState) (p : PastState)
     (o : Result ScriptState Fault) (u : Unit {0}) (text : List ℕ) → Leaves {U = Unit {0}} old o (Ok u) new
-    → text ≡ [] → IsDebugged before after now (view_answer c (record d { script = new }) text)
+    → text ≡ [] → p ≡ unknown_past → IsDebugged before after now (view_answer c (record d { script = new; past = p }) text)
     → IsDebugged before after now (write_done c d o)
-write_ok before after c d now old new (Ok s) u text leaves none reported =
-    subst (λ (x : DebugAnswered). IsDebugged before after now x) (rw (leaves, none) refl) reported
-write_ok before after c d now old new (Err fault) u text leaves none reported = absurd leaves
+write_ok before after c d now old new p (Ok s) u text leaves none lost reported =
+    subst (λ (x : DebugAnswered). IsDebugged before after now x) (rw (leaves, none, lost) refl) reported
+write_ok before after c d now old new p (Err fault) u text leaves none lost reported = absurd leaves
 
 pub write_refused : (before after : Option (List ℕ)) (c : DebugSettings) (d now : DebugState) (new : ScriptState)
     (o : Result ScriptState Fault) (fault : Fault) (text : List ℕ)

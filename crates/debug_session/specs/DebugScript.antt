@@ -14,7 +14,7 @@ use Rattle.debug_tables.specs.run_meter.Memory.{script_at, script_started_anew, 
 use Rattle.debug_tables.specs.run_meter.Script.{request_answer}
 use Rattle.debug_tables.specs.run_meter.State.{Answered, ScriptState}
 use Rattle.command_shell_lines.specs.Blocks.{block_lines, lines_after, lines_taken}
-use Rattle.command_shell_lines.specs.Requests.{Request, Nothing, Hex, Asm, Run, Call, Load, Step, opens_block, request_of}
+use Rattle.command_shell_lines.specs.Requests.{Request, request_of}
 use Rattle.debug_modes.specs.expectations.Checks.{Seen, check_answer, status_after_pattern}
 use Rattle.debug_modes.specs.expectations.Halted.{halted_at_text, halting_fault}
 use Rattle.debug_modes.specs.expectations.Endings.{ending_of, output_of}
@@ -25,8 +25,14 @@ use Rattle.debug_lines.specs.SteppingRequests.{SteppingRequest, stepping_in}
 use Rattle.debug_modes.specs.Changes.{ModeAnswer, mode_answer}
 use Rattle.debug_modes.specs.Counting.{counts_text}
 use Rattle.debug_modes.specs.Modes.{takes_over}
-use Rattle.debug_modes.specs.Stepping.{modes_after, stepping_in_modes}
+use Rattle.debug_session.specs.Stepping.{modes_after, stepping_in_modes}
 use Rattle.debug_lines.specs.Tidy.{tidied_line}
+use Rattle.debug_history.specs.Answers.{PastAnswered, past_line_answered}
+use Rattle.debug_history.specs.LineKinds.{asks_nothing, is_refused_block, takes_steps}
+use Rattle.debug_history.specs.Noted.{is_faulted, past_after_request, past_after_stepping, past_with_deed}
+use Rattle.debug_history.specs.Past.{PastState, past_from_start, past_with_images, unknown_past}
+use Rattle.debug_history.specs.declared.act.PastDeed.{PastDeed}
+use Rattle.debug_history.specs.declared.act.PastDeed.TheVariants.{Place, Status}
 use Rattle.debug_labels.specs.Labels.{ImageLabels, without_labels}
 use Rattle.debug_labels.specs.Views.{labels_text}
 use Rattle.debug_labels.specs.place_views.Frames.{frames_text}
@@ -42,31 +48,11 @@ use Rattle.debug_modes.specs.OwnAnswers.{forget_text, put_text, reasoned_text}
 use Rattle.debug_labels.specs.Reasons.{refusal_reason}
 use Rattle.debug_modes.specs.declared.help.TheConstants.{HELP}
 use Rattle.debug_session.specs.declared.session.DebugSettings.{DebugSettings}
+use Rattle.debug_tables.specs.Modes.{are_plain}
+use Rattle.debug_lines.specs.declared.status.StatusPattern.{StatusPattern}
 use Rattle.debug_modes.specs.expectations.reports.Reports.{answer_in, fail_text, pass_text, report_of_refusal, summary_text, with_fail, with_pass, with_refusal}
 
 -- LINES OF A SCRIPT
-
-abbrev pub takes_steps : Request → Bool
-takes_steps Run = true
-takes_steps (Step count) = true
-takes_steps (Call number) = true
-takes_steps (Load text) = true
-takes_steps request = false
-
--- whether the image of a line that opens a block is among these
-abbrev pub is_named_image : List Entry → Request → Bool
-is_named_image images (Hex name) = is_some (bytes_of_image images name)
-is_named_image images (Asm name origin) = is_some (bytes_of_image images name)
-is_named_image images request = false
-
--- A block is refused where its image was there before, or isn't there after it.
-abbrev pub is_refused_block : List Entry → List Entry → Request → Bool
-is_refused_block before after request =
-    opens_block request && (is_named_image before request || not (is_named_image after request))
-
-abbrev pub asks_nothing : Request → Bool
-asks_nothing Nothing = true
-asks_nothing request = false
 
 -- the labels after a line of a script: with those of the image that it has made
 abbrev pub labels_after : DebugState → Request → Answered → List (List ℕ) → List ImageLabels
@@ -74,23 +60,33 @@ labels_after d request reported block =
     if is_refused_block d.script.images reported.state.images request then d.labels
     else labels_with_block d.labels reported.state.images request block
 
+-- what is kept of what a line did: nothing of a block that is refused
+abbrev pub past_after_line : DebugSettings → DebugState → ℕ → Request → Answered → PastState
+past_after_line c d number request reported =
+    if is_refused_block d.script.images reported.state.images request then d.past
+    else past_after_request d.past number request (c.budget - reported.state.left)
+    (is_faulted reported.state.machine.halt)
+
 -- What is kept of an answer: of one to a line that takes steps, apart, what the guest printed and how
 -- the steps ended.
-abbrev pub state_with_answer : DebugSettings → DebugState → Request → Answered → List (List ℕ) → DebugState
-state_with_answer c d request reported block = record d {
+abbrev pub state_with_answer : DebugSettings → DebugState → ℕ → Request → Answered → List (List ℕ)
+    → DebugState
+state_with_answer c d number request reported block = record d {
   script = reported.state;
   labels = labels_after d request reported block;
   answer = if takes_steps request then ending_of reported.text else reported.text;
   output = if takes_steps request then output_of reported.text else d.output;
   steps = if takes_steps request then c.budget - reported.state.left else d.steps;
+  past = past_after_line c d number request reported;
 }
 
 -- The state after the answer to a line of a script. After an empty line the last answer is the one
 -- before it.
-abbrev pub state_after_line : DebugSettings → DebugState → Request → Answered → List (List ℕ) → DebugState
-state_after_line c d request reported block = if asks_nothing request then record d
+abbrev pub state_after_line : DebugSettings → DebugState → ℕ → Request → Answered → List (List ℕ)
+    → DebugState
+state_after_line c d number request reported block = if asks_nothing request then record d
     { script = reported.state }
-    else state_with_answer c d request reported block
+    else state_with_answer c d number request reported block
 
 abbrev pub answer_or_refused : DebugSettings → DebugState → ℕ → Bool → DebugState → List ℕ → DebugAnswered
 answer_or_refused c d number true after text = debug_answer (record after { tally = with_refusal d.tally })
@@ -102,7 +98,7 @@ abbrev pub script_line_answer_by : DebugSettings → DebugState → ℕ → Requ
     → DebugAnswered
 script_line_answer_by c d number request reported block =
     answer_or_refused c d number (is_refused_block d.script.images reported.state.images request)
-    (state_after_line c d request reported block)
+    (state_after_line c d number request reported block)
     (text_with_errors (is_refused_block d.script.images reported.state.images request) number request block
     reported.text)
 
@@ -128,11 +124,15 @@ stepping_answer_by c d now text printed ending = debug_answer
     (answer_in c.form (text ++ ending))
 
 -- It may take the whole budget, too.
-abbrev pub stepping_line_answer : DebugSettings → DebugState → Bool → SteppingRequest → DebugAnswered
-stepping_line_answer c d is_traced request =
+abbrev pub stepping_line_answer : DebugSettings → DebugState → ℕ → Bool → SteppingRequest → DebugAnswered
+stepping_line_answer c d number is_traced request =
     let s = script_with_budget d.script c.budget in
     let reported = stepping_in_modes d.modes d.labels is_traced s request in
-    let after = record d { modes = modes_after d.modes s request } in
+    let after = record d {
+      modes = modes_after d.modes s request;
+      past = past_after_stepping d.past number (are_plain d.modes.steps) request (c.budget - reported.now.left)
+          (is_faulted reported.now.machine.halt);
+    } in
     stepping_answer_by c after reported.now reported.text reported.printed reported.ending
 
 -- what a line of a script asks for, where modes are set in which its steps are answered otherwise
@@ -141,7 +141,7 @@ stepping_now d request = if takes_over d.modes then stepping_in request else Non
 
 abbrev pub script_line_answer_in : Option SteppingRequest → DebugSettings → DebugState → ℕ → Request
     → List (List ℕ) → DebugAnswered
-script_line_answer_in (Some stepping) c d number request block = stepping_line_answer c d false stepping
+script_line_answer_in (Some stepping) c d number request block = stepping_line_answer c d number false stepping
 script_line_answer_in None c d number request block = plain_line_answer c d number request block
 
 abbrev pub script_line_answer : DebugSettings → DebugState → ℕ → Request → List (List ℕ) → DebugAnswered
@@ -169,21 +169,34 @@ view_text labels s (Form form) = form ++ codes "\n"
 abbrev pub view_answer : DebugSettings → DebugState → List ℕ → DebugAnswered
 view_answer c d text = debug_answer (record d { answer = text }) (answer_in c.form text)
 
--- a change of the machine, which is answered nothing
-abbrev pub machine_change_answer : DebugState → ScriptState → DebugAnswered
-machine_change_answer d script = debug_answer (record d { script = script; answer = [] }) []
+-- a change of the machine by a line, which is answered nothing
+abbrev pub machine_change_answer : DebugState → ℕ → PastDeed → ScriptState → DebugAnswered
+machine_change_answer d number deed script =
+    debug_answer (record d { script = script; answer = []; past = past_with_deed d.past number deed }) []
 
 -- SET PC: a machine that a fault has halted stays where the fault was, which is shown.
-abbrev pub set_pc_by : Option Fault → DebugSettings → DebugState → ℕ → DebugAnswered
-set_pc_by (Some fault) c d address = view_answer c d (halted_at_text fault d.script.machine.cpu.pc)
-set_pc_by None c d address = machine_change_answer d (script_at d.script address)
+abbrev pub set_pc_by : Option Fault → DebugSettings → DebugState → ℕ → ℕ → DebugAnswered
+set_pc_by (Some fault) c d number address =
+    view_answer c d (halted_at_text fault d.script.machine.cpu.pc)
+set_pc_by None c d number address =
+    machine_change_answer d number (Place address) (script_at d.script address)
 
-abbrev pub set_pc_answer : DebugSettings → DebugState → ℕ → DebugAnswered
-set_pc_answer c d address =
-    set_pc_by (halting_fault (option_map stop_of d.script.machine.halt)) c d address
+abbrev pub set_pc_answer : DebugSettings → DebugState → ℕ → ℕ → DebugAnswered
+set_pc_answer c d number address =
+    set_pc_by (halting_fault (option_map stop_of d.script.machine.halt)) c d number address
+
+-- SET PSR
+abbrev pub set_psr_answer : DebugState → ℕ → StatusPattern → DebugAnswered
+set_psr_answer d number pattern =
+    let status = status_after_pattern pattern d.script.machine.cpu.psr in
+    machine_change_answer d number (Status status) (script_with_status d.script status)
 
 abbrev pub reset_answer : DebugSettings → DebugState → DebugAnswered
-reset_answer c d = view_answer c (record d { script = script_started_anew d.script c.config c.budget })
+reset_answer c d = view_answer c
+    (record d {
+      script = script_started_anew d.script c.config c.budget;
+      past = past_from_start c.keeps_past;
+    })
     (codes "reset\n")
 
 -- FORGET: the image of that name goes, if there is one, and its labels.
@@ -192,6 +205,7 @@ forget_answer c d name = view_answer c
     (record d {
       script = record d.script { images = without_entry d.script.images name };
       labels = without_labels d.labels name;
+      past = past_with_images (is_some (bytes_of_image d.script.images name)) d.past;
     })
     (forget_text (is_some (bytes_of_image d.script.images name)) name)
 
@@ -201,7 +215,8 @@ counts_answer c d name =
     view_answer c d (counts_text d.modes.counts (naming_of d).names d.script.machine.store.bytes name)
 
 abbrev pub put_done : DebugSettings → DebugState → List ℕ → ℕ → Result ScriptState Fault → DebugAnswered
-put_done c d name address (Ok script) = view_answer c (record d { script = script }) (put_text name address)
+put_done c d name address (Ok script) =
+    view_answer c (record d { script = script; past = unknown_past }) (put_text name address)
 put_done c d name address (Err fault) = view_answer c d (refused_text (fault_name fault))
 
 -- PUT: the bytes of the image of that name are written, whole or not at all.
@@ -214,7 +229,7 @@ put_answer c d name address = put_found c d name address (bytes_of_image d.scrip
 
 -- POKE and FILL of bytes: whole, with no answer, or not at all.
 abbrev pub write_done : DebugSettings → DebugState → Result ScriptState Fault → DebugAnswered
-write_done c d (Ok script) = view_answer c (record d { script = script }) []
+write_done c d (Ok script) = view_answer c (record d { script = script; past = unknown_past }) []
 write_done c d (Err fault) = view_answer c d (refused_text (fault_name fault))
 
 abbrev pub write_answer : DebugSettings → DebugState → ℕ → Option ℕ → List ℕ → DebugAnswered
@@ -250,20 +265,29 @@ unknown_answer c d number line = debug_answer
     (record d { answer = unknown_text number; tally = with_refusal d.tally })
     (report_of_refusal c.form d.tally number (reasoned_text number (refusal_reason (naming_of d) line)))
 
+-- A line that goes back or looks into the past is a view of what it leaves; any other means nothing.
+abbrev pub past_line_by : DebugSettings → DebugState → ℕ → List ℕ → Option PastAnswered → DebugAnswered
+past_line_by c d number line (Some a) =
+    view_answer c (record d { script = a.script; past = a.past }) a.text
+past_line_by c d number line None = unknown_answer c d number line
+
+abbrev pub past_line_answer : DebugSettings → DebugState → ℕ → List ℕ → DebugAnswered
+past_line_answer c d number line = past_line_by c d number line
+    (past_line_answered d.labels c.config c.budget d.script d.past line)
+
 -- A line at that number that is no REPEAT: its words, made tidy, what it asks for, and the lines of
 -- its block.
 abbrev pub simple_request_answer : DebugSettings → DebugState → ℕ → List ℕ → DebugRequest → List (List ℕ)
     → DebugAnswered
 simple_request_answer c d number words (Script request) block = script_line_answer c d number request block
 simple_request_answer c d number words (Stepping is_traced request) block =
-    stepping_line_answer c d is_traced request
+    stepping_line_answer c d number is_traced request
 simple_request_answer c d number words (Mode request) block = mode_line_answer c d request
 simple_request_answer c d number words Remark block = debug_answer d []
 simple_request_answer c d number words (View shown) block = view_answer c d
     (view_text d.labels d.script.machine shown)
-simple_request_answer c d number words (SetPc address) block = set_pc_answer c d address
-simple_request_answer c d number words (SetPsr pattern) block = machine_change_answer d
-    (script_with_status d.script (status_after_pattern pattern d.script.machine.cpu.psr))
+simple_request_answer c d number words (SetPc address) block = set_pc_answer c d number address
+simple_request_answer c d number words (SetPsr pattern) block = set_psr_answer d number pattern
 simple_request_answer c d number words (Put name address) block = put_answer c d name address
 simple_request_answer c d number words (Write address count named) block = write_answer c d address count
     named
@@ -274,7 +298,7 @@ simple_request_answer c d number words Quit block = debug_answer (record d { has
 simple_request_answer c d number words (Expect expected) block =
     checked_answer c d number words (check_answer (seen_of d) expected)
 simple_request_answer c d number words (Repeat count line) block = unknown_answer c d number words
-simple_request_answer c d number words NotKnown block = unknown_answer c d number words
+simple_request_answer c d number words NotKnown block = past_line_answer c d number words
 
 -- nothing is answered after QUIT
 abbrev pub unless_quit : DebugState → DebugAnswered → DebugAnswered

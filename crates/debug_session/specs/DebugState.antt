@@ -5,6 +5,7 @@ use Rattle.image_loader.specs.Entries.{Entry}
 use Rattle.debug_tables.specs.run_meter.State.{ScriptState, script_start_state}
 use Rattle.debug_tables.specs.run_meter.RunError.{RunError}
 use Rattle.debug_tables.specs.run_meter.RunError.TheVariants.{Memory, ReadFault, WriteFault, ScriptTooLong}
+use Rattle.debug_history.specs.Past.{PastState, past_from_start}
 use Rattle.debug_labels.specs.Labels.{ImageLabels}
 use Rattle.debug_modes.specs.Modes.{no_modes}
 use Rattle.debug_modes.specs.declared.modes.DebugModes.{DebugModes}
@@ -13,9 +14,9 @@ use Rattle.debug_modes.specs.declared.expectations.reports.reports.CheckTally.{C
 use Rattle.debug_session.specs.declared.session.DebugSettings.{DebugSettings}
 
 -- What a debugging script works on: what a script does, the labels of the images that were assembled,
--- the modes in which lines that take steps are answered, the last answer of a line that is no EXPECT, without what the guest printed, what it printed in the
--- last line that takes steps, how many steps that took, the tally, and whether QUIT was among the
--- lines.
+-- the modes in which lines that take steps are answered, the last answer of a line that is no EXPECT,
+-- without what the guest printed, what it printed in the last line that takes steps, how many steps that
+-- took, the tally, whether QUIT was among the lines, and what was done to the machine.
 pub record DebugState : Type 0 where
   pub script : ScriptState
   pub labels : List ImageLabels
@@ -25,6 +26,7 @@ pub record DebugState : Type 0 where
   pub steps : ℕ
   pub tally : CheckTally
   pub has_quit : Bool
+  pub past : PastState
 
 pub record DebugAnswered : Type 0 where
   pub state : DebugState
@@ -58,6 +60,7 @@ debug_start_state setting images = record {
   steps = 0;
   tally = no_tally;
   has_quit = false;
+  past = past_from_start setting.keeps_past;
 }
 
 -- while what is typed is answered

@@ -15,4 +15,5 @@ debug_state s images = record {
   steps = s.steps;
   tally = s.tally;
   has_quit = s.has_quit;
+  past = s.past;
 }

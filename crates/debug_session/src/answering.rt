@@ -244,7 +244,7 @@ impl DebugSession {
         if meant.is_repeatable() {
             return self.known_line(images, sink, words, meant, script);
         }
-        self.refuse(sink, words, script.number())
+        self.past_line(images, sink, words, script.number())
     }
 
     // Answers a line by what it asks for; `words` are the line as it was typed, made tidy.
@@ -270,17 +270,14 @@ impl DebugSession {
         match command {
             DebugCommand::Script(command) => self.script_line(images, sink, &command, script),
             DebugCommand::Stepping(is_traced, command) => {
-                self.stepping_line(images, sink, is_traced, &command)
+                self.stepping_line(images, sink, script.number(), is_traced, &command)
             }
             DebugCommand::Mode(command) => self.mode_line(sink, &command),
             DebugCommand::Remark => Ok(()),
             DebugCommand::View(view) => self.look(sink, view),
             DebugCommand::Form(form) => self.show_form(sink, form),
-            DebugCommand::SetPc(address) => self.move_pc(sink, address),
-            DebugCommand::SetPsr(pattern) => {
-                self.set_psr(pattern);
-                Ok(())
-            }
+            DebugCommand::SetPc(address) => self.move_pc(sink, script.number(), address),
+            DebugCommand::SetPsr(pattern) => Ok(self.set_psr(script.number(), pattern)?),
             DebugCommand::Put(name, address) => self.put(images, sink, name, address),
             DebugCommand::Write(address, count, named) => self.write(sink, address, count, named),
             DebugCommand::Find(address, count, named) => self.find(sink, address, count, named),
@@ -295,7 +292,7 @@ impl DebugSession {
                 let reason = self.reason_against(&expected)?;
                 self.print_check(sink, reason, words, script.number())
             }
-            DebugCommand::Unknown => self.refuse(sink, words, script.number()),
+            DebugCommand::Unknown => self.past_line(images, sink, words, script.number()),
         }
     }
 }

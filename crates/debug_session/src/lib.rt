@@ -12,12 +12,13 @@ mod recording;
 mod refusing;
 mod script_lines;
 mod session;
+mod stepping;
 mod stepping_lines;
-mod typing;
 
-pub use debug_modes::expectations::reports::{CheckTally, ReportForm};
+pub use debug_history::{PastDeed, PastFound, Sought, is_faulted};
+pub use debug_modes::expectations::begins_ending;
+pub use debug_modes::expectations::reports::{CheckTally, ReportForm, push_missing_end};
 pub use debug_tables::Stub;
 pub use debug_tables::byte_writes::put_bytes;
 pub use debug_tables::run_meter::RunMeter;
 pub use session::{DebugSession, DebugSettings};
-pub use typing::{DebugTyping, TypedPiece};

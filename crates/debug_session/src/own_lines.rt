@@ -10,6 +10,7 @@ ghost use Rattle.profile.specs.Output.{Writes};
 use crate::session::DebugSession;
 use command_shell_lines::Origin;
 use command_shell_lines::debug_words::bytes_written;
+use debug_history::PastDeed;
 use debug_labels::place_views::{names_on, show_frames, show_stack, show_where};
 use debug_lines::{DebugView, Expectation, StatusPattern};
 use debug_modes::expectations::reports::{push_answer, push_fail, push_pass};
@@ -27,11 +28,13 @@ use std::alloc::AllocError;
 
 impl DebugSession {
     ghost use Rattle.image_loader.specs.Entries.{Entry};
-    ghost use Rattle.debug_tables.specs.run_meter.Memory.{script_at, script_started_anew, script_with_status};
-    ghost use Rattle.debug_modes.specs.expectations.Checks.{check_answer, status_after_pattern};
+    ghost use Rattle.debug_history.specs.Past.{past_from_start};
+    ghost use Rattle.debug_history.specs.declared.act.PastDeed.TheVariants.{Place};
+    ghost use Rattle.debug_tables.specs.run_meter.Memory.{script_at, script_started_anew};
+    ghost use Rattle.debug_modes.specs.expectations.Checks.{check_answer};
     ghost use Rattle.debug_lines.specs.Expectations.{expect_request_of};
     ghost use Rattle.debug_lines.specs.DebugRequests.{Find, Form, view_request_of};
-    ghost use Rattle.debug_session.specs.DebugScript.{checked_answer, forget_answer, machine_change_answer, put_answer, reset_answer, seen_of, set_pc_answer, view_text, view_answer, write_answer};
+    ghost use Rattle.debug_session.specs.DebugScript.{checked_answer, forget_answer, machine_change_answer, put_answer, reset_answer, seen_of, set_pc_answer, set_psr_answer, view_text, view_answer, write_answer};
     ghost use Rattle.debug_session.specs.DebugState.{IsDebugged};
     ghost use Rattle.debug_session.specs.Session.{debug_state};
     ghost use Rattle.debug_tables.specs.run_meter.MachineState.{stop_of};
@@ -116,6 +119,7 @@ impl DebugSession {
         let text = forget_text(self.alloc, is_there, name)?;
         let _was_there = images.remove(name);
         self.labels.remove(name);
+        self.past.change_images_if(is_there);
         Ok(self.view(sink, text)?)
     }
 
@@ -139,7 +143,10 @@ impl DebugSession {
         };
         let done = put_text(self.alloc, name, address)?;
         match put_bytes(&mut self.session, address, bytes) {
-            Ok(()) => Ok(self.view(sink, done)?),
+            Ok(()) => {
+                self.past.lose();
+                Ok(self.view(sink, done)?)
+            }
             Err(fault) => {
                 let text = refused_line(self.alloc, fault.name().as_bytes())?;
                 Ok(self.view(sink, text)?)
@@ -165,7 +172,10 @@ impl DebugSession {
         let bytes = bytes_written(self.alloc, count, named)?;
         let nothing = Vec::new(self.alloc);
         match put_bytes(&mut self.session, address, bytes.as_slice()) {
-            Ok(()) => Ok(self.view(sink, nothing)?),
+            Ok(()) => {
+                self.past.lose();
+                Ok(self.view(sink, nothing)?)
+            }
             Err(fault) => {
                 let text = refused_line(self.alloc, fault.name().as_bytes())?;
                 Ok(self.view(sink, text)?)
@@ -204,11 +214,14 @@ impl DebugSession {
             ≡ record (debug_state self.old images) {
               script = script_started_anew
                   (debug_state self.old images).script self.old.setting.config self.old.setting.budget;
+              past = past_from_start self.old.setting.keeps_past;
             }) }
         ensures setting { self.new.setting ≡ self.old.setting }
     {
         self.session
-            .start_anew(self.setting.config, self.setting.budget)
+            .start_anew(self.setting.config, self.setting.budget)?;
+        self.past.begin(self.setting.keeps_past);
+        Ok(())
     }
 
     /// Begins anew on a fresh machine; images, labels, breaks and modes stay.
@@ -239,29 +252,33 @@ impl DebugSession {
     }
 
     /// Sets the program counter.
-    pub(crate) fn set_pc(&mut self, address: Origin)
-        ensures reported { (images : List Entry) → debug_state self.new images
-            ≡ (machine_change_answer (debug_state self.old images)
-            (script_at (debug_state self.old images).script address)).state }
+    pub(crate) fn set_pc(&mut self, number: usize, address: Origin) -> Result<(), AllocError>
+        ensures reported { (images : List Entry) → OnOk result (debug_state self.new images
+            ≡ (machine_change_answer (debug_state self.old images) number (Place address)
+            (script_at (debug_state self.old images).script address)).state) }
         ensures setting { self.new.setting ≡ self.old.setting }
     {
+        self.past.put(number as u64, PastDeed::Place(address))?;
         self.session.set_pc(address.address());
         self.answer = Vec::new(self.alloc);
+        Ok(())
     }
 
     /// Sets the program counter; where a fault has halted the machine, it stays, and is shown.
-    pub(crate) fn move_pc<W: Sink>(&mut self, sink: &mut W, address: Origin) -> Result<(), RunError>
+    pub(crate) fn move_pc<W: Sink>(
+        &mut self,
+        sink: &mut W,
+        number: usize,
+        address: Origin,
+    ) -> Result<(), RunError>
         ensures reported { (images : List Entry) → OnOk result
             (IsDebugged (W.contents sink.old) (W.contents sink.new) (debug_state self.new images)
-            (set_pc_answer self.old.setting (debug_state self.old images) address)) }
+            (set_pc_answer self.old.setting (debug_state self.old images) number address)) }
         ensures setting { self.new.setting ≡ self.old.setting }
         ensures ends { EndsAtOnce W.has_failed sink.old sink.new result }
     {
         match self.halting_fault() {
-            None => {
-                self.set_pc(address);
-                Ok(())
-            }
+            None => Ok(self.set_pc(number, address)?),
             Some(fault) => {
                 let text = self.halted_text(fault)?;
                 Ok(self.view(sink, text)?)
@@ -290,16 +307,20 @@ impl DebugSession {
     }
 
     /// Sets what a pattern reports the status.
-    pub(crate) fn set_psr(&mut self, pattern: StatusPattern)
-        ensures reported { (images : List Entry) → debug_state self.new images
-            ≡ (machine_change_answer (debug_state self.old images)
-            (script_with_status (debug_state self.old images).script (status_after_pattern pattern
-            (debug_state self.old images).script.machine.cpu.psr))).state }
+    pub(crate) fn set_psr(
+        &mut self,
+        number: usize,
+        pattern: StatusPattern,
+    ) -> Result<(), AllocError>
+        ensures reported { (images : List Entry) → OnOk result (debug_state self.new images
+            ≡ (set_psr_answer (debug_state self.old images) number pattern).state) }
         ensures setting { self.new.setting ≡ self.old.setting }
     {
         let status = status_with(&pattern, self.session.machine().cpu().psr());
+        self.past.put(number as u64, PastDeed::Status(status))?;
         self.session.set_psr(status);
         self.answer = Vec::new(self.alloc);
+        Ok(())
     }
 
     /// Says whether what should be so is so; `reason` shows why it isn't, and `words` are the line,

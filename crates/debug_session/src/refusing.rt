@@ -1,32 +1,59 @@
-//! Lines that are none of the language: what a script answers, and why.
+//! Lines that go back or look into the past, and those that are none of the language: what a script
+//! answers, and why.
 
 ghost use Rattle.std.specs.Prelude.{◌≡◌, List, IfOk, OnOk};
 ghost use Rattle.debug_session.specs.Failing.{EndsAtOnce};
 
 use crate::session::DebugSession;
+use debug_history::PastSetting;
 use debug_labels::place_views::{line_on, names_on};
 use debug_modes::expectations::reports::push_refusal;
 use debug_modes::{refusal_line, unknown_line};
 use debug_tables::run_meter::RunError;
+use image_loader::Images;
 use profile::Sink;
 use profile::text_sink::TextSink;
 use std::alloc::AllocError;
 
 impl DebugSession {
     ghost use Rattle.image_loader.specs.Entries.{Entry};
-    ghost use Rattle.debug_session.specs.DebugScript.{unknown_answer};
+    ghost use Rattle.debug_session.specs.DebugScript.{past_line_answer, unknown_answer};
     ghost use Rattle.debug_session.specs.DebugState.{IsDebugged};
     ghost use Rattle.debug_session.specs.Naming.{naming_of};
     ghost use Rattle.debug_labels.specs.Reasons.{refusal_reason};
     ghost use Rattle.debug_session.specs.Session.{debug_state};
 
-    /// Says that a tidy line is none of the language, and why. Lines EXPECT find a script's answer.
-    pub(crate) fn refuse<W: Sink>(
+    /// Answers a tidy line that goes back or looks into the past, or says that it is none of the language.
+    pub(crate) fn past_line<W: Sink>(
         &mut self,
+        images: &mut Images,
         sink: &mut W,
         words: &[u8],
         number: usize,
     ) -> Result<(), RunError>
+        ensures reported { OnOk result (IsDebugged (W.contents sink.old) (W.contents sink.new)
+            (debug_state self.new images.new)
+            (past_line_answer self.old.setting (debug_state self.old images.old) number words.now)) }
+        ensures setting { self.new.setting ≡ self.old.setting }
+        ensures ends { EndsAtOnce W.has_failed sink.old sink.new result }
+    {
+        let setting = PastSetting {
+            alloc: self.alloc,
+            config: self.setting.config,
+            budget: self.setting.budget,
+        };
+        let labels = &self.labels;
+        match self
+            .past
+            .answer_line(setting, &mut self.session, images, labels, words)?
+        {
+            Some(text) => Ok(self.view(sink, text)?),
+            None => self.refuse(sink, words, number),
+        }
+    }
+
+    // Says that a tidy line is none of the language, and why. Lines EXPECT find a script's answer.
+    fn refuse<W: Sink>(&mut self, sink: &mut W, words: &[u8], number: usize) -> Result<(), RunError>
         ensures reported { (images : List Entry) → OnOk result
             (IsDebugged (W.contents sink.old) (W.contents sink.new) (debug_state self.new images)
             (unknown_answer self.old.setting (debug_state self.old images) number words.now)) }

@@ -1,19 +1,21 @@
 //! Lines of a script within a debugging script: each may take the whole budget, and what it is
 //! answered is kept for the lines that expect something of it.
 
-ghost use Rattle.std.specs.Prelude.{◌≡◌, ◌+◌, ◌-◌, ◌&&◌, ◌||◌, not, false, true, List, Some, [], IfOk, IfErr, OnOk, OnErr, if◌then◌else◌};
+ghost use Rattle.std.specs.Prelude.{◌≡◌, ◌+◌, ◌-◌, false, true, List, Some, [], IfOk, IfErr, OnOk, OnErr, if◌then◌else◌};
 ghost use Rattle.debug_session.specs.Failing.{EndsAtOnce};
 ghost use Rattle.debug_tables.specs.run_meter.Script.{request_answer};
 ghost use Rattle.command_shell_lines.specs.Blocks.{block_lines, lines_after, lines_taken};
 ghost use Rattle.debug_modes.specs.expectations.Endings.{ending_of, output_of};
 ghost use Rattle.command_shell_lines.specs.Requests.{opens_block, request_of_command};
 ghost use Rattle.assembler.specs.Passes.{labels_of_lines};
-ghost use Rattle.debug_session.specs.DebugScript.{is_named_image, asks_nothing, takes_steps};
+ghost use Rattle.debug_history.specs.LineKinds.{takes_steps};
+ghost use Rattle.debug_history.specs.Noted.{is_faulted, past_after_request};
 ghost use Rattle.debug_session.specs.Naming.{labels_with_block, labels_with_image};
 
 use crate::session::DebugSession;
 use assembler::labels_of_lines;
 use command_shell_lines::{Origin, ScriptCommand, skip_block};
+use debug_history::{asks_nothing, is_faulted, is_named_image, is_refused_block, takes_steps};
 use debug_modes::expectations::reports::{push_answer, push_refusal};
 use debug_modes::expectations::{answer_parts, push_line_answer};
 use debug_tables::run_meter::{RunError, answer_metered};
@@ -80,12 +82,16 @@ impl DebugSession {
         ensures setting { self.new.setting ≡ self.old.setting }
         ensures ends { EndsAtOnce W.has_failed sink.old sink.new result }
     {
+        let number = script.number();
         let answer = self.answer_to(images, command, script)?;
-        if !asks_nothing(command) {
-            let text = answer.as_slice();
-            self.note(takes_steps(command), text)?;
-            push_line_answer(sink, self.setting.form, takes_steps(command), text)?;
+        if asks_nothing(command) {
+            self.scratch = answer;
+            return Ok(());
         }
+        let text = answer.as_slice();
+        self.note(takes_steps(command), text)?;
+        self.note_past(number, command, false)?;
+        push_line_answer(sink, self.setting.form, takes_steps(command), text)?;
         self.scratch = answer;
         Ok(())
     }
@@ -122,6 +128,7 @@ impl DebugSession {
         let text = answer.as_slice();
         self.note(takes_steps(command), text)?;
         let is_refused = is_refused_block(was_there, images, command);
+        self.note_past(named.number(), command, is_refused)?;
         self.take_labels(images, command, named, is_refused)?;
         let explained = with_errors(self.alloc, is_refused, command, named, text)?;
         let shown = explained.as_slice();
@@ -193,6 +200,29 @@ impl DebugSession {
         refill(&mut self.answer, ending)?;
         self.steps = self.steps_taken();
         Ok(())
+    }
+
+    // Keeps what a line did to the machine, if it isn't a block that is refused.
+    fn note_past(
+        &mut self,
+        number: usize,
+        command: &ScriptCommand<'_>,
+        is_refused: bool,
+    ) -> Result<(), AllocError>
+        ensures past { (images : List Entry) → OnOk result (self.new.past ≡ (if is_refused
+            then self.old.past else past_after_request self.old.past number
+            (request_of_command command.now) (self.old.setting.budget - self.old.session.left)
+            (is_faulted (script_state self.old.session images).machine.halt))) }
+        ensures rest { OnOk result (self.new ≡ record self.old { past = self.new.past }) }
+        ensures setting { self.new.setting ≡ self.old.setting }
+    {
+        if is_refused {
+            return Ok(());
+        }
+        let has_faulted = is_faulted(&self.session);
+        let taken = self.steps_taken();
+        self.past
+            .note(self.alloc, number as u64, command, taken, has_faulted)
     }
 
     // Takes in the labels of the image that a line has made of a block, if it has.
@@ -285,41 +315,4 @@ fn refill(kept: &mut Vec<u8>, bytes: &[u8]) -> Result<(), AllocError>
         return Ok(());
     }
     kept.extend_from_slice(bytes)
-}
-
-// Whether a line asks for nothing.
-fn asks_nothing(command: &ScriptCommand) -> bool
-    ensures { result ≡ asks_nothing (request_of_command command.now) }
-{
-    matches!(command, ScriptCommand::Nothing)
-}
-
-fn takes_steps(command: &ScriptCommand) -> bool
-    ensures { result ≡ takes_steps (request_of_command command.now) }
-{
-    matches!(
-        command,
-        ScriptCommand::Run
-            | ScriptCommand::Step(_)
-            | ScriptCommand::Call(_)
-            | ScriptCommand::Load(_)
-    )
-}
-
-// Whether a line opens a block that is refused, by whether its image was there before.
-fn is_refused_block(was_there: bool, images: &Images, command: &ScriptCommand) -> bool
-    ensures { result ≡ (opens_block (request_of_command command.now)
-        && (was_there || not (is_named_image images.now (request_of_command command.now)))) }
-{
-    command.opens_block() && (was_there || !is_named_image(images, command))
-}
-
-// Whether the image of a line that opens a block is there.
-fn is_named_image(images: &Images, command: &ScriptCommand) -> bool
-    ensures { result ≡ is_named_image images.now (request_of_command command.now) }
-{
-    match *command {
-        ScriptCommand::Hex(name) | ScriptCommand::Asm(name, _) => images.get(name).is_some(),
-        _ => false,
-    }
 }

@@ -4,6 +4,7 @@ ghost use Rattle.std.specs.Prelude.{◌≡◌, ◌+◌, false, List, [], Err, If
 ghost use Rattle.debug_tables.specs.run_meter.Error.{IsLineError};
 ghost use Rattle.profile.specs.Output.{AddsFront, Writes};
 
+use debug_history::Past;
 use debug_labels::LabelTable;
 use debug_modes::DebugModes;
 use debug_modes::expectations::reports::{CheckTally, ReportForm, push_summary};
@@ -25,13 +26,16 @@ pub struct DebugSettings {
     pub form: ReportForm,
     /// What RUN and STEP say how far they are.
     pub meter: RunMeter,
+    /// Whether what is done to its machines is kept, for lines that go back.
+    pub keeps_past: bool,
 }
 
 /// What a debugging script works on beside the images.
 #[derive(Drop)]
 pub struct DebugSession {
     pub(crate) alloc: Global,
-    pub(crate) setting: DebugSettings,
+    /// What it is answered on.
+    pub setting: DebugSettings,
     /// The script's own session, which a face may move on by itself.
     pub session: Session,
     pub(crate) labels: LabelTable,
@@ -41,6 +45,8 @@ pub struct DebugSession {
     pub(crate) steps: u64,
     pub(crate) tally: CheckTally,
     pub(crate) has_quit: bool,
+    /// What was done to the machine: who moves it on by itself says here how.
+    pub past: Past,
     /// Memory for the answer to a line, used again for that to the next.
     pub(crate) scratch: Vec<u8>,
 }
@@ -76,6 +82,7 @@ impl DebugSession {
             steps: 0,
             tally: CheckTally::new(),
             has_quit: false,
+            past: Past::new(alloc, setting.keeps_past),
             scratch: Vec::new(alloc),
         })
     }

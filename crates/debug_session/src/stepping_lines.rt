@@ -1,22 +1,28 @@
 //! Lines that take steps in the modes that are set, and lines that change these.
 
-ghost use Rattle.std.specs.Prelude.{◌≡◌, ◌+◌, true, List, option_map, OnOk, OnErr};
+ghost use Rattle.std.specs.Prelude.{◌≡◌, ◌+◌, ◌-◌, true, List, option_map, OnOk, OnErr};
+ghost use Rattle.debug_history.specs.Noted.{is_faulted, past_after_stepping};
 ghost use Rattle.debug_session.specs.Failing.{EndsAtOnce};
+ghost use Rattle.debug_tables.specs.Modes.{are_plain};
 ghost use Rattle.command_shell_lines.specs.Blocks.{block_lines, lines_after, lines_taken};
 ghost use Rattle.command_shell_lines.specs.Requests.{opens_block, request_of_command};
 ghost use Rattle.debug_lines.specs.ModeRequests.{mode_request_of};
 ghost use Rattle.debug_lines.specs.SteppingRequests.{stepping_request_of};
 
 use crate::session::DebugSession;
+use crate::stepping::answer_in_modes;
 use command_shell_lines::ScriptCommand;
+use debug_history::is_faulted;
 use debug_lines::{ModeCommand, SteppingCommand, stepping_in};
 use debug_modes::expectations::reports::push_answer;
 use debug_tables::run_meter::RunError;
 use image_loader::Images;
 use profile::text_lines::Lines;
 use profile::{Sink, WriteFault};
+use std::alloc::AllocError;
 
 impl DebugSession {
+    ghost use Rattle.debug_tables.specs.run_meter.Session.{script_state};
     ghost use Rattle.image_loader.specs.Entries.{Entry};
     ghost use Rattle.debug_session.specs.DebugScript.{counts_answer, mode_line_answer, script_line_answer, stepping_line_answer, stepping_now, stepping_answer_by};
     ghost use Rattle.debug_session.specs.DebugState.{IsDebugged};
@@ -42,7 +48,7 @@ impl DebugSession {
         ensures ends { EndsAtOnce W.has_failed sink.old sink.new result }
     {
         match self.stepping_now(command) {
-            Some(steps) => self.stepping_line(images, sink, false, &steps),
+            Some(steps) => self.stepping_line(images, sink, script.number(), false, &steps),
             None => self.plain_line(images, sink, command, script),
         }
     }
@@ -64,26 +70,55 @@ impl DebugSession {
         &mut self,
         images: &Images,
         sink: &mut W,
+        number: usize,
         is_traced: bool,
         command: &SteppingCommand<'_>,
     ) -> Result<(), RunError>
         ensures reported { OnOk result (IsDebugged (W.contents sink.old) (W.contents sink.new)
             (debug_state self.new images.now)
-            (stepping_line_answer self.old.setting (debug_state self.old images.now) is_traced
+            (stepping_line_answer self.old.setting (debug_state self.old images.now) number is_traced
             (stepping_request_of command.now))) }
         ensures setting { self.new.setting ≡ self.old.setting }
         ensures ends { EndsAtOnce W.has_failed sink.old sink.new result }
     {
         self.session.set_budget(self.setting.budget);
-        let reported = self.modes.answer(
+        let reported = answer_in_modes(
             self.alloc,
             &mut self.session,
             images,
             &self.labels,
+            &mut self.modes,
             is_traced,
             command,
         )?;
+        self.note_stepping(number, command)?;
         Ok(self.print_steps(sink, reported.text, reported.printed, reported.ending)?)
+    }
+
+    // Keeps what a line that took steps did to the machine.
+    fn note_stepping(
+        &mut self,
+        number: usize,
+        command: &SteppingCommand<'_>,
+    ) -> Result<(), AllocError>
+        ensures past { (images : List Entry) → OnOk result (self.new.past ≡ past_after_stepping self.old.past
+            number (are_plain self.old.modes.steps) (stepping_request_of command.now)
+            (self.old.setting.budget - self.old.session.left)
+            (is_faulted (script_state self.old.session images).machine.halt)) }
+        ensures rest { OnOk result (self.new ≡ record self.old { past = self.new.past }) }
+        ensures setting { self.new.setting ≡ self.old.setting }
+    {
+        let has_faulted = is_faulted(&self.session);
+        let is_plain = self.modes.steps.is_plain();
+        let taken = self.steps_taken();
+        self.past.note_stepping(
+            self.alloc,
+            number as u64,
+            is_plain,
+            command,
+            taken,
+            has_faulted,
+        )
     }
 
     // Writes what a line that took steps left to write, and keeps it for the lines that expect

@@ -1,6 +1,6 @@
 use Rattle.std.proofs.Common.{◌∙◌, ap}
 use Rattle.debug_modes.specs.Counting.{counts_text}
-use Rattle.debug_modes.specs.TraceWriter.{naming_in}
+use Rattle.debug_labels.specs.place_views.Places.{naming_on}
 use Rattle.debug_tables.specs.run_meter.Value.{MachineValue}
 use Rattle.debug_tables.specs.run_meter.GuestState.{state_of}
 use Rattle.debug_session.specs.Session.{debug_state}
@@ -10,6 +10,6 @@ use Rattle.debug_session.proofs.session.DebugSession.counts.Goals as goal
 pub returns-clause-reported : goal.returns-clause-reported
 returns-clause-reported g c images =
     let old = c.args.self.now in
-    let shown = λ (m : MachineValue). counts_text old.modes.counts (naming_in old.labels (state_of m.guest)) (state_of m.guest).store.bytes c.args.name.now in
+    let shown = λ (m : MachineValue). counts_text old.modes.counts (naming_on old.labels (state_of m.guest)) (state_of m.guest).store.bytes c.args.name.now in
     view_of_text _ _ _ (debug_state old images) old.setting c.in_ok-text.text.items _
     (c.in_ok-text.ensures ∙ ap shown c.machine-machine.ensures) (c.in_ok-view.ensures.reported images)

@@ -1,11 +1,13 @@
 -- Each request is shown as its own call shows it.
 use Rattle.std.proofs.Common.{◌≡◌, ◌+◌, ap, subst, sym, ℕ}
 use Rattle.std.specs.Prelude.{OnOk}
-use Rattle.debug_tables.specs.run_meter.Memory.{script_with_status}
 use Rattle.command_shell_lines.specs.Blocks.{block_lines, lines_after, lines_taken}
-use Rattle.debug_modes.specs.expectations.Checks.{status_after_pattern}
 use Rattle.debug_lines.specs.DebugRequests.{DebugRequest, debug_opens_block, debug_request_of_command}
-use Rattle.debug_session.specs.DebugScript.{unknown_answer}
+use Rattle.debug_lines.specs.SteppingRequests.{stepping_request_of}
+use Rattle.debug_history.specs.declared.act.PastDeed.TheVariants.{Status}
+use Rattle.debug_modes.specs.expectations.Checks.{status_after_pattern}
+use Rattle.debug_tables.specs.run_meter.Memory.{script_with_status}
+use Rattle.debug_session.specs.DebugScript.{past_line_answer, set_pc_answer, set_psr_answer, stepping_line_answer}
 use Rattle.debug_session.specs.DebugState.{IsDebugged}
 use Rattle.debug_session.specs.Session.{debug_state}
 use Rattle.debug_session.proofs.OwnLemmas.{asked, asked_if, changed_silently, checked_by}
@@ -63,18 +65,23 @@ returns-in-SetPc-clause-reported g c =
     asked_if c.move_pc.result (g.W.Sink.contents c.args.sink.now) (g.W.Sink.contents c.move_pc.new.sink)
     (debug_state c.move_pc.new.self c.args.images.now) (debug_state c.args.self.now c.args.images.now)
     c.args.self.now.setting c.args.script.now.number c.args.words.now (block_lines c.args.script.now.left) _
-    (debug_request_of_command c.args.command) (sym (ap debug_request_of_command c.in-SetPc.is)) (c.move_pc.ensures.reported c.args.images.now)
+    (debug_request_of_command c.args.command) (sym (ap debug_request_of_command c.in-SetPc.is))
+    (subst (λ (n : ℕ). OnOk c.move_pc.result (IsDebugged (g.W.Sink.contents c.args.sink.now) (g.W.Sink.contents c.move_pc.new.sink)
+    (debug_state c.move_pc.new.self c.args.images.now) (set_pc_answer c.args.self.now.setting
+    (debug_state c.args.self.now c.args.images.now) n c.in-SetPc.address)))
+    c.number-in-SetPc.ensures (c.move_pc.ensures.reported c.args.images.now))
 
-pub returns-in-SetPsr-clause-reported : goal.returns-in-SetPsr-clause-reported
-returns-in-SetPsr-clause-reported g c =
+pub returns-in_ok-set_psr-in-SetPsr-clause-reported : goal.returns-in_ok-set_psr-in-SetPsr-clause-reported
+returns-in_ok-set_psr-in-SetPsr-clause-reported g c =
+    let d = debug_state c.args.self.now c.args.images.now in
     asked (g.W.Sink.contents c.args.sink.now) (g.W.Sink.contents c.args.sink.now)
-    (debug_state c.set_psr.new.self c.args.images.now) (debug_state c.args.self.now c.args.images.now)
+    (debug_state c.set_psr.new.self c.args.images.now) d
     c.args.self.now.setting c.args.script.now.number c.args.words.now (block_lines c.args.script.now.left) _
     (debug_request_of_command c.args.command) (sym (ap debug_request_of_command c.in-SetPsr.is))
-    (changed_silently _ _ (debug_state c.args.self.now c.args.images.now)
-    (script_with_status (debug_state c.args.self.now c.args.images.now).script (status_after_pattern c.in-SetPsr.pattern
-    (debug_state c.args.self.now c.args.images.now).script.machine.cpu.psr))
-    (c.set_psr.ensures.reported c.args.images.now))
+    (subst (λ (n : ℕ). IsDebugged (g.W.Sink.contents c.args.sink.now) (g.W.Sink.contents c.args.sink.now)
+    (debug_state c.set_psr.new.self c.args.images.now) (set_psr_answer d n c.in-SetPsr.pattern)) c.number-in-SetPsr.ensures
+    (changed_silently _ _ d c.number-in-SetPsr.result (Status (status_after_pattern c.in-SetPsr.pattern d.script.machine.cpu.psr))
+    (script_with_status d.script (status_after_pattern c.in-SetPsr.pattern d.script.machine.cpu.psr)) (c.in_ok-set_psr-in-SetPsr.ensures.reported c.args.images.now)))
 
 pub returns-in-Reset-clause-reported : goal.returns-in-Reset-clause-reported
 returns-in-Reset-clause-reported g c =
@@ -90,7 +97,7 @@ returns-in_ok-reason-in-Expect-clause-reported g c =
     c.args.self.now.setting c.args.script.now.number c.args.words.now (block_lines c.args.script.now.left) _
     (debug_request_of_command c.args.command) (sym (ap debug_request_of_command c.in-Expect.is))
     (checked_by c.print_check.result _ _ _ (debug_state c.args.self.now c.args.images.now) c.args.self.now.setting
-    c.number.result c.args.script.now.number c.args.words.now _ _ c.number.ensures
+    c.number-in-Expect.result c.args.script.now.number c.args.words.now _ _ c.number-in-Expect.ensures
     (c.in_ok-reason-in-Expect.ensures c.args.images.now) (c.print_check.ensures.reported c.args.images.now))
 
 pub returns-in-Stepping-clause-reported : goal.returns-in-Stepping-clause-reported
@@ -98,7 +105,12 @@ returns-in-Stepping-clause-reported g c =
     asked_if c.stepping_line.result (g.W.Sink.contents c.args.sink.now) (g.W.Sink.contents c.stepping_line.new.sink)
     (debug_state c.stepping_line.new.self c.args.images.now) (debug_state c.args.self.now c.args.images.now)
     c.args.self.now.setting c.args.script.now.number c.args.words.now (block_lines c.args.script.now.left) _
-    (debug_request_of_command c.args.command) (sym (ap debug_request_of_command c.in-Stepping.is)) c.stepping_line.ensures.reported
+    (debug_request_of_command c.args.command) (sym (ap debug_request_of_command c.in-Stepping.is))
+    (subst (λ (n : ℕ). OnOk c.stepping_line.result (IsDebugged (g.W.Sink.contents c.args.sink.now)
+    (g.W.Sink.contents c.stepping_line.new.sink) (debug_state c.stepping_line.new.self c.args.images.now)
+    (stepping_line_answer c.args.self.now.setting (debug_state c.args.self.now c.args.images.now) n c.in-Stepping.is_traced
+    (stepping_request_of c.in-Stepping.command))))
+    c.number.ensures c.stepping_line.ensures.reported)
 
 pub returns-in-Put-clause-reported : goal.returns-in-Put-clause-reported
 returns-in-Put-clause-reported g c =
@@ -131,10 +143,10 @@ returns-in-Mode-clause-reported g c =
 pub returns-in-Unknown-clause-reported : goal.returns-in-Unknown-clause-reported
 returns-in-Unknown-clause-reported g c =
     let d = debug_state c.args.self.now c.args.images.now in
-    asked_if c.refuse.result (g.W.Sink.contents c.args.sink.now) (g.W.Sink.contents c.refuse.new.sink)
-    (debug_state c.refuse.new.self c.args.images.now) d
+    asked_if c.past_line.result (g.W.Sink.contents c.args.sink.now) (g.W.Sink.contents c.past_line.new.sink)
+    (debug_state c.past_line.new.self c.past_line.new.images) d
     c.args.self.now.setting c.args.script.now.number c.args.words.now (block_lines c.args.script.now.left) _
     (debug_request_of_command c.args.command) (sym (ap debug_request_of_command c.in-Unknown.is))
-    (subst (λ (n : ℕ). OnOk c.refuse.result (IsDebugged (g.W.Sink.contents c.args.sink.now) (g.W.Sink.contents c.refuse.new.sink)
-    (debug_state c.refuse.new.self c.args.images.now) (unknown_answer c.args.self.now.setting d n c.args.words.now)))
-    c.number-in-Unknown.ensures (c.refuse.ensures.reported c.args.images.now))
+    (subst (λ (n : ℕ). OnOk c.past_line.result (IsDebugged (g.W.Sink.contents c.args.sink.now) (g.W.Sink.contents c.past_line.new.sink)
+    (debug_state c.past_line.new.self c.past_line.new.images) (past_line_answer c.args.self.now.setting d n c.args.words.now)))
+    c.number-in-Unknown.ensures c.past_line.ensures.reported)

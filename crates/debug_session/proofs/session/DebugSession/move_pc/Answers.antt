@@ -1,21 +1,23 @@
 -- By whether a fault has halted the machine.
-use Rattle.std.proofs.Common.{List, Option, ℕ, subst}
+use Rattle.std.proofs.Common.{Option, subst}
 use Rattle.profile.specs.declared.fault.Fault.{Fault}
 use Rattle.debug_tables.specs.run_meter.Memory.{script_at}
+use Rattle.debug_history.specs.declared.act.PastDeed.TheVariants.{Place}
 use Rattle.debug_session.specs.DebugScript.{set_pc_by}
 use Rattle.debug_session.specs.DebugState.{IsDebugged}
 use Rattle.debug_session.specs.Session.{debug_state}
 use Rattle.debug_session.proofs.OwnLemmas.{changed_silently, view_of_text}
 use Rattle.debug_session.proofs.session.DebugSession.move_pc.Goals as goal
 
-pub returns-in-None-clause-reported : goal.returns-in-None-clause-reported
-returns-in-None-clause-reported g c images =
+pub returns-in_ok-set_pc-in-None-clause-reported : goal.returns-in_ok-set_pc-in-None-clause-reported
+returns-in_ok-set_pc-in-None-clause-reported g c images =
     let d = debug_state c.args.self.now images in
     let held = g.W.Sink.contents c.args.sink.now in
     let now = debug_state c.set_pc.new.self images in
-    subst (λ (o : Option Fault). IsDebugged held held now (set_pc_by o c.args.self.now.setting d c.args.address))
+    subst (λ (o : Option Fault). IsDebugged held held now (set_pc_by o c.args.self.now.setting d c.args.number c.args.address))
     (c.in-None.ensures images)
-    (changed_silently held now d (script_at d.script c.args.address) (c.set_pc.ensures.reported images))
+    (changed_silently held now d c.args.number (Place c.args.address) (script_at d.script c.args.address)
+    (c.in_ok-set_pc-in-None.ensures.reported images))
 
 pub returns-in_ok-view-in-Some-clause-reported : goal.returns-in_ok-view-in-Some-clause-reported
 returns-in_ok-view-in-Some-clause-reported g c images =
@@ -23,7 +25,7 @@ returns-in_ok-view-in-Some-clause-reported g c images =
     let before = g.W.Sink.contents c.args.sink.now in
     let after = g.W.Sink.contents c.view.new.sink in
     let now = debug_state c.view.new.self images in
-    subst (λ (o : Option Fault). IsDebugged before after now (set_pc_by o c.args.self.now.setting d c.args.address))
+    subst (λ (o : Option Fault). IsDebugged before after now (set_pc_by o c.args.self.now.setting d c.args.number c.args.address))
     (c.in-Some.ensures images)
     (view_of_text before after now d c.args.self.now.setting c.in_ok-text-in-Some.text.items _ (c.in_ok-text-in-Some.ensures images)
     (c.in_ok-view-in-Some.ensures.reported images))

@@ -5,7 +5,7 @@ use Rattle.debug_tables.specs.run_meter.State.{ScriptState}
 use Rattle.command_shell_lines.specs.Blocks.{block_lines}
 use Rattle.command_shell_lines.specs.Requests.{request_of_command}
 use Rattle.debug_session.specs.Session.{debug_state}
-use Rattle.debug_session.proofs.OwnLemmas.{labels_taken, line_answer, noted_labels, no_answer, refused_as_answer, session_labelled, session_moved, session_noted, answer_with}
+use Rattle.debug_session.proofs.OwnLemmas.{labels_taken, line_answer, noted_labels, no_answer, refused_as_answer, session_labelled, session_kept, session_moved, session_noted, answer_with}
 use Rattle.debug_session.specs.declared.session.DebugSession.{DebugSession}
 use Rattle.debug_session.proofs.session.DebugSession.named_line.Goals as goal
 
@@ -32,11 +32,13 @@ returns-clause-reported g c =
     let reported = request_answer (script_with_budget d.script old.setting.budget) c.args.script.now.number r block in
     let mid = c.answer_to.new.self in
     let noted = c.note.new.self in
+    let with_past = c.note_past.new.self in
     let taken = c.take_labels.new.self in
     let after = c.answer_to.new.images in
     let at_print = debug_state taken after in
     let answered = c.in_ok-answer.ensures in
     let kept = c.in_ok-note.ensures in
+    let past = c.in_ok-note_past.ensures in
     let labelled = c.in_ok-take_labels.ensures in
     let refused = c.is_refused_block-is_refused.result in
     let there = ap (λ (s : ScriptState). s.images) answered.reported.state in
@@ -45,16 +47,18 @@ returns-clause-reported g c =
     line_answer (g.W.Sink.contents c.args.sink.now) (g.W.Sink.contents c.print.new.sink) old.setting d at_print
     (debug_state c.print.new.self after) c.args.named.now.number r reported named c.as_slice-text.result.now
     c.as_slice-shown.result.now refused c.asks_nothing.result
-    (session_labelled noted taken after old.setting d r reported named labelled.rest
+    (session_labelled with_past taken after old.setting d c.args.named.now.number r reported named labelled.rest
+    (session_kept noted with_past after old.setting d c.number.result c.args.named.now.number r reported refused past.rest
     (session_noted old mid noted c.args.images.now after c.as_slice-text.result.now c.takes_steps.result r reported
     answered.rest kept.rest kept.answer kept.output kept.steps c.takes_steps.ensures answered.reported.state
     (c.as_slice-text.ensures.value ∙ answered.reported.text))
-    (labels_taken taken.labels noted.labels d refused after r reported named named labelled.labels
-    (noted_labels old mid noted answered.rest kept.rest) refusal there refl))
+    (kept.setting ∙ ap (λ (s : DebugSession). s.setting) answered.rest) c.number.ensures refusal (past.past after))
+    (labels_taken taken.labels with_past.labels d refused after r reported named named labelled.labels
+    (ap (λ (s : DebugSession). s.labels) past.rest ∙ noted_labels old mid noted answered.rest kept.rest) refusal there refl))
     (c.as_slice-text.ensures.value ∙ answered.reported.text)
     (c.as_slice-shown.ensures.value ∙ c.in_ok-explained.ensures)
     c.asks_nothing.ensures c.if-asks_nothing.false refusal
-    (answer_with _ _ _ at_print taken.setting old.setting c.number.result c.args.named.now.number
+    (answer_with _ _ _ at_print taken.setting old.setting c.number-2.result c.args.named.now.number
     refused c.as_slice-shown.result.now
-    (labelled.setting ∙ kept.setting ∙ ap (λ (s : DebugSession). s.setting) answered.rest) c.number.ensures
+    (labelled.setting ∙ past.setting ∙ kept.setting ∙ ap (λ (s : DebugSession). s.setting) answered.rest) c.number-2.ensures
     (c.in_ok-print.ensures.reported after))

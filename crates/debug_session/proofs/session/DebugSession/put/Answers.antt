@@ -28,9 +28,9 @@ returns-in_ok-view-in-Ok-clause-reported g c =
     (debug_state c.view-in-Ok.new.self images) (put_found old.setting (debug_state old images) c.args.name.now c.args.address o))
     c.in-Some.ensures.bytes
     (put_ok _ _ old.setting (debug_state old images) (debug_state c.view-in-Ok.new.self images) c.args.name.now c.args.address
-    (script_state old.session images) (script_state c.put_bytes.new.session images)
+    (script_state old.session images) (script_state c.put_bytes.new.session images) c.lose.new.self
     (script_after_put (script_state old.session images) c.args.address c.in-Some.bytes.now) c.in-Ok.field-0 c.in_ok-done.done.items
-    (c.in-Ok.ensures images) c.in_ok-done.ensures (c.in_ok-view-in-Ok.ensures.reported images))
+    (c.in-Ok.ensures images) c.in_ok-done.ensures c.lose.ensures (c.in_ok-view-in-Ok.ensures.reported images))
 
 pub returns-in_ok-view-in-Err-clause-reported : goal.returns-in_ok-view-in-Err-clause-reported
 returns-in_ok-view-in-Err-clause-reported g c =

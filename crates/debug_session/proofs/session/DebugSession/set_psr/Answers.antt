@@ -4,6 +4,9 @@ use Rattle.debug_tables.specs.run_meter.Session.{script_state}
 use Rattle.debug_modes.specs.expectations.Checks.{status_after_pattern}
 use Rattle.debug_tables.specs.run_meter.Value.{MachineValue}
 use Rattle.arm_core.specs.State.{State}
+use Rattle.arm_core.specs.declared.psr.Psr.{Psr}
+use Rattle.debug_history.specs.Noted.{past_with_deed}
+use Rattle.debug_history.specs.declared.act.PastDeed.TheVariants.{Status}
 use Rattle.debug_tables.specs.run_meter.GuestState.{state_of}
 use Rattle.debug_session.specs.Session.{debug_state}
 use Rattle.debug_session.proofs.OwnLemmas.{changed_script}
@@ -12,10 +15,10 @@ use Rattle.debug_session.proofs.session.DebugSession.set_psr.Goals as goal
 pub returns-clause-reported : goal.returns-clause-reported
 returns-clause-reported c images =
     let s = script_state c.args.self.now.session images in
+    let status = c.status_with-status.ensures ∙ ap (status_after_pattern c.args.pattern) (c.psr.ensures ∙ ap (λ (cpu : State). cpu.psr)
+    (c.cpu.ensures ∙ ap (λ (m : MachineValue). (state_of m.guest).cpu) c.machine.ensures)) in
     changed_script (debug_state c.args.self.now images) (script_state c.set_psr.new.self images)
-    (script_with_status s (status_after_pattern c.args.pattern s.machine.cpu.psr)) c.new.result.items
-    (c.set_psr.ensures images
-    ∙ ap (script_with_status s) (c.status_with-status.ensures
-    ∙ ap (status_after_pattern c.args.pattern) (c.psr.ensures ∙ ap (λ (cpu : State). cpu.psr)
-    (c.cpu.ensures ∙ ap (λ (m : MachineValue). (state_of m.guest).cpu) c.machine.ensures))))
+    (script_with_status s (status_after_pattern c.args.pattern s.machine.cpu.psr)) c.put.new.self _ c.new.result.items
+    (c.set_psr.ensures images ∙ ap (script_with_status s) status)
+    (c.in_ok-put.ensures ∙ ap (λ (p : Psr). past_with_deed c.args.self.now.past c.args.number (Status p)) status)
     c.new.ensures.items

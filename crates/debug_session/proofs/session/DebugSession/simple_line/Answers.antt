@@ -3,7 +3,7 @@ use Rattle.std.proofs.Common.{◌≡◌, ℕ, ◌+◌, Bool, ap, sym, subst, ◌
 use Rattle.std.specs.Prelude.{OnOk}
 use Rattle.command_shell_lines.specs.Blocks.{block_lines, lines_after, lines_taken}
 use Rattle.debug_lines.specs.DebugRequests.{DebugRequest, NotKnown, debug_opens_block, debug_request_of_command, is_known, is_repeatable, simple_request}
-use Rattle.debug_session.specs.DebugScript.{unknown_answer}
+use Rattle.debug_session.specs.DebugScript.{past_line_answer}
 use Rattle.debug_session.specs.DebugState.{IsDebugged}
 use Rattle.debug_session.specs.Naming.{meant_request, naming_of}
 use Rattle.debug_session.specs.Session.{debug_state}
@@ -76,11 +76,11 @@ returns-clause-reported g c =
     let setting = c.args.self.now.setting in
     let read = c.simple_command-command.ensures in
     let meant = c.simple_command-meant.ensures in
-    asked_if c.refuse.result _ _ (debug_state c.refuse.new.self c.args.images.now) d setting c.args.script.now.number line
+    asked_if c.past_line.result _ _ (debug_state c.past_line.new.self c.past_line.new.images) d setting c.args.script.now.number line
     (block_lines c.args.script.now.left) NotKnown (meant_request (naming_of d) line)
     (meant_nothing (naming_of d) line c.as_slice.result.now (sym (c.is_known.ensures ∙ ap is_known read) ∙ c.if-is_known.false)
     (c.as_slice.ensures.value ∙ c.in_ok-numbered.ensures c.args.images.now)
     (sym (c.is_repeatable.ensures ∙ ap is_repeatable meant) ∙ c.if-is_repeatable.false))
-    (subst (λ (n : ℕ). OnOk c.refuse.result (IsDebugged (g.W.Sink.contents c.args.sink.now) (g.W.Sink.contents c.refuse.new.sink)
-    (debug_state c.refuse.new.self c.args.images.now) (unknown_answer setting d n line))) c.number.ensures
-    (c.refuse.ensures.reported c.args.images.now))
+    (subst (λ (n : ℕ). OnOk c.past_line.result (IsDebugged (g.W.Sink.contents c.args.sink.now) (g.W.Sink.contents c.past_line.new.sink)
+    (debug_state c.past_line.new.self c.past_line.new.images) (past_line_answer setting d n line))) c.number.ensures
+    c.past_line.ensures.reported)

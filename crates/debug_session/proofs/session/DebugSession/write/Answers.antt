@@ -17,9 +17,9 @@ returns-in-Ok-clause-reported g c images =
     (script_after_put (script_state old.session images) c.args.address xs)))
     (c.as_slice.ensures.value ∙ c.in_ok-bytes.ensures)
     (write_ok _ _ old.setting (debug_state old images) (debug_state c.view.new.self images)
-    (script_state old.session images) (script_state c.put_bytes.new.session images)
+    (script_state old.session images) (script_state c.put_bytes.new.session images) c.lose.new.self
     (script_after_put (script_state old.session images) c.args.address c.as_slice.result.now) c.in-Ok.field-0
-    c.new-nothing.result.items (c.in-Ok.ensures images) c.new-nothing.ensures.items (c.in_ok-view-in-Ok.ensures.reported images))
+    c.new-nothing.result.items (c.in-Ok.ensures images) c.new-nothing.ensures.items c.lose.ensures (c.in_ok-view-in-Ok.ensures.reported images))
 
 pub returns-clause-reported : goal.returns-clause-reported
 returns-clause-reported g c images =

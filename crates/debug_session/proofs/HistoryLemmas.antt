@@ -1,0 +1,364 @@
+-- The past of a debugging session is that of its machine, and changes no answer of other lines.
+use Rattle.std.proofs.Common.{◌≡◌, ℕ, ◌-◌, Bool, true, false, List, [], Option, Some, None, Result, Ok, Err, refl, sym, ◌∙◌, ap, subst, if◌then◌else◌}
+use Rattle.std.specs.Prelude.{IsSome}
+use Rattle.std.specs.Option.{option_map}
+use Rattle.image_loader.specs.Entries.{bytes_of_image}
+use Rattle.profile.specs.declared.fault.Fault.{Fault}
+use Rattle.debug_history.specs.Halt.{Halt}
+use Rattle.command_shell_lines.specs.Requests.{Request, Areas, Asm, Boot, Break, Call, Code, Flex, Heap, Hex, Load, Mem, Modules, Nothing, Poke, Regs, Run, Set, Step, Unbreak, Unknown}
+use Rattle.debug_tables.specs.run_meter.Memory.{script_at, script_started_anew, script_with_budget, script_with_status}
+use Rattle.debug_tables.specs.run_meter.Script.{request_answer}
+use Rattle.debug_tables.specs.run_meter.MachineState.{machine_start, stop_of}
+use Rattle.debug_tables.specs.run_meter.State.{Answered, ScriptState, script_start_state}
+use Rattle.command_shell_lines.specs.debug_words.NamedBytes.{bytes_written, named_bytes, or_no_bytes}
+use Rattle.debug_labels.specs.Labels.{ImageLabels}
+use Rattle.debug_lines.specs.DebugRequests as own
+use Rattle.debug_lines.specs.SteppingRequests as stepping
+use Rattle.debug_history.specs.Answers.{PastAnswered, back_until, last_in_past, past_answered, past_asked, past_command, past_gone_back, past_shown, undone}
+use Rattle.debug_history.specs.Laws.{IsPastOf}
+use Rattle.debug_history.specs.LineKinds.{asks_nothing, is_refused_block}
+use Rattle.debug_history.specs.Noted.{is_faulted, past_after_request, past_after_stepping}
+use Rattle.debug_history.specs.Acts.{moment_after_acts}
+use Rattle.debug_history.specs.Past.{PastState, line_of_last_act, past_from_start, unknown_past}
+use Rattle.debug_history.specs.Texts.{no_history_text}
+use Rattle.debug_history.specs.declared.act.PastDeed.TheVariants as deed
+use Rattle.debug_history.specs.declared.lines.PastCommand.{PastCommand}
+use Rattle.debug_history.specs.declared.lines.PastCommand.TheVariants as past
+use Rattle.debug_history.specs.declared.search.PastFound.{PastFound}
+use Rattle.debug_history.specs.declared.search.Sought.TheVariants.{Stood}
+use Rattle.debug_history.proofs.LineNotedLemmas.{image_forgotten, noted_is_done, refused_block}
+use Rattle.debug_history.proofs.NotedLemmas.{deed_noted}
+use Rattle.debug_modes.specs.Modes.{answer_of_line}
+use Rattle.debug_modes.specs.expectations.Checks.{check_answer, status_after_pattern}
+use Rattle.debug_modes.specs.expectations.Halted.{halting_fault}
+use Rattle.debug_modes.specs.expectations.reports.Reports.{report_of_refusal, with_refusal}
+use Rattle.debug_runs.specs.Lines.{stepping_answer}
+use Rattle.debug_runs.proofs.PlainLemmas.{lines_are}
+use Rattle.debug_runs.proofs.TracedLemmas.{last_is_run, same_line}
+use Rattle.debug_session.specs.DebugScript.{answer_or_refused, checked_answer, plain_line_answer, past_line_by, put_done, put_found, script_line_answer_in, seen_of, set_pc_by, state_after_line, state_with_answer, stepping_line_answer, stepping_now, write_done}
+use Rattle.debug_session.specs.DebugState.{DebugAnswered, DebugState}
+use Rattle.debug_session.specs.History.{HistoryChangesNoAnswer, IsSameButPast, IsUnhaltedWhereFresh, PastIsOfTheMachine}
+use Rattle.debug_session.specs.declared.session.DebugSettings.{DebugSettings}
+use Rattle.debug_tables.specs.Modes.{are_plain}
+use Rattle.debug_tables.specs.byte_writes.Put.{script_after_put}
+use Rattle.debug_tables.specs.declared.modes.StepModes.{StepModes}
+
+-- the past of a state is that of its machine
+abbrev IsKept : DebugState → Type 0
+IsKept d = IsPastOf d.script d.past
+
+-- what isn't known is that of any machine
+unknown_kept : (s : ScriptState) → IsPastOf s unknown_past
+unknown_kept s = λ kept. absurd (cc)
+
+-- LINES OF A SCRIPT
+
+-- a line that asks for nothing does nothing
+nothing_kept : (p : PastState) (line taken : ℕ) (has_faulted : Bool) (r : Request) → asks_nothing r ≡ true
+    → past_after_request p line r taken has_faulted ≡ p
+nothing_kept p line taken has_faulted Nothing is = refl
+nothing_kept p line taken has_faulted (Hex name) is = absurd (cc)
+nothing_kept p line taken has_faulted (Asm name origin) is = absurd (cc)
+nothing_kept p line taken has_faulted (Boot name) is = absurd (cc)
+nothing_kept p line taken has_faulted Run is = absurd (cc)
+nothing_kept p line taken has_faulted Regs is = absurd (cc)
+nothing_kept p line taken has_faulted (Set register value) is = absurd (cc)
+nothing_kept p line taken has_faulted (Poke address value) is = absurd (cc)
+nothing_kept p line taken has_faulted (Call called) is = absurd (cc)
+nothing_kept p line taken has_faulted (Load text) is = absurd (cc)
+nothing_kept p line taken has_faulted (Step count) is = absurd (cc)
+nothing_kept p line taken has_faulted (Break address) is = absurd (cc)
+nothing_kept p line taken has_faulted (Unbreak address) is = absurd (cc)
+nothing_kept p line taken has_faulted (Mem address count) is = absurd (cc)
+nothing_kept p line taken has_faulted (Code address count) is = absurd (cc)
+nothing_kept p line taken has_faulted (Heap address) is = absurd (cc)
+nothing_kept p line taken has_faulted Areas is = absurd (cc)
+nothing_kept p line taken has_faulted Modules is = absurd (cc)
+nothing_kept p line taken has_faulted Flex is = absurd (cc)
+nothing_kept p line taken has_faulted Unknown is = absurd (cc)
+
+refused_kept : (c : DebugSettings) (d after : DebugState) (number : ℕ) (refused : Bool) (text : List ℕ) → IsKept after
+    → IsKept (answer_or_refused c d number refused after text).state
+refused_kept c d after number true text is = is
+refused_kept c d after number false text is = is
+
+by_refused : (s : ScriptState) (p q : PastState) (refused : Bool) → (refused ≡ true → IsPastOf s p) → IsPastOf s q
+    → IsPastOf s (if refused then p else q)
+by_refused s p q true was is = was refl
+by_refused s p q false was is = is
+
+asked_kept : (c : DebugSettings) (d : DebugState) (number : ℕ) (r : Request) (reported : Answered) (block : List (List ℕ)) (nothing : Bool)
+    → asks_nothing r ≡ nothing
+    → (is_refused_block d.script.images reported.state.images r ≡ true → IsPastOf reported.state d.past)
+    → IsPastOf reported.state (past_after_request d.past number r (c.budget - reported.state.left) (is_faulted reported.state.machine.halt))
+    → IsKept (if nothing then record d { script = reported.state } else state_with_answer c d number r reported block)
+asked_kept c d number r reported block true asks refused is =
+    subst (λ (p : PastState). IsPastOf reported.state p)
+    (nothing_kept d.past number (c.budget - reported.state.left) (is_faulted reported.state.machine.halt) r asks) is
+asked_kept c d number r reported block false asks refused is =
+    by_refused reported.state d.past
+    (past_after_request d.past number r (c.budget - reported.state.left) (is_faulted reported.state.machine.halt))
+    (is_refused_block d.script.images reported.state.images r) refused is
+
+plain_kept : (c : DebugSettings) (d : DebugState) (number : ℕ) (r : Request) (block : List (List ℕ)) → IsUnhaltedWhereFresh d.script
+    → IsKept d → IsKept (plain_line_answer c d number r block).state
+plain_kept c d number r block up was =
+    let s : ScriptState = script_with_budget d.script c.budget in
+    let reported : Answered = request_answer s number r block in
+    refused_kept c d (state_after_line c d number r reported block) number _ _
+    (asked_kept c d number r reported block (asks_nothing r) refl
+    (λ refused. subst (λ (t : ScriptState). IsPastOf t d.past) (sym (refused_block s number r block refused)) was)
+    (noted_is_done s d.past number number r block up was))
+
+-- LINES THAT TAKE STEPS IN MODES
+
+none_some : (o : Option Halt) → o ≡ None → IsSome o → (b : Bool) → b ≡ false
+none_some None is some b = absurd (cc)
+none_some (Some h) is some b = absurd (cc)
+
+fresh_by : (o : Option Halt) (b : Bool) → (b ≡ true → o ≡ None) → IsSome o → b ≡ false
+fresh_by o false up some = refl
+fresh_by o true up some = none_some o (up refl) some true
+
+as_script_line : (s t : ScriptState) (p : PastState) (number : ℕ) (q : Request) → IsUnhaltedWhereFresh s → IsPastOf s p
+    → t ≡ (request_answer s 0 q []).state
+    → IsPastOf t (past_after_request p number q (s.left - t.left) (is_faulted t.machine.halt))
+as_script_line s t p number q up was is =
+    subst (λ (u : ScriptState). IsPastOf u (past_after_request p number q (s.left - u.left) (is_faulted u.machine.halt))) (sym is)
+    (noted_is_done s p number 0 q [] up was)
+
+untraced : (m : StepModes) (labels : List ImageLabels) (o : Option ℕ) (s : ScriptState) (r : stepping.SteppingRequest)
+    → (stepping_answer m labels o s r).now ≡ (stepping_answer m labels None s r).now
+untraced m labels o s r = (same_line m labels o None s r).now
+
+steps_kept : (m : StepModes) (labels : List ImageLabels) (o : Option ℕ) (s : ScriptState) (p : PastState) (number : ℕ)
+    (r : stepping.SteppingRequest) → are_plain m ≡ true → IsUnhaltedWhereFresh s → IsPastOf s p
+    → (let t = (stepping_answer m labels o s r).now in
+    IsPastOf t (past_after_stepping p number true r (s.left - t.left) (is_faulted t.machine.halt)))
+steps_kept m labels o s p number stepping.Run plain up was =
+    as_script_line s _ p number Run up was
+    (untraced m labels o s stepping.Run ∙ (lines_are m labels s 0 [] plain (fresh_by s.machine.halt s.is_fresh up)).run.state)
+steps_kept m labels o s p number (stepping.Step count) plain up was =
+    as_script_line s _ p number (Step count) up was (untraced m labels o s (stepping.Step count)
+    ∙ ((lines_are m labels s 0 [] plain (fresh_by s.machine.halt s.is_fresh up)).step count).state)
+steps_kept m labels o s p number (stepping.Call called) plain up was =
+    as_script_line s _ p number (Call called) up was (untraced m labels o s (stepping.Call called)
+    ∙ ((lines_are m labels s 0 [] plain (fresh_by s.machine.halt s.is_fresh up)).call called).state)
+steps_kept m labels o s p number (stepping.Load text) plain up was =
+    as_script_line s _ p number (Load text) up was (untraced m labels o s (stepping.Load text)
+    ∙ ((lines_are m labels s 0 [] plain (fresh_by s.machine.halt s.is_fresh up)).load text).state)
+steps_kept m labels o s p number stepping.Finish plain up was = unknown_kept (stepping_answer m labels o s stepping.Finish).now
+steps_kept m labels o s p number (stepping.Gosub address) plain up was =
+    unknown_kept (stepping_answer m labels o s (stepping.Gosub address)).now
+steps_kept m labels o s p number (stepping.RunLast count) plain up was =
+    as_script_line s _ p number Run up was ((last_is_run m labels o count s).now
+    ∙ (lines_are m labels s 0 [] plain (fresh_by s.machine.halt s.is_fresh up)).run.state)
+
+stepping_by : (m : StepModes) (labels : List ImageLabels) (o : Option ℕ) (s : ScriptState) (p : PastState) (number : ℕ)
+    (r : stepping.SteppingRequest) (b : Bool) → are_plain m ≡ b → IsUnhaltedWhereFresh s → IsPastOf s p
+    → (let t = (stepping_answer m labels o s r).now in
+    IsPastOf t (past_after_stepping p number b r (s.left - t.left) (is_faulted t.machine.halt)))
+stepping_by m labels o s p number r true plain up was = steps_kept m labels o s p number r plain up was
+stepping_by m labels o s p number r false plain up was = unknown_kept (stepping_answer m labels o s r).now
+
+stepping_kept : (c : DebugSettings) (d : DebugState) (number : ℕ) (is_traced : Bool) (r : stepping.SteppingRequest)
+    → IsUnhaltedWhereFresh d.script → IsKept d → IsKept (stepping_line_answer c d number is_traced r).state
+stepping_kept c d number is_traced r up was =
+    stepping_by d.modes.steps d.labels (answer_of_line d.modes is_traced) (script_with_budget d.script c.budget) d.past number r
+    (are_plain d.modes.steps) refl up was
+
+line_kept : (c : DebugSettings) (d : DebugState) (number : ℕ) (r : Request) (block : List (List ℕ)) (o : Option stepping.SteppingRequest)
+    → IsUnhaltedWhereFresh d.script → IsKept d → IsKept (script_line_answer_in o c d number r block).state
+line_kept c d number r block (Some steps) up was = stepping_kept c d number false steps up was
+line_kept c d number r block None up was = plain_kept c d number r block up was
+
+-- OTHER LINES
+
+place_kept : (c : DebugSettings) (d : DebugState) (number address : ℕ) (o : Option Fault) → IsKept d
+    → IsKept (set_pc_by o c d number address).state
+place_kept c d number address (Some fault) was = was
+place_kept c d number address None was =
+    deed_noted d.script (script_at d.script address) d.past number (deed.Place address) refl refl was refl
+
+put_kept : (c : DebugSettings) (d : DebugState) (name : List ℕ) (address : ℕ) (r : Result ScriptState Fault) → IsKept d
+    → IsKept (put_done c d name address r).state
+put_kept c d name address (Ok script) was = unknown_kept script
+put_kept c d name address (Err fault) was = was
+
+found_kept : (c : DebugSettings) (d : DebugState) (name : List ℕ) (address : ℕ) (o : Option (List ℕ)) → IsKept d
+    → IsKept (put_found c d name address o).state
+found_kept c d name address None was = was
+found_kept c d name address (Some bytes) was = put_kept c d name address (script_after_put d.script address bytes) was
+
+write_kept : (c : DebugSettings) (d : DebugState) (r : Result ScriptState Fault) → IsKept d → IsKept (write_done c d r).state
+write_kept c d (Ok script) was = unknown_kept script
+write_kept c d (Err fault) was = was
+
+checked_kept : (c : DebugSettings) (d : DebugState) (number : ℕ) (words : List ℕ) (o : Option (List ℕ)) → IsKept d
+    → IsKept (checked_answer c d number words o).state
+checked_kept c d number words None was = was
+checked_kept c d number words (Some reason) was = was
+
+-- a machine as it is made
+anew_kept : (c : DebugSettings) (s : ScriptState)
+    → IsPastOf (script_started_anew s c.config c.budget) (past_from_start c.keeps_past)
+unfolding moment_after_acts machine_start script_start_state
+anew_kept c s = λ kept. refl
+
+-- LINES OF THE PAST
+
+abbrev IsAnswerKept : PastAnswered → Type 0
+IsAnswerKept a = IsPastOf a.script a.past
+
+-- the machine after a past
+there_kept : (labels : List ImageLabels) (c : DebugSettings) (s : ScriptState) (p : PastState) (step : ℕ)
+    → IsAnswerKept (past_gone_back labels c.config c.budget s p step)
+there_kept labels c s p step = λ kept. refl
+
+if_kept : (b : Bool) (one other : PastAnswered) → IsAnswerKept one → IsAnswerKept other → IsAnswerKept (if b then one else other)
+if_kept true one other is also = is
+if_kept false one other is also = also
+
+until_kept : (labels : List ImageLabels) (c : DebugSettings) (s : ScriptState) (p : PastState) (o : Option PastFound) → IsPastOf s p
+    → IsAnswerKept (back_until labels c.config c.budget s p o)
+until_kept labels c s p (Some found) was = there_kept labels c s p found.step
+until_kept labels c s p None was = was
+
+undone_kept : (c : DebugSettings) (s : ScriptState) (p : PastState) (o : Option ℕ) → IsPastOf s p
+    → IsAnswerKept (undone c.config c.budget s p o)
+undone_kept c s p (Some line) was = λ kept. refl
+undone_kept c s p None was = was
+
+command_kept : (labels : List ImageLabels) (c : DebugSettings) (s : ScriptState) (p : PastState) (command : PastCommand)
+    → IsPastOf s p → IsAnswerKept (past_asked labels c.config c.budget s p command)
+command_kept labels c s p (past.Back count) was = if_kept _ _ _ (there_kept labels c s p _) was
+command_kept labels c s p (past.BackTo step) was = if_kept _ _ _ (there_kept labels c s p step) was
+command_kept labels c s p (past.BackUntil address) was =
+    until_kept labels c s p (last_in_past c.config s p (Stood address)) was
+command_kept labels c s p past.Undo was = undone_kept c s p (line_of_last_act p.acts) was
+command_kept labels c s p past.When was = was
+command_kept labels c s p (past.Last x) was = was
+
+past_kept : (c : DebugSettings) (d : DebugState) (number : ℕ) (words : List ℕ) (o : Option PastCommand) → IsKept d
+    → IsKept (past_line_by c d number words (option_map (past_answered d.labels c.config c.budget d.script d.past) o)).state
+past_kept c d number words None was = was
+past_kept c d number words (Some command) was =
+    if_kept d.past.is_kept (past_asked d.labels c.config c.budget d.script d.past command)
+    (past_shown d.script d.past no_history_text) (command_kept d.labels c d.script d.past command was) was
+
+-- EACH LINE
+
+pub past_is_of_the_machine : PastIsOfTheMachine
+past_is_of_the_machine c d number words block (own.Script r) up was =
+    line_kept c d number r block (stepping_now d r) up was
+past_is_of_the_machine c d number words block (own.Stepping is_traced r) up was = stepping_kept c d number is_traced r up was
+past_is_of_the_machine c d number words block (own.Mode r) up was = was
+past_is_of_the_machine c d number words block own.Remark up was = was
+past_is_of_the_machine c d number words block (own.View shown) up was = was
+past_is_of_the_machine c d number words block (own.SetPc address) up was =
+    place_kept c d number address (halting_fault (option_map stop_of d.script.machine.halt)) was
+past_is_of_the_machine c d number words block (own.SetPsr pattern) up was =
+    let status = status_after_pattern pattern d.script.machine.cpu.psr in
+    deed_noted d.script (script_with_status d.script status) d.past number (deed.Status status) refl refl was refl
+past_is_of_the_machine c d number words block (own.Put name address) up was =
+    found_kept c d name address (bytes_of_image d.script.images name) was
+past_is_of_the_machine c d number words block (own.Write address count named) up was =
+    write_kept c d (script_after_put d.script address (bytes_written count (or_no_bytes (named_bytes named)))) was
+past_is_of_the_machine c d number words block (own.Forget name) up was = image_forgotten d.script d.past name was
+past_is_of_the_machine c d number words block (own.Counts name) up was = was
+past_is_of_the_machine c d number words block own.Reset up was = anew_kept c d.script
+past_is_of_the_machine c d number words block own.Quit up was = was
+past_is_of_the_machine c d number words block (own.Expect expected) up was =
+    checked_kept c d number words (check_answer (seen_of d) expected) was
+past_is_of_the_machine c d number words block (own.Repeat count line) up was = was
+past_is_of_the_machine c d number words block own.NotKnown up was =
+    past_kept c d number words (past_command d.labels d.script.machine words) was
+
+-- WITH ANOTHER PAST
+
+abbrev Same : PastState → DebugAnswered → DebugAnswered → Type 0
+Same p a b = IsSameButPast p a b
+
+-- a refusal counts in both
+refused_same : (c : DebugSettings) (d other after_other after : DebugState) (p : PastState) (number : ℕ) (refused : Bool) (text : List ℕ)
+    → other ≡ record d { past = p }
+    → record after_other { past = p } ≡ record after { past = p }
+    → Same p (answer_or_refused c other number refused after_other text) (answer_or_refused c d number refused after text)
+refused_same c d other after_other after p number true text is same = record {
+  text = ap (λ (x : DebugState). report_of_refusal c.form x.tally number text) is;
+  state = λ i. let tallied : DebugState = record (same i) { tally = with_refusal (is i).tally } in tallied;
+}
+refused_same c d other after_other after p number false text is same = record { text = refl; state = same }
+
+asked_same : (c : DebugSettings) (d : DebugState) (p : PastState) (number : ℕ) (r : Request) (reported : Answered)
+    (block : List (List ℕ)) (nothing : Bool)
+    → (let other : DebugState = record d { past = p } in
+    let one : DebugState = if nothing then record other { script = reported.state } else state_with_answer c other number r reported block in
+    let two : DebugState = if nothing then record d { script = reported.state } else state_with_answer c d number r reported block in
+    record one { past = p } ≡ record two { past = p })
+asked_same c d p number r reported block true = refl
+asked_same c d p number r reported block false = refl
+
+line_same : (c : DebugSettings) (d : DebugState) (p : PastState) (number : ℕ) (r : Request) (block : List (List ℕ))
+    (o : Option stepping.SteppingRequest)
+    → Same p (script_line_answer_in o c (record d { past = p }) number r block) (script_line_answer_in o c d number r block)
+line_same c d p number r block (Some steps) = record { text = refl; state = refl }
+line_same c d p number r block None =
+    let other : DebugState = record d { past = p } in
+    let reported : Answered = request_answer (script_with_budget d.script c.budget) number r block in
+    refused_same c d other (state_after_line c other number r reported block) (state_after_line c d number r reported block) p number
+    _ _ refl (asked_same c d p number r reported block (asks_nothing r))
+
+place_same : (c : DebugSettings) (d : DebugState) (p : PastState) (number address : ℕ) (o : Option Fault)
+    → Same p (set_pc_by o c (record d { past = p }) number address) (set_pc_by o c d number address)
+place_same c d p number address (Some fault) = record { text = refl; state = refl }
+place_same c d p number address None = record { text = refl; state = refl }
+
+put_same : (c : DebugSettings) (d : DebugState) (p : PastState) (name : List ℕ) (address : ℕ) (r : Result ScriptState Fault)
+    → Same p (put_done c (record d { past = p }) name address r) (put_done c d name address r)
+put_same c d p name address (Ok script) = record { text = refl; state = refl }
+put_same c d p name address (Err fault) = record { text = refl; state = refl }
+
+found_same : (c : DebugSettings) (d : DebugState) (p : PastState) (name : List ℕ) (address : ℕ) (o : Option (List ℕ))
+    → Same p (put_found c (record d { past = p }) name address o) (put_found c d name address o)
+found_same c d p name address None = record { text = refl; state = refl }
+found_same c d p name address (Some bytes) = put_same c d p name address (script_after_put d.script address bytes)
+
+write_same : (c : DebugSettings) (d : DebugState) (p : PastState) (r : Result ScriptState Fault)
+    → Same p (write_done c (record d { past = p }) r) (write_done c d r)
+write_same c d p (Ok script) = record { text = refl; state = refl }
+write_same c d p (Err fault) = record { text = refl; state = refl }
+
+checked_same : (c : DebugSettings) (d : DebugState) (p : PastState) (number : ℕ) (words : List ℕ) (o : Option (List ℕ))
+    → Same p (checked_answer c (record d { past = p }) number words o) (checked_answer c d number words o)
+checked_same c d p number words None = record { text = refl; state = refl }
+checked_same c d p number words (Some reason) = record { text = refl; state = refl }
+
+unknown_same : (c : DebugSettings) (d : DebugState) (p : PastState) (number : ℕ) (words : List ℕ) (o : Option PastCommand) → o ≡ None
+    → Same p (past_line_by c (record d { past = p }) number words (option_map (past_answered d.labels c.config c.budget d.script p) o))
+    (past_line_by c d number words (option_map (past_answered d.labels c.config c.budget d.script d.past) o))
+unknown_same c d p number words None none = record { text = refl; state = refl }
+unknown_same c d p number words (Some command) none = absurd (cc)
+
+pub history_changes_no_answer : HistoryChangesNoAnswer
+history_changes_no_answer c d p number words block (own.Script r) none = line_same c d p number r block (stepping_now d r)
+history_changes_no_answer c d p number words block (own.Stepping is_traced r) none = record { text = refl; state = refl }
+history_changes_no_answer c d p number words block (own.Mode r) none = record { text = refl; state = refl }
+history_changes_no_answer c d p number words block own.Remark none = record { text = refl; state = refl }
+history_changes_no_answer c d p number words block (own.View shown) none = record { text = refl; state = refl }
+history_changes_no_answer c d p number words block (own.SetPc address) none =
+    place_same c d p number address (halting_fault (option_map stop_of d.script.machine.halt))
+history_changes_no_answer c d p number words block (own.SetPsr pattern) none = record { text = refl; state = refl }
+history_changes_no_answer c d p number words block (own.Put name address) none =
+    found_same c d p name address (bytes_of_image d.script.images name)
+history_changes_no_answer c d p number words block (own.Write address count named) none =
+    write_same c d p (script_after_put d.script address (bytes_written count (or_no_bytes (named_bytes named))))
+history_changes_no_answer c d p number words block (own.Forget name) none = record { text = refl; state = refl }
+history_changes_no_answer c d p number words block (own.Counts name) none = record { text = refl; state = refl }
+history_changes_no_answer c d p number words block own.Reset none = record { text = refl; state = refl }
+history_changes_no_answer c d p number words block own.Quit none = record { text = refl; state = refl }
+history_changes_no_answer c d p number words block (own.Expect expected) none =
+    checked_same c d p number words (check_answer (seen_of d) expected)
+history_changes_no_answer c d p number words block (own.Repeat count line) none = record { text = refl; state = refl }
+history_changes_no_answer c d p number words block own.NotKnown none =
+    unknown_same c d p number words (past_command d.labels d.script.machine words) (none refl)

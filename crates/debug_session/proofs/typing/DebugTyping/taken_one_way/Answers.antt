@@ -1,5 +1,0 @@
-use Rattle.debug_session.proofs.TakenLemmas.{taken_one_way}
-use Rattle.debug_session.proofs.typing.DebugTyping.taken_one_way.Goals as goal
-
-pub returns : goal.returns
-returns c = taken_one_way
