@@ -1,55 +1,62 @@
 -- How the records of a script are put together.
-use Rattle.std.proofs.Common.{◌≡◌, ◌∙◌, ◌+◌, ◌<◌, ◌==◌, ◌&&◌, ℕ, Bool, true, false, List, [], ◌++◌, Option, refl, sym, ap, subst, append_assoc, arith}
+use Rattle.std.proofs.Common.{◌≡◌, ◌∙◌, ℕ, Bool, true, false, List, [], ◌++◌, Option, refl, ap, subst, append_assoc}
+use Rattle.std.proofs.lemmas.List.Folds.{list_all-append}
 use Rattle.std.specs.Prelude.{codes}
-use Rattle.std.specs.Io.KnownBytes.{Appends}
-use Rattle.profile.specs.text_sink.Safe.{AddsSafe}
+use Rattle.profile.specs.text_sink.Safe.{AddsSafe, is_safe}
 use Rattle.trace_effects.specs.record_text.Spelling.{comma_before}
-use Rattle.trace_effects.proofs.RecordTextLemmas.WritingLemmas.{then_adds}
-use Rattle.debug_records.specs.Records.{HasFirstRecord, HasLastRecord, HasAllRecords, IsStatusOfCounts, last_record, line_counts, first_record}
-use Rattle.debug_records.specs.declared.counts.LineCounts.{LineCounts}
+use Rattle.trace_effects.proofs.RecordTextLemmas.WritingLemmas.{nothing_adds, then_added, then_adds}
+use Rattle.std.specs.Str.Lines.{lines}
+use Rattle.image_loader.specs.Entries.{Entry}
 use Rattle.debug_session.specs.DebugState.{DebugState}
-use Rattle.debug_session.specs.ExitStatus.{debug_status}
 use Rattle.debug_session.specs.declared.session.DebugSettings.{DebugSettings}
+use Rattle.debug_records.specs.AnsweredLines.{RecordingState}
+use Rattle.debug_records.specs.LineRecords.{Adds, AreAllRecorded, IsRecord}
+use Rattle.debug_records.specs.Recording.{recording_start}
+use Rattle.debug_records.specs.Records.{HasAllRecords, IsLastRecord, first_head}
 
-regroup : (s r t e : List ℕ) → s ++ ((r ++ t) ++ e) ≡ ((s ++ r) ++ t) ++ e
-regroup s r t e = rw (append_assoc s r t, append_assoc s (r ++ t) e) refl
-
-same_adds : (a d : Option (List ℕ)) (s t : List ℕ) → s ≡ t → Appends a d t → Appends a d s
-same_adds a d s t h k = rw h k
-
-pub begun : (setting : DebugSettings) (name text rest : List ℕ) (a b c : Option (List ℕ))
-    → text ≡ first_record setting name → Appends a b text → Appends b c rest → HasFirstRecord setting name a c
-begun setting name text rest a b c same h k = record {
-  rest = rest;
-  adds = then_adds a b c (first_record setting name) rest (subst (λ (xs : List ℕ). Appends a b xs) same h) k;
+-- A text behind another.
+pub then_written : (P Q R : List ℕ → Type 0) (a b c : Option (List ℕ))
+    → ((s t : List ℕ) → P s → Q t → R (s ++ t)) → Adds P a b → Adds Q b c → Adds R a c
+then_written P Q R a b c join h k = record {
+  text = h.text ++ k.text;
+  adds = then_adds a b c h.text k.text h.adds k.adds;
+  safe = list_all-append is_safe h.text k.text ∙ rw (h.safe, k.safe) refl;
+  is = join h.text k.text h.is k.is;
 }
 
-pub recorded : (setting : DebugSettings) (name : List ℕ) (status : ℕ) (a b c d : Option (List ℕ))
-    → HasFirstRecord setting name a b → AddsSafe b c → HasLastRecord status c d → HasAllRecords setting name status a d
-recorded setting name status a b c d h l e =
-    let start = first_record setting name in
-    let end = last_record e.counts status in
-    record {
-      between = h.rest ++ l.text;
-      counts = e.counts;
-      adds = same_adds a d (start ++ ((h.rest ++ l.text) ++ end)) (((start ++ h.rest) ++ l.text) ++ end)
-          (regroup start h.rest l.text end)
-          (then_adds a c d ((start ++ h.rest) ++ l.text) end (then_adds a b c (start ++ h.rest) l.text h.adds l.adds) e.adds);
-      right = e.right;
-    }
+pub also_written : (P Q : List ℕ → Type 0) (a b : Option (List ℕ)) → ((t : List ℕ) → P t → Q t) → Adds P a b → Adds Q a b
+also_written P Q a b other h = record { text = h.text; adds = h.adds; safe = h.safe; is = other h.text h.is }
 
-tested : (p f : ℕ) → 0 < p + f → (p == 0 && f == 0) ≡ false
-tested p f h = grind (arith, h)
+pub none_written : (P : List ℕ → Type 0) (a : Option (List ℕ)) → P [] → Adds P a a
+none_written P a is = record { text = []; adds = nothing_adds a; safe = refl; is = is }
 
-pub status_right : (d : DebugState) (counts : LineCounts) (status : ℕ) → counts ≡ line_counts d → status ≡ debug_status d
-    → IsStatusOfCounts counts status
-status_right d counts status same reported some =
-    let here : 0 < d.tally.passed + d.tally.failed = subst (λ (c : LineCounts). 0 < c.passed + c.failed) same some in
-    let status_here : status ≡ debug_status d = reported in
-    rw (same, status_here, tested d.tally.passed d.tally.failed here) refl
+pub adds_safe : (P : List ℕ → Type 0) (a b : Option (List ℕ)) → Adds P a b → AddsSafe a b
+adds_safe P a b h = record { text = h.text; adds = h.adds; safe = h.safe }
+
+-- The first record, those of the lines, and the last.
+pub recorded : (setting : DebugSettings) (images : List Entry) (name script : List ℕ) (status : ℕ) (start : RecordingState)
+    (debug : DebugState) (a b c d : Option (List ℕ)) → start ≡ recording_start setting images (lines script)
+    → Adds (IsRecord (first_head setting name)) a b → Adds (AreAllRecorded start debug) b c
+    → Adds (IsLastRecord debug status) c d → HasAllRecords setting images name script status a d
+recorded setting images name script status start debug a b c d same first between last = record {
+  first = first.text;
+  between = between.text;
+  last = last.text;
+  debug = debug;
+  begins = first.is;
+  lines_are = subst (λ (s : RecordingState). AreAllRecorded s debug between.text) same between.is;
+  ends = last.is;
+  adds = then_adds a b d first.text (between.text ++ last.text) first.adds
+      (then_adds b c d between.text last.text between.adds last.adds);
+}
+
+pub recorded_safe : (P Q R : List ℕ → Type 0) (a b c d : Option (List ℕ)) → Adds P a b → Adds Q b c → Adds R c d → AddsSafe a d
+recorded_safe P Q R a b c d first between last =
+    then_added a b d (adds_safe P a b first)
+    (then_added b c d (adds_safe Q b c between) (adds_safe R c d last))
 
 -- Parts of a record, one pushed behind another.
-joined : (t u v a b : List ℕ) → u ≡ t ++ a → v ≡ u ++ b → v ≡ t ++ (a ++ b)
+pub joined : (t u v a b : List ℕ) → u ≡ t ++ a → v ≡ u ++ b → v ≡ t ++ (a ++ b)
 joined t u v a b first then = then ∙ ap (λ (z : List ℕ). z ++ b) first ∙ append_assoc t a b
 
 without_comma : (u v x : List ℕ) (follows : Bool) → follows ≡ false → v ≡ u ++ (comma_before follows ++ x) → v ≡ u ++ x

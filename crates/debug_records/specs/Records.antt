@@ -1,18 +1,20 @@
--- What is written of a debugging script: how its records begin and end. The first begins with the
--- name of the script, the sizes of its machine and its bounds; the last has how many lines EXPECT
--- passed and failed, how many lines and blocks were refused, and the exit status.
-use Rattle.std.specs.Prelude.{◌≡◌, ℕ, ◌+◌, ◌<◌, ◌==◌, ◌&&◌, List, ◌++◌, codes, Option, if◌then◌else◌}
+-- What is written of a debugging script: the first record, with the name of the script, the sizes of
+-- its machine and its bounds; those of its lines; and the last, with how many lines EXPECT passed and
+-- failed, how many lines and blocks were refused, and the exit status.
+use Rattle.std.specs.Prelude.{◌≡◌, ℕ, List, ◌++◌, codes, Option}
 use Rattle.std.specs.Fmt.{decimal}
 use Rattle.std.specs.Io.KnownBytes.{Appends}
+use Rattle.std.specs.Str.Lines.{lines}
+use Rattle.image_loader.specs.Entries.{Entry}
 use Rattle.profile.specs.Sizes.{Sizes}
 use Rattle.trace_effects.specs.record_text.Spelling.{string_text}
 use Rattle.debug_session.specs.DebugState.{DebugState}
+use Rattle.debug_session.specs.ExitStatus.{debug_status}
 use Rattle.debug_session.specs.declared.session.DebugSettings.{DebugSettings}
+use Rattle.debug_records.specs.AnswerHeads.{line_counts}
+use Rattle.debug_records.specs.LineRecords.{AreAllRecorded, IsRecord}
+use Rattle.debug_records.specs.Recording.{recording_start}
 use Rattle.debug_records.specs.declared.counts.LineCounts.{LineCounts}
-
--- what a session has counted
-abbrev pub line_counts : DebugState → LineCounts
-line_counts d = record { passed = d.tally.passed; failed = d.tally.failed; refused = d.tally.refused }
 
 -- `{"pages":64,"app":8,"rma":4}`
 abbrev pub record_sizes : Sizes → List ℕ
@@ -20,9 +22,9 @@ record_sizes s = codes "{\"pages\":" ++ (decimal s.pages
     ++ (codes ",\"app\":" ++ (decimal s.app
     ++ (codes ",\"rma\":" ++ (decimal s.rma ++ codes "}")))))
 
--- `{"start":1,"name":"bug","sizes":{"pages":64,"app":8,"rma":4},"budget":1000000,"limit":100000`
-abbrev pub first_record : DebugSettings → List ℕ → List ℕ
-first_record setting name = codes "{\"start\":" ++ (decimal 1
+-- `"start":1,"name":"bug","sizes":{"pages":64,"app":8,"rma":4},"budget":1000000,"limit":100000`
+abbrev pub first_head : DebugSettings → List ℕ → List ℕ
+first_head setting name = codes "\"start\":" ++ (decimal 1
     ++ (codes ",\"name\":" ++ (string_text name
     ++ (codes ",\"sizes\":" ++ (record_sizes setting.config
     ++ (codes ",\"budget\":" ++ (decimal setting.budget
@@ -36,26 +38,20 @@ last_record counts status = codes "{\"end\":" ++ (decimal 1
     ++ (codes ",\"refused\":" ++ (decimal counts.refused
     ++ (codes ",\"status\":" ++ (decimal status ++ codes "}\n")))))))))
 
--- Where EXPECT lines were counted, the status is 0 if none of them failed and nothing was refused.
-abbrev pub IsStatusOfCounts : LineCounts → ℕ → Type 0
-IsStatusOfCounts counts status =
-    0 < counts.passed + counts.failed → status ≡ (if counts.failed == 0 && counts.refused == 0 then 0 else 5)
+-- the last record, of a script whose lines left such a state
+pub record IsLastRecord (debug : DebugState) (status : ℕ) (text : List ℕ) : Type 0 where
+  pub right : status ≡ debug_status debug
+  pub whole : text ≡ last_record (line_counts debug) status
 
--- The last record was written, with a status.
-pub record HasLastRecord (status : ℕ) (old new : Option (List ℕ)) : Type 0 where
-  pub counts : LineCounts
-  pub adds : Appends old new (last_record counts status)
-  pub right : IsStatusOfCounts counts status
-
--- The first record was begun, with a setting and a name, and more stands behind.
-pub record HasFirstRecord (setting : DebugSettings) (name : List ℕ) (old new : Option (List ℕ)) : Type 0 where
-  pub rest : List ℕ
-  pub adds : Appends old new (first_record setting name ++ rest)
-
--- All was written, from the first record to the last.
-pub record HasAllRecords (setting : DebugSettings) (name : List ℕ) (status : ℕ) (old new : Option (List ℕ))
-    : Type 0 where
+-- All was written, from the first record to the last, and nothing between them but the records of the
+-- lines.
+pub record HasAllRecords (setting : DebugSettings) (images : List Entry) (name script : List ℕ)
+    (status : ℕ) (old new : Option (List ℕ)) : Type 0 where
+  pub first : List ℕ
   pub between : List ℕ
-  pub counts : LineCounts
-  pub adds : Appends old new (first_record setting name ++ (between ++ last_record counts status))
-  pub right : IsStatusOfCounts counts status
+  pub last : List ℕ
+  pub debug : DebugState
+  pub begins : IsRecord (first_head setting name) first
+  pub lines_are : AreAllRecorded (recording_start setting images (lines script)) debug between
+  pub ends : IsLastRecord debug status last
+  pub adds : Appends old new (first ++ (between ++ last))

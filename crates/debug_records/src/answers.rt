@@ -1,10 +1,22 @@
 //! The answer to a line, recorded.
 
+ghost use Rattle.std.specs.Prelude.{List, OnOk};
+ghost use Rattle.image_loader.specs.Entries.{Entry};
+ghost use Rattle.debug_session.specs.Session.{debug_state};
+ghost use Rattle.debug_records.specs.AnswerHeads.{answer_fields, answer_head, is_remark_use, is_stepping_use};
+ghost use Rattle.debug_records.specs.LineRecords.{Adds, IsOfForm, answer_form};
+
+use crate::answer_heads::{answer_head, without_end};
 use crate::counts::LineCounts;
 use crate::images::push_image;
 use crate::lines::LineUse;
-use crate::recorder::Recorder;
+use crate::recorder::Twin;
+use crate::records::{push_record, push_whole};
+use command_shell::RunError;
 use command_shell_lines::skip_block;
+use debug_session::DebugSession;
+use image_loader::Images;
+use profile::Sink;
 use profile::text_lines::{Lines, cut};
 use std::alloc::{AllocError, Global};
 use trace_effects::record_text::{Bracket, RecordText};
@@ -23,87 +35,76 @@ pub(crate) struct AnswerParts<'a> {
     pub(crate) answer: &'a [u8],
 }
 
-impl Recorder {
-    /// Makes the record of an answer.
-    pub(crate) fn print_answer(
+impl Twin {
+    /// Writes the record of an answer.
+    pub(crate) fn print_answer<W: Sink>(
         &mut self,
+        session: &DebugSession,
+        images: &Images,
         parts: &AnswerParts<'_>,
         used: &LineUse<'_>,
         block: &Lines,
-    ) -> Result<(), AllocError> {
-        self.text.open(Bracket::Object)?;
-        self.text.number_field(b"answer", parts.number as u64)?;
+        sink: &mut W,
+    ) -> Result<(), RunError>
+        ensures { (held : List Entry) → OnOk result (Adds (IsOfForm (answer_form (is_remark_use used.now)
+            (answer_head parts.now.number (answer_fields (is_remark_use used.now) (is_stepping_use used.now)
+            parts.now.taken parts.now.counts (debug_state session.now held) parts.now.answer.now))))
+            (W.contents sink.old) (W.contents sink.new)) }
+    {
+        let head = answer_head(self.alloc, session, parts, used)?;
+        if used.is_remark() {
+            push_whole(sink, &head)?;
+            return Ok(());
+        }
+        self.text.clear();
         match *used {
-            LineUse::Remark => self.text.truth_field(b"remark")?,
-            LineUse::Steps => self.print_stepped(parts)?,
-            _ => self.print_plain(parts, used, block)?,
+            LineUse::Steps => self.push_end_of_steps(session)?,
+            _ => self.push_changed(session, images, parts, used, block)?,
         }
-        self.end_record()
-    }
-
-    // How the steps of a line ended.
-    fn print_stepped(&mut self, parts: &AnswerParts<'_>) -> Result<(), AllocError> {
-        let ending = Vec::from_slice(self.alloc, self.session.answer())?;
-        if parts.taken > 0 {
-            self.text.number_field(b"steps", parts.taken)?;
-        }
-        push_text(&mut self.text, ending.as_slice())?;
-        self.print_ending(ending.as_slice())?;
-        self.push_places(false)
-    }
-
-    // Where a stop that ended a line stands, or the number of the error.
-    fn print_ending(&mut self, ending: &[u8]) -> Result<(), AllocError> {
-        let (word, behind) = cut(ending, b' ');
-        if word == b"stop".as_slice() {
-            let stop = self.session.session.last();
-            let at = self.session.machine().cpu().pc();
-            let cause = first_word(behind.unwrap_or(b""));
-            push_stop(self.alloc, &mut self.text, cause, stop, at)?;
-        }
-        if word == b"error".as_slice() {
-            let number = self.session.machine().error_number();
-            self.text.number_field(b"error", u64::from(number))?;
-        }
+        push_record(sink, &head, &self.text)?;
         Ok(())
     }
 
-    // What a line says that takes no steps, and what it changed.
-    fn print_plain(
+    // Where the steps of a line ended, and where images stand behind them.
+    fn push_end_of_steps(&mut self, session: &DebugSession) -> Result<(), AllocError> {
+        push_ending(self.alloc, &mut self.text, session)?;
+        self.push_places(Some(session))
+    }
+
+    // What a line changed that takes no steps.
+    fn push_changed(
         &mut self,
+        session: &DebugSession,
+        images: &Images,
         parts: &AnswerParts<'_>,
         used: &LineUse<'_>,
         block: &Lines,
     ) -> Result<(), AllocError> {
-        push_text(&mut self.text, parts.answer)?;
-        let counts = LineCounts::of(&self.session);
-        if parts.counts.refused < counts.refused {
-            self.text.truth_field(b"refused")?;
-        }
-        push_verdict(&mut self.text, parts, counts)?;
+        let counts = LineCounts::of(session);
         if let LineUse::Block(name, origin) = *used {
             if parts.counts.refused == counts.refused {
-                self.print_image(name, origin, block)?;
+                self.print_image(images, name, origin, block)?;
             }
         }
         if let LineUse::Reset = *used {
             self.text.open_field(b"reset", Bracket::Object)?;
-            push_state(&mut self.text, self.session.machine())?;
+            push_state(&mut self.text, session.machine())?;
             self.text.close(Bracket::Object)?;
-            return self.push_places(false);
+            return self.push_places(Some(session));
         }
-        let before = MachineCopy::of(self.alloc, self.twin.machine())?;
-        push_changes(self.alloc, &mut self.text, &before, self.session.machine())?;
-        self.push_places(false)
+        let before = MachineCopy::of(self.alloc, self.session.machine())?;
+        push_changes(self.alloc, &mut self.text, &before, session.machine())?;
+        self.push_places(Some(session))
     }
 
     fn print_image(
         &mut self,
+        images: &Images,
         name: &[u8],
         origin: Option<u32>,
         block: &Lines,
     ) -> Result<(), AllocError> {
-        let Some(bytes) = self.images.get(name) else {
+        let Some(bytes) = images.get(name) else {
             return Ok(());
         };
         let length = bytes.len();
@@ -120,50 +121,28 @@ impl Recorder {
     }
 }
 
-// A text without the end of its last line, if there is one.
-fn push_text(text: &mut RecordText, bytes: &[u8]) -> Result<(), AllocError> {
-    let whole = match bytes {
-        [front @ .., b'\n'] => front,
-        _ => bytes,
-    };
-    if whole.is_empty() {
-        return Ok(());
-    }
-    text.string_field(b"text", whole)
-}
-
-// Whether what a line expects is so, and what is so if not.
-fn push_verdict(
+// Where a stop that ended a line stands, or the number of the error.
+fn push_ending(
+    alloc: Global,
     text: &mut RecordText,
-    parts: &AnswerParts<'_>,
-    counts: LineCounts,
+    session: &DebugSession,
 ) -> Result<(), AllocError> {
-    if parts.counts.passed < counts.passed {
-        text.open_field(b"expect", Bracket::Object)?;
-        text.truth_field(b"pass")?;
-        return text.close(Bracket::Object);
+    let (word, behind) = cut(session.answer(), b' ');
+    if word == b"stop".as_slice() {
+        let stop = session.session.last();
+        let at = session.machine().cpu().pc();
+        let cause = first_word(behind.unwrap_or(b""));
+        push_stop(alloc, text, cause, stop, at)?;
     }
-    if parts.counts.failed == counts.failed {
-        return Ok(());
+    if word == b"error".as_slice() {
+        let number = session.machine().error_number();
+        text.number_field(b"error", u64::from(number))?;
     }
-    text.open_field(b"expect", Bracket::Object)?;
-    text.name(b"pass")?;
-    text.word(b"false")?;
-    // `fail line 9: R0 is 00000004`
-    let (_front, behind) = cut(parts.answer, b':');
-    let reason = match behind {
-        Some([b' ', rest @ .., b'\n']) => rest,
-        _ => b"",
-    };
-    text.string_field(b"is", reason)?;
-    text.close(Bracket::Object)
+    Ok(())
 }
 
 // The first word of a line.
 fn first_word(bytes: &[u8]) -> &[u8] {
     let (word, _rest) = cut(bytes, b' ');
-    match word {
-        [front @ .., b'\n'] => front,
-        _ => word,
-    }
+    without_end(word)
 }

@@ -1,7 +1,7 @@
 //! How many lines of a script passed, failed and were refused.
 
 ghost use Rattle.std.specs.Prelude.{◌≡◌, []};
-ghost use Rattle.debug_records.specs.Records.{line_counts};
+ghost use Rattle.debug_records.specs.AnswerHeads.{line_counts};
 ghost use Rattle.debug_session.specs.Session.{debug_state};
 
 use debug_session::DebugSession;

@@ -1,12 +1,15 @@
 //! How the records of a script begin and end.
 
-ghost use Rattle.std.specs.Prelude.{◌≡◌, ◌++◌, [], true, false, codes, IfOk, OnOk};
-ghost use Rattle.debug_records.specs.Records.{HasFirstRecord, HasLastRecord, last_record, record_sizes, first_record};
-ghost use Rattle.profile.specs.text_sink.Safe.{AddsSafe};
+ghost use Rattle.std.specs.Prelude.{◌≡◌, ◌++◌, List, [], true, false, codes, IfOk, OnOk};
+ghost use Rattle.image_loader.specs.Entries.{Entry};
+ghost use Rattle.debug_records.specs.LineRecords.{Adds, IsRecord};
+ghost use Rattle.debug_records.specs.Records.{IsLastRecord, first_head, last_record, record_sizes};
+ghost use Rattle.debug_session.specs.Session.{debug_state};
 ghost use Rattle.trace_effects.specs.record_text.Spelling.{comma_before};
 
 use crate::counts::LineCounts;
 use crate::recorder::Recorder;
+use crate::records::push_record;
 use command_shell::RunError;
 use debug_session::DebugSettings;
 use profile::{Config, Sink};
@@ -27,17 +30,14 @@ pub(crate) fn record_start<W: Sink>(
     name: &[u8],
     sink: &mut W,
 ) -> Result<(), RunError>
-    ensures begins { OnOk result
-        (HasFirstRecord setting.now name.now (W.contents sink.old) (W.contents sink.new)) }
-    ensures safe { OnOk result (AddsSafe (W.contents sink.old) (W.contents sink.new)) }
+    ensures { OnOk result (Adds (IsRecord (first_head setting.now name.now))
+        (W.contents sink.old) (W.contents sink.new)) }
 {
-    let mut text = RecordText::new(recorder.alloc);
-    push_setting(&mut text, setting, name)?;
-    push_records(sink, &text)?;
-    text.go_on();
-    push_state(&mut text, recorder.twin.machine())?;
-    end_record(&mut text)?;
-    push_records(sink, &text)?;
+    let mut head = RecordText::new(recorder.alloc);
+    push_setting(&mut head, setting, name)?;
+    let mut state = RecordText::new(recorder.alloc);
+    push_state(&mut state, recorder.session.machine())?;
+    push_record(sink, &head, &state)?;
     Ok(())
 }
 
@@ -49,9 +49,8 @@ fn push_setting(
 ) -> Result<(), AllocError>
     requires empty { text.old.bytes.items ≡ [] }
     requires first { text.old.follows ≡ false }
-    ensures { OnOk result (text.new.bytes.items ≡ first_record setting.now name.now) }
+    ensures { OnOk result (text.new.bytes.items ≡ first_head setting.now name.now) }
 {
-    text.open(Bracket::Object)?;
     text.number_field(b"start", VERSION)?;
     text.string_field(b"name", name)?;
     push_sizes(text, setting.config)?;
@@ -76,8 +75,9 @@ fn push_sizes(text: &mut RecordText, config: Config) -> Result<(), AllocError>
 /// Writes the last record: how many lines passed, failed and were refused, and the exit status, which it
 /// gives.
 pub(crate) fn record_end<W: Sink>(recorder: &Recorder, sink: &mut W) -> Result<u8, RunError>
-    ensures ends { IfOk result (λ status. HasLastRecord status (W.contents sink.old) (W.contents sink.new)) }
-    ensures safe { OnOk result (AddsSafe (W.contents sink.old) (W.contents sink.new)) }
+    ensures { (images : List Entry) → IfOk result (λ status.
+        Adds (IsLastRecord (debug_state recorder.now.session images) status)
+        (W.contents sink.old) (W.contents sink.new)) }
 {
     let mut text = RecordText::new(recorder.alloc);
     let status = recorder.session.status();
@@ -101,8 +101,8 @@ fn push_end(text: &mut RecordText, counts: LineCounts, status: u8) -> Result<(),
     Ok(())
 }
 
-/// Ends the object and the line of a record.
-pub(crate) fn end_record(text: &mut RecordText) -> Result<(), AllocError>
+// Ends the object and the line of a record.
+fn end_record(text: &mut RecordText) -> Result<(), AllocError>
     ensures { OnOk result (text.new.bytes.items ≡ text.old.bytes.items ++ codes "}\n") }
 {
     text.close(Bracket::Object)?;

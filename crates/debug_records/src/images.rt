@@ -1,7 +1,7 @@
 //! Images in records: what a block has made, with its labels and the lines of its bytes, and where
 //! images stand.
 
-use crate::recorder::Recorder;
+use crate::recorder::Twin;
 use assembler::{Labels, labels_of_lines};
 use assembler_text::naming::words::{after_word, is_end};
 use debug_session::DebugSession;
@@ -38,7 +38,7 @@ fn follow_images(known_images: &mut [KnownImage], session: &DebugSession) -> boo
     has_moved
 }
 
-impl Recorder {
+impl Twin {
     /// Takes in an image that was assembled.
     pub(crate) fn know(&mut self, name: &[u8]) -> Result<(), AllocError> {
         if self.known.iter().any(|known| known.name.as_slice() == name) {
@@ -49,12 +49,12 @@ impl Recorder {
         Ok(())
     }
 
-    /// Writes where images stand, if one stands elsewhere than it was told, by the session or by its twin.
-    pub(crate) fn push_places(&mut self, by_twin: bool) -> Result<(), AllocError> {
-        let has_moved = if by_twin {
-            follow_images(&mut self.known, &self.twin)
-        } else {
-            follow_images(&mut self.known, &self.session)
+    /// Writes where images stand, if one stands elsewhere than it was told: in the session, or else in the
+    /// twin.
+    pub(crate) fn push_places(&mut self, session: Option<&DebugSession>) -> Result<(), AllocError> {
+        let has_moved = match session {
+            Some(session) => follow_images(&mut self.known, session),
+            None => follow_images(&mut self.known, &self.session),
         };
         if !has_moved {
             return Ok(());

@@ -1,17 +1,33 @@
 //! One line of a script, recorded.
 
+ghost use Rattle.std.specs.Prelude.{◌≡◌, ◌<◌, ◌-◌, ◌++◌, false, true, take, List, Some, IfOk, OnOk, option_map, is_some, if◌then◌else◌};
+ghost use Rattle.image_loader.specs.Entries.{Entry};
+ghost use Rattle.command_shell_lines.specs.Blocks.{lines_in_block};
+ghost use Rattle.command_shell_lines.specs.Requests.{opens_block, request_of_command};
+ghost use Rattle.debug_lines.specs.DebugRequests.{Script, debug_opens_block};
+ghost use Rattle.debug_lines.specs.SteppingRequests.{stepping_in, stepping_request_of};
+ghost use Rattle.debug_records.specs.AnswerHeads.{is_block_use, is_remark_use, is_stepping_use};
+ghost use Rattle.debug_records.specs.AnsweredLines.{is_remark_request, limit_after, next_line, request_meant, state_behind, steps_asked, this_time, typed_line, words_read};
+ghost use Rattle.debug_records.specs.LineRecords.{Adds, AreRecorded, AreRecords, IsOfForm, Whole, block_field, line_forms, line_head, strings_text};
+ghost use Rattle.debug_records.specs.Recording.{recording_state};
+ghost use Rattle.debug_session.specs.Session.{debug_state};
+
 use crate::answers::AnswerParts;
 use crate::counts::LineCounts;
-use crate::recorder::Recorder;
+use crate::recorder::{Recorder, Twin};
+use crate::records::{line_head, push_whole};
 use command_shell::RunError;
 use command_shell_lines::{ScriptCommand, command_of, skip_block};
 use debug_lines::{
-    DebugCommand, ModeCommand, SteppingCommand, is_script_line, simple_command, stepping_in, tidied,
+    DebugCommand, ModeCommand, SteppingCommand, is_script_command, is_script_line, simple_command,
+    stepping_in, tidied,
 };
+use debug_session::DebugSession;
+use profile::Sink;
 use profile::text_lines::Lines;
 use profile::text_sink::TextSink;
-use std::alloc::AllocError;
-use trace_effects::record_text::Bracket;
+use std::alloc::{AllocError, Global};
+use trace_effects::record_text::{Bracket, RecordText};
 
 /// What a line asks for, as far as records tell lines apart.
 #[derive(Clone, Copy, Debug)]
@@ -22,8 +38,6 @@ pub(crate) enum LineUse<'a> {
     Steps,
     /// A block, of which an image is made.
     Block(&'a [u8], Option<u32>),
-    /// How many steps of a line are shown one by one.
-    Limit(u32),
     /// A fresh machine.
     Reset,
     /// Anything else.
@@ -31,35 +45,57 @@ pub(crate) enum LineUse<'a> {
 }
 
 impl LineUse<'_> {
-    fn opens_block(&self) -> bool {
+    /// Whether nothing is asked for.
+    pub(crate) fn is_remark(&self) -> bool
+        ensures { result ≡ is_remark_use self.now }
+    {
+        matches!(self, LineUse::Remark)
+    }
+
+    fn opens_block(&self) -> bool
+        ensures { result ≡ is_block_use self.now }
+    {
         matches!(self, LineUse::Block(_, _))
     }
 }
 
 // What a tidy line asks for, or one of a script as it stands.
-fn use_of(words: &[u8]) -> LineUse<'_> {
+fn use_of(words: &[u8]) -> LineUse<'_>
+    ensures remark { is_remark_use result ≡ is_remark_request (request_meant words.now) }
+    ensures stepping { is_stepping_use result ≡ is_some (steps_asked (request_meant words.now)) }
+    ensures block { is_block_use result ≡ debug_opens_block (request_meant words.now) }
+{
     let command = command_of(words);
-    if !matches!(command, ScriptCommand::Unknown) {
+    if is_script_command(&command) {
         return use_of_script(&command);
     }
     match simple_command(words) {
         DebugCommand::Script(command) => use_of_script(&command),
         DebugCommand::Stepping(_, _) => LineUse::Steps,
-        DebugCommand::Mode(ModeCommand::TraceLimit(limit)) => LineUse::Limit(limit),
         DebugCommand::Remark => LineUse::Remark,
         DebugCommand::Reset => LineUse::Reset,
         _ => LineUse::Other,
     }
 }
 
-fn use_of_script<'a>(command: &ScriptCommand<'a>) -> LineUse<'a> {
+fn use_of_script<'a>(command: &ScriptCommand<'a>) -> LineUse<'a>
+    ensures remark { is_remark_use result
+        ≡ is_remark_request (Script (request_of_command command.now)) }
+    ensures stepping { is_stepping_use result ≡ is_some (stepping_in (request_of_command command.now)) }
+    ensures block { is_block_use result ≡ opens_block (request_of_command command.now) }
+{
     match stepping_in(command) {
         Some(_steps) => LineUse::Steps,
         None => use_without_steps(command),
     }
 }
 
-fn use_without_steps<'a>(command: &ScriptCommand<'a>) -> LineUse<'a> {
+fn use_without_steps<'a>(command: &ScriptCommand<'a>) -> LineUse<'a>
+    ensures remark { is_remark_use result
+        ≡ is_remark_request (Script (request_of_command command.now)) }
+    ensures stepping { is_stepping_use result ≡ false }
+    ensures block { is_block_use result ≡ opens_block (request_of_command command.now) }
+{
     match *command {
         ScriptCommand::Nothing => LineUse::Remark,
         ScriptCommand::Asm(name, origin) => LineUse::Block(name, Some(origin.address())),
@@ -69,9 +105,11 @@ fn use_without_steps<'a>(command: &ScriptCommand<'a>) -> LineUse<'a> {
 }
 
 // The steps that such a line asks for, if it asks for any.
-fn steps_of(words: &[u8]) -> Option<SteppingCommand<'_>> {
+fn steps_of(words: &[u8]) -> Option<SteppingCommand<'_>>
+    ensures { option_map stepping_request_of result ≡ steps_asked (request_meant words.now) }
+{
     let command = command_of(words);
-    if !matches!(command, ScriptCommand::Unknown) {
+    if is_script_command(&command) {
         return stepping_in(&command);
     }
     match simple_command(words) {
@@ -81,120 +119,205 @@ fn steps_of(words: &[u8]) -> Option<SteppingCommand<'_>> {
     }
 }
 
+// How many steps of a line are shown one by one behind such a line.
+fn limit_after(words: &[u8], limit: u64) -> u64
+    ensures { result ≡ limit_after (request_meant words.now) limit }
+{
+    if is_script_line(words) {
+        return limit;
+    }
+    match simple_command(words) {
+        DebugCommand::Mode(ModeCommand::TraceLimit(most)) => u64::from(most),
+        _ => limit,
+    }
+}
+
+// How many steps a line took that was answered last.
+fn steps_taken(session: &DebugSession, command: &Option<SteppingCommand<'_>>) -> u64
+    ensures { (images : List Entry)
+        → result ≡ (if is_some command.now then (debug_state session.now images).steps else 0) }
+{
+    match command {
+        Some(_command) => session.steps(),
+        None => 0,
+    }
+}
+
 impl Recorder {
-    /// Records the next line of a script, if there is one, and answers whether there was.
-    pub(crate) fn next_line(&mut self, script: &mut Lines) -> Result<bool, RunError> {
-        let Some(line) = script.next_line() else {
-            return Ok(false);
-        };
+    /// Records a line as it was typed, each time that it is answered.
+    pub(crate) fn record_typed<W: Sink>(
+        &mut self,
+        line: &[u8],
+        script: &mut Lines,
+        sink: &mut W,
+    ) -> Result<(), RunError>
+        ensures { let before = recording_state self.old script.old in
+            let after = recording_state self.new script.new in
+            OnOk result (Adds (AreRecorded before.debug (Some (typed_line line.now before)) after.debug
+            (next_line after)) (W.contents sink.old) (W.contents sink.new)) }
+    {
         if is_script_line(line) {
-            self.record_line(line, line, None, script)?;
-            return Ok(true);
+            self.record_line(line, line, None, script, sink)?;
+            return Ok(());
         }
         let words = tidied(self.alloc, line)?;
         match self.session.repeated(words.as_slice())? {
-            None => self.record_line(line, words.as_slice(), None, script)?,
+            None => {
+                self.record_line(line, words.as_slice(), None, script, sink)?;
+                Ok(())
+            }
             Some(repeated) => {
-                for time in 0..repeated.count {
-                    if self.session.has_quit() {
-                        break;
-                    }
-                    self.record_line(line, repeated.line, Some(time), script)?;
-                }
+                self.record_repeated(line, repeated.line, repeated.count, script, sink)?;
+                Ok(())
             }
         }
-        Ok(true)
+    }
+
+    // Records a line that is answered so many times, once at least, or until one of them is QUIT.
+    fn record_repeated<W: Sink>(
+        &mut self,
+        line: &[u8],
+        words: &[u8],
+        count: u32,
+        script: &mut Lines,
+        sink: &mut W,
+    ) -> Result<(), RunError>
+        requires { 0 < count }
+        ensures { let before = recording_state self.old script.old in
+            let after = recording_state self.new script.new in
+            OnOk result (Adds (AreRecorded before.debug
+            (Some (this_time line.now words.now 0 count before)) after.debug (next_line after))
+            (W.contents sink.old) (W.contents sink.new)) }
+    {
+        for time in 0..count {
+            self.record_line(line, words, Some(time), script, sink)?;
+            if self.session.has_quit() {
+                return Ok(());
+            }
+        }
+        Ok(())
     }
 
     // Records a line that asks for what these words do.
-    fn record_line(
+    fn record_line<W: Sink>(
         &mut self,
         line: &[u8],
         words: &[u8],
         time: Option<u32>,
         script: &mut Lines,
-    ) -> Result<(), RunError> {
+        sink: &mut W,
+    ) -> Result<(), RunError>
+        ensures records { OnOk result (Adds (AreRecords (line_forms line.now words.now time
+            (recording_state self.old script.old))) (W.contents sink.old) (W.contents sink.new)) }
+        ensures state { OnOk result (recording_state self.new script.new
+            ≡ state_behind line.now words.now (recording_state self.old script.old)) }
+    {
         let number = script.number();
-        let meant = self.meant_words(line, words)?;
+        let meant = meant_words(&self.session, self.alloc, line, words)?;
         let used = use_of(meant.as_slice());
-        self.print_line(line, number, time, used.opens_block(), script)?;
+        let steps = steps_of(meant.as_slice());
         let block = script.again();
+        self.twin
+            .print_line(line, number, time, used.opens_block(), &block, sink)?;
         let counts = LineCounts::of(&self.session);
         let mut answer = TextSink::new(self.alloc);
         self.session
             .answer_line(&mut self.images, &mut answer, words, script)?;
-        let taken = self.record_taken(meant.as_slice())?;
+        let taken = steps_taken(&self.session, &steps);
+        self.twin
+            .record_steps(&self.session, &steps, self.steps, self.limit, taken, sink)?;
+        self.steps = self.steps.saturating_add(taken);
+        self.limit = limit_after(meant.as_slice(), self.limit);
         let parts = AnswerParts {
             number,
             counts,
             taken,
             answer: answer.bytes(),
         };
-        self.print_answer(&parts, &used, &block)?;
-        self.follow(&used, words, &block)
+        self.twin
+            .print_answer(&self.session, &self.images, &parts, &used, &block, sink)?;
+        self.twin.follow(&used, words, &block)?;
+        Ok(())
     }
+}
 
-    // Records the steps that a line has taken, and answers how many they are.
-    fn record_taken(&mut self, words: &[u8]) -> Result<u64, AllocError> {
-        let Some(command) = steps_of(words) else {
-            return Ok(0);
-        };
-        let taken = self.session.steps();
-        self.record_steps(&command, taken)?;
-        Ok(taken)
+// What a line is read as: one of a script as it stands, any other with numbers in place of the words
+// that name places.
+fn meant_words(
+    session: &DebugSession,
+    alloc: Global,
+    line: &[u8],
+    words: &[u8],
+) -> Result<Vec<u8>, AllocError>
+    ensures { (images : List Entry) → IfOk result (λ meant. meant.items
+        ≡ words_read (debug_state session.now images) line.now words.now) }
+{
+    if is_script_line(line) {
+        return Vec::from_slice(alloc, words);
     }
+    session.words_meant(alloc, words)
+}
 
-    // What a line is read as: one of a script as it stands, any other with numbers in place of the words
-    // that name places.
-    fn meant_words(&self, line: &[u8], words: &[u8]) -> Result<Vec<u8>, AllocError> {
-        if is_script_line(line) {
-            return Vec::from_slice(self.alloc, words);
-        }
-        self.session.words_meant(self.alloc, words)
-    }
-
+impl Twin {
     // The twin answers a line that takes no steps.
     fn follow(&mut self, used: &LineUse<'_>, words: &[u8], block: &Lines) -> Result<(), RunError> {
         if let LineUse::Steps = *used {
             return Ok(());
         }
-        if let LineUse::Limit(limit) = *used {
-            self.limit = u64::from(limit);
-        }
         let mut unseen = TextSink::new(self.alloc);
         let mut lines = block.again();
-        self.twin
-            .answer_line(&mut self.twin_images, &mut unseen, words, &mut lines)
+        self.session
+            .answer_line(&mut self.images, &mut unseen, words, &mut lines)
     }
 
-    // Makes the record of a line, with its block where it opens one.
-    fn print_line(
-        &mut self,
+    // Writes the record of a line, with its block where it opens one.
+    fn print_line<W: Sink>(
+        &self,
         line: &[u8],
         number: usize,
         time: Option<u32>,
         opens_block: bool,
         script: &Lines,
-    ) -> Result<(), AllocError> {
-        let text = &mut self.text;
-        text.open(Bracket::Object)?;
-        text.number_field(b"line", number as u64)?;
-        text.string_field(b"text", line)?;
-        if opens_block {
-            let mut rest = script.again();
-            let mut after = script.again();
-            skip_block(&mut after);
-            text.open_field(b"block", Bracket::List)?;
-            for _lines in number..after.number() {
-                if let Some(line) = rest.next_line() {
-                    text.string(line)?;
-                }
-            }
-            text.close(Bracket::List)?;
-        }
-        if let Some(time) = time {
-            text.number_field(b"repeat", u64::from(time) + 1)?;
-        }
-        self.end_record()
+        sink: &mut W,
+    ) -> Result<(), RunError>
+        ensures { OnOk result (Adds (IsOfForm (Whole (line_head number line.now time
+            ++ block_field opens_block (take (lines_in_block script.now.left) script.now.left))))
+            (W.contents sink.old) (W.contents sink.new)) }
+    {
+        let mut fields = line_head(self.alloc, number, line, time)?;
+        push_block(&mut fields, opens_block, script)?;
+        push_whole(sink, &fields)?;
+        Ok(())
     }
+}
+
+// The lines of a block, with the one that ends it, of a line that opens one.
+fn push_block(fields: &mut RecordText, opens_block: bool, script: &Lines) -> Result<(), AllocError>
+    requires { fields.old.follows ≡ true }
+    ensures { OnOk result (fields.new.bytes.items ≡ fields.old.bytes.items
+        ++ block_field opens_block (take (lines_in_block script.now.left) script.now.left)) }
+{
+    if !opens_block {
+        return Ok(());
+    }
+    let mut after = script.again();
+    skip_block(&mut after);
+    fields.open_field(b"block", Bracket::List)?;
+    push_lines(fields, script, after.number())?;
+    fields.close(Bracket::List)
+}
+
+// The lines up to the one of a number, and that one.
+fn push_lines(text: &mut RecordText, script: &Lines, last: usize) -> Result<(), AllocError>
+    ensures { OnOk result (text.new.bytes.items ≡ text.old.bytes.items
+        ++ strings_text text.old.follows (take (last - script.now.number) script.now.left)) }
+{
+    let mut rest = script.again();
+    for _count in script.number()..last {
+        let Some(line) = rest.next_line() else {
+            return Ok(());
+        };
+        text.string(line)?;
+    }
+    Ok(())
 }

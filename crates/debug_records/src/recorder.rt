@@ -1,15 +1,14 @@
 //! What a debugging script is recorded on.
 
-ghost use Rattle.std.specs.Prelude.{OnOk};
-ghost use Rattle.profile.specs.text_sink.Safe.{AddsSafe};
+ghost use Rattle.std.specs.Prelude.{◌≡◌, ℕ, List, IfOk};
+ghost use Rattle.debug_records.specs.Recording.{recording_start, recording_state};
 
-use crate::ends::{FIRST_LIMIT, end_record};
+use crate::ends::FIRST_LIMIT;
 use crate::images::KnownImage;
 use debug_session::{DebugSession, DebugSettings};
 use image_loader::Images;
-use profile::{Sink, WriteFault};
 use std::alloc::{AllocError, Global};
-use trace_effects::record_text::{RecordText, push_records};
+use trace_effects::record_text::RecordText;
 
 /// A debugging session whose lines are recorded.
 ///
@@ -20,14 +19,21 @@ pub struct Recorder {
     pub(crate) alloc: Global,
     pub(crate) session: DebugSession,
     pub(crate) images: Images,
-    pub(crate) twin: DebugSession,
-    pub(crate) twin_images: Images,
-    /// The record that is being made.
-    pub(crate) text: RecordText,
+    pub(crate) twin: Twin,
     /// How many steps of a line are shown one by one.
     pub(crate) limit: u64,
     /// How many steps were taken so far.
     pub(crate) steps: u64,
+}
+
+/// The session that takes steps one by one, and what is known of it.
+#[derive(Drop)]
+pub(crate) struct Twin {
+    pub(crate) alloc: Global,
+    pub(crate) session: DebugSession,
+    pub(crate) images: Images,
+    /// The fields of the record that is being made.
+    pub(crate) text: RecordText,
     pub(crate) known: Vec<KnownImage>,
 }
 
@@ -42,31 +48,28 @@ impl Recorder {
         setting: DebugSettings,
         images: Images,
         twin_images: Images,
-    ) -> Result<Recorder, AllocError> {
+    ) -> Result<Recorder, AllocError>
+        ensures { IfOk result (λ r. (script : List (List ℕ)) → recording_state r
+            (record { left = script; number = 0 }) ≡ recording_start setting images script) }
+    {
+        // The twin can't go back.
+        let own = DebugSettings {
+            keeps_past: false,
+            ..setting
+        };
         Ok(Recorder {
             alloc,
-            session: DebugSession::new(alloc, setting)?,
+            session: DebugSession::new(alloc, own)?,
             images,
-            twin: DebugSession::new(alloc, setting)?,
-            twin_images,
-            text: RecordText::new(alloc),
+            twin: Twin {
+                alloc,
+                session: DebugSession::new(alloc, own)?,
+                images: twin_images,
+                text: RecordText::new(alloc),
+                known: Vec::new(alloc),
+            },
             limit: FIRST_LIMIT,
             steps: 0,
-            known: Vec::new(alloc),
         })
     }
-
-    /// Ends the object and the line of a record.
-    pub(crate) fn end_record(&mut self) -> Result<(), AllocError> {
-        end_record(&mut self.text)
-    }
-}
-
-/// Writes the records that were made, and begins anew.
-pub(crate) fn hand_on<W: Sink>(recorder: &mut Recorder, sink: &mut W) -> Result<(), WriteFault>
-    ensures { OnOk result (AddsSafe (W.contents sink.old) (W.contents sink.new)) }
-{
-    push_records(sink, &recorder.text)?;
-    recorder.text.clear();
-    Ok(())
 }

@@ -1,11 +1,15 @@
 //! A whole script, recorded.
 
-ghost use Rattle.std.specs.Prelude.{IfOk, OnOk};
+ghost use Rattle.std.specs.Prelude.{List, IfOk, OnOk};
+ghost use Rattle.std.specs.Str.Lines.{lines};
+ghost use Rattle.debug_session.specs.Session.{debug_state};
+ghost use Rattle.debug_records.specs.LineRecords.{Adds, AreAllRecorded};
+ghost use Rattle.debug_records.specs.Recording.{recording_state};
 ghost use Rattle.debug_records.specs.Records.{HasAllRecords};
 ghost use Rattle.profile.specs.text_sink.Safe.{AddsSafe};
 
 use crate::ends::{record_end, record_start};
-use crate::recorder::{Recorder, hand_on};
+use crate::recorder::Recorder;
 use command_shell::RunError;
 use debug_session::DebugSettings;
 use image_loader::Images;
@@ -19,7 +23,7 @@ use std::alloc::Global;
 ///
 /// # Errors
 ///
-/// `WriteFault` and `Memory`, when a part of the records may stand written.
+/// `WriteFault`, `Memory` and `ScriptTooLong`, when a part of the records may stand written.
 pub fn record_script<W: Sink>(
     alloc: Global,
     setting: DebugSettings,
@@ -30,8 +34,8 @@ pub fn record_script<W: Sink>(
     sink: &mut W,
 ) -> Result<u8, RunError>
     ensures safe { OnOk result (AddsSafe (W.contents sink.old) (W.contents sink.new)) }
-    ensures whole { IfOk result (λ status.
-        HasAllRecords setting name.now status (W.contents sink.old) (W.contents sink.new)) }
+    ensures whole { IfOk result (λ status. HasAllRecords setting images name.now script.now status
+        (W.contents sink.old) (W.contents sink.new)) }
 {
     let mut recorder = Recorder::new(alloc, setting, images, twin_images)?;
     record_start(&recorder, &setting, name, sink)?;
@@ -46,27 +50,20 @@ fn record_lines<W: Sink>(
     script: &[u8],
     sink: &mut W,
 ) -> Result<(), RunError>
-    ensures { OnOk result (AddsSafe (W.contents sink.old) (W.contents sink.new)) }
+    ensures { OnOk result (Adds (AreAllRecorded
+        (recording_state recorder.old (record { left = lines script.now; number = 0 }))
+        (debug_state recorder.new.session recorder.new.images))
+        (W.contents sink.old) (W.contents sink.new)) }
 {
     let mut lines = Lines::new(script);
-    for _lines in 0..u64::MAX {
-        let goes_on = record_next(recorder, &mut lines, sink)?;
-        if !goes_on {
+    for _count in 0..u64::MAX {
+        if recorder.session.has_quit() {
             return Ok(());
         }
+        let Some(line) = lines.next_line() else {
+            return Ok(());
+        };
+        recorder.record_typed(line, &mut lines, sink)?;
     }
-    Ok(())
-}
-
-// Records the next line, and answers whether there was one.
-fn record_next<W: Sink>(
-    recorder: &mut Recorder,
-    lines: &mut Lines,
-    sink: &mut W,
-) -> Result<bool, RunError>
-    ensures { OnOk result (AddsSafe (W.contents sink.old) (W.contents sink.new)) }
-{
-    let goes_on = !recorder.session.has_quit() && recorder.next_line(lines)?;
-    hand_on(recorder, sink)?;
-    Ok(goes_on)
+    Err(RunError::ScriptTooLong)
 }

@@ -1,15 +1,18 @@
 //! The steps of a line, taken one by one by the twin.
 
-ghost use Rattle.std.specs.Prelude.{◌≡◌, ◌<◌, ◌%◌, ◌^◌};
+ghost use Rattle.std.specs.Prelude.{◌≡◌, ◌<◌, ◌-◌, ◌%◌, ◌^◌, OnOk};
+ghost use Rattle.debug_records.specs.AnsweredLines.{step_number};
+ghost use Rattle.debug_records.specs.LineRecords.{Adds, AreRecords, IsRecord, each_step, skip_head, step_head, step_forms};
 
-use crate::recorder::Recorder;
-use command_shell::{OutsideCall, Session};
+use crate::recorder::Twin;
+use crate::records::{head_of, push_record, skip_head};
+use command_shell::{OutsideCall, RunError, Session};
 use debug_lines::SteppingCommand;
 use debug_session::{DebugSession, Stub};
 use image_loader::Images;
-use profile::WriteFault;
 use profile::memory_map::ADDRESS_LIMIT;
 use profile::text_sink::TextSink;
+use profile::{Sink, WriteFault};
 use std::alloc::{AllocError, Global};
 use trace_effects::changes::{REGISTERS, home_of};
 use trace_effects::shown_registers::WrittenRegisters;
@@ -21,33 +24,67 @@ const LINK: u32 = 14;
 /// The last word of the address space, to which a routine goes back.
 const ROUTINE_END: u32 = ADDRESS_LIMIT - 4;
 
-impl Recorder {
-    /// Records the steps that the session has taken in a line, so many.
-    pub(crate) fn record_steps(
+impl Twin {
+    /// Records the steps that the session has taken in a line, so many, where so many were taken before:
+    /// one by one up to the limit, and the rest as one.
+    pub(crate) fn record_steps<W: Sink>(
         &mut self,
-        command: &SteppingCommand<'_>,
+        session: &DebugSession,
+        command: &Option<SteppingCommand<'_>>,
+        before: u64,
+        limit: u64,
         taken: u64,
-    ) -> Result<(), AllocError> {
-        let most = taken.min(self.limit);
-        for index in 0..most {
-            let is_last = taken - index == 1;
-            self.record_step(command, index, is_last)?;
+        sink: &mut W,
+    ) -> Result<(), RunError>
+        ensures { OnOk result
+            (Adds (AreRecords (step_forms before limit taken)) (W.contents sink.old) (W.contents sink.new)) }
+    {
+        if limit < taken {
+            self.record_each(session, command, before, limit, taken, sink)?;
+            self.record_rest(session, command, before, limit, taken, sink)?;
+            return Ok(());
         }
-        if most < taken {
-            self.record_rest(command, most, taken - most)?;
+        self.record_each(session, command, before, taken, taken, sink)?;
+        Ok(())
+    }
+
+    // Records so many of the steps that a line has taken one by one.
+    fn record_each<W: Sink>(
+        &mut self,
+        session: &DebugSession,
+        command: &Option<SteppingCommand<'_>>,
+        before: u64,
+        count: u64,
+        taken: u64,
+        sink: &mut W,
+    ) -> Result<(), RunError>
+        ensures { OnOk result
+            (Adds (AreRecords (each_step before count)) (W.contents sink.old) (W.contents sink.new)) }
+    {
+        for index in 0..count {
+            let number = before.saturating_add(index + 1);
+            let is_last = index + 1 == taken;
+            self.record_step(session, command, number, index, is_last, sink)?;
         }
         Ok(())
     }
 
     // Records one step.
-    fn record_step(
+    fn record_step<W: Sink>(
         &mut self,
-        command: &SteppingCommand<'_>,
+        session: &DebugSession,
+        command: &Option<SteppingCommand<'_>>,
+        number: u64,
         index: u64,
         is_last: bool,
-    ) -> Result<(), AllocError> {
-        self.steps = self.steps.saturating_add(1);
-        let shown = *self.twin.machine().cpu();
+        sink: &mut W,
+    ) -> Result<(), RunError>
+        ensures { OnOk result
+            (Adds (IsRecord (step_head number)) (W.contents sink.old) (W.contents sink.new)) }
+    {
+        let head = head_of(self.alloc, b"step", number)?;
+        self.text.clear();
+        let shown = *self.session.machine().cpu();
         self.enter(command, index);
         let mut printed = TextSink::new(self.alloc);
         let (before, stub) = match outside_call(command, index) {
@@ -55,9 +92,9 @@ impl Recorder {
             None => self.begin_step(&mut printed)?,
         };
         if is_last {
-            settle(&mut self.twin.session, &self.session);
+            settle(&mut self.session.session, session);
         }
-        let machine = self.twin.machine();
+        let machine = self.session.machine();
         before.print_end(
             self.alloc,
             &mut self.text,
@@ -67,9 +104,10 @@ impl Recorder {
             printed.bytes(),
         )?;
         if before.may_move_images() {
-            self.push_places(true)?;
+            self.push_places(None)?;
         }
-        self.end_record()
+        push_record(sink, &head, &self.text)?;
+        Ok(())
     }
 
     // Begins the record of a step, and takes it.
@@ -77,15 +115,10 @@ impl Recorder {
         &mut self,
         printed: &mut TextSink,
     ) -> Result<(StepBefore, WrittenRegisters), AllocError> {
-        let stub = stub_ahead(&self.twin);
-        let before = StepBefore::step(
-            self.alloc,
-            &mut self.text,
-            self.twin.machine(),
-            self.steps,
-            stub.is_some(),
-        )?;
-        take_step(&mut self.twin, &self.twin_images, printed)?;
+        let stub = stub_ahead(&self.session);
+        let machine = self.session.machine();
+        let before = StepBefore::step(self.alloc, &mut self.text, machine, stub.is_some())?;
+        take_step(&mut self.session, &self.images, printed)?;
         Ok((before, stub.unwrap_or(WrittenRegisters::new())))
     }
 
@@ -95,76 +128,76 @@ impl Recorder {
         call: OutsideCall<'_>,
         printed: &mut TextSink,
     ) -> Result<(StepBefore, WrittenRegisters), AllocError> {
-        let before = self.call_before(call)?;
-        make_call(&mut self.twin, &self.twin_images, printed, call)?;
+        let machine = self.session.machine();
+        let text = &mut self.text;
+        let before = match call {
+            OutsideCall::Swi(number) => StepBefore::call(self.alloc, text, machine, number)?,
+            OutsideCall::Load(words) => StepBefore::load(self.alloc, text, machine, words)?,
+        };
+        make_call(&mut self.session, &self.images, printed, call)?;
         Ok((before, WrittenRegisters::new()))
     }
 
-    fn call_before(&mut self, call: OutsideCall<'_>) -> Result<StepBefore, AllocError> {
-        let machine = self.twin.machine();
-        let text = &mut self.text;
-        match call {
-            OutsideCall::Swi(number) => {
-                StepBefore::call(self.alloc, text, machine, self.steps, number)
-            }
-            OutsideCall::Load(words) => {
-                StepBefore::load(self.alloc, text, machine, self.steps, words)
-            }
-        }
-    }
-
-    // Records so many steps more as one.
-    fn record_rest(
+    // Records the steps that a line has taken past the limit as one.
+    fn record_rest<W: Sink>(
         &mut self,
-        command: &SteppingCommand<'_>,
-        index: u64,
-        count: u64,
-    ) -> Result<(), AllocError> {
-        self.steps = self.steps.saturating_add(count);
-        let shown = *self.twin.machine().cpu();
-        self.enter(command, index);
-        let before = MachineCopy::of(self.alloc, self.twin.machine())?;
+        session: &DebugSession,
+        command: &Option<SteppingCommand<'_>>,
+        before: u64,
+        limit: u64,
+        taken: u64,
+        sink: &mut W,
+    ) -> Result<(), RunError>
+        requires { limit < taken }
+        ensures { OnOk result (Adds (IsRecord (skip_head (step_number before taken) (taken - limit)))
+            (W.contents sink.old) (W.contents sink.new)) }
+    {
+        let last = before.saturating_add(taken);
+        let head = skip_head(self.alloc, last, taken - limit)?;
+        self.text.clear();
+        let shown = *self.session.machine().cpu();
+        self.enter(command, limit);
+        let copy = MachineCopy::of(self.alloc, self.session.machine())?;
         let mut printed = TextSink::new(self.alloc);
-        let mut left = count;
-        if let Some(call) = outside_call(command, index) {
-            make_call(&mut self.twin, &self.twin_images, &mut printed, call)?;
+        let mut left = taken - limit;
+        if let Some(call) = outside_call(command, limit) {
+            make_call(&mut self.session, &self.images, &mut printed, call)?;
             left = left.saturating_sub(1);
         }
-        take_steps(&mut self.twin, &self.twin_images, &mut printed, left)?;
-        settle(&mut self.twin.session, &self.session);
+        take_steps(&mut self.session, &self.images, &mut printed, left)?;
+        settle(&mut self.session.session, session);
         push_skip(
             self.alloc,
             &mut self.text,
-            self.steps,
-            count,
-            &before,
+            &copy,
             &shown,
-            self.twin.machine(),
+            self.session.machine(),
             printed.bytes(),
         )?;
-        self.push_places(true)?;
-        self.end_record()
+        self.push_places(None)?;
+        push_record(sink, &head, &self.text)?;
+        Ok(())
     }
 
     // The twin stands at the routine that a line calls, before the first of its steps.
-    fn enter(&mut self, command: &SteppingCommand<'_>, index: u64) {
+    fn enter(&mut self, command: &Option<SteppingCommand<'_>>, index: u64) {
         if index > 0 {
             return;
         }
-        if let SteppingCommand::Gosub(address) = command {
-            enter_routine(&mut self.twin.session, address.address());
+        if let Some(SteppingCommand::Gosub(address)) = command {
+            enter_routine(&mut self.session.session, address.address());
         }
     }
 }
 
 // The call from outside that the step of a number in a line is, if it is one.
-fn outside_call<'a>(command: &SteppingCommand<'a>, index: u64) -> Option<OutsideCall<'a>> {
+fn outside_call<'a>(command: &Option<SteppingCommand<'a>>, index: u64) -> Option<OutsideCall<'a>> {
     if index > 0 {
         return None;
     }
     match command {
-        SteppingCommand::Call(number) => Some(OutsideCall::Swi(*number)),
-        SteppingCommand::Load(words) => Some(OutsideCall::Load(*words)),
+        Some(SteppingCommand::Call(number)) => Some(OutsideCall::Swi(*number)),
+        Some(SteppingCommand::Load(words)) => Some(OutsideCall::Load(*words)),
         _ => None,
     }
 }

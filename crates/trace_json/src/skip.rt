@@ -8,10 +8,10 @@ use crate::stops::{push_stop, stop_reason};
 use arm_core::Cpu;
 use std::alloc::{AllocError, Global};
 use swi_dispatch::Machine;
-use trace_effects::record_text::{Bracket, RecordText};
+use trace_effects::record_text::RecordText;
 use trace_effects::shown_registers::WrittenRegisters;
 
-/// Begins the record of so many steps that aren't shown one by one, and writes what they left; but for
+/// Writes the fields of steps that aren't shown one by one behind their number: what they left, but for
 /// where images stand.
 ///
 /// # Errors
@@ -20,16 +20,11 @@ use trace_effects::shown_registers::WrittenRegisters;
 pub fn push_skip(
     alloc: Global,
     text: &mut RecordText,
-    last: u64,
-    count: u64,
     before: &MachineCopy,
     reported: &Cpu,
     machine: &Machine,
     printed: &[u8],
 ) -> Result<(), AllocError> {
-    text.open(Bracket::Object)?;
-    text.number_field(b"step", last)?;
-    text.number_field(b"skip", count)?;
     let none = WrittenRegisters::new();
     push_core_changes(text, reported, machine.cpu(), &none, b"next", reported.pc())?;
     push_changed_words(alloc, text, before, machine)?;

@@ -14,7 +14,7 @@ use profile::{HexText, Stop, SwiName};
 use std::alloc::{AllocError, Global};
 use swi_dispatch::{Machine, without_x_bit};
 use trace_effects::changes::following_word;
-use trace_effects::record_text::{Bracket, RecordText};
+use trace_effects::record_text::RecordText;
 use trace_effects::shown_registers::WrittenRegisters;
 use trace_effects::shown_words::ShownWord;
 use trace_effects::{Cause, called_swi, stored_words};
@@ -49,7 +49,7 @@ pub struct StepBefore {
 }
 
 impl StepBefore {
-    /// Begins the record of the step that comes next, and keeps what it may change.
+    /// Begins the fields of the step that comes next behind its number, and keeps what it may change.
     ///
     /// # Errors
     ///
@@ -58,7 +58,6 @@ impl StepBefore {
         alloc: Global,
         text: &mut RecordText,
         machine: &Machine,
-        number: u64,
         is_stubbed: bool,
     ) -> Result<StepBefore, AllocError> {
         let cpu = machine.cpu();
@@ -68,8 +67,6 @@ impl StepBefore {
         } else {
             kind_of(cause)
         };
-        text.open(Bracket::Object)?;
-        text.number_field(b"step", number)?;
         push_place(alloc, text, cpu.pc(), cause)?;
         push_kind(text, machine, kind, cause)?;
         StepBefore::keeping(alloc, machine, kind, cause)
@@ -84,12 +81,9 @@ impl StepBefore {
         alloc: Global,
         text: &mut RecordText,
         machine: &Machine,
-        number: u64,
         swi: u32,
     ) -> Result<StepBefore, AllocError> {
         let called = without_x_bit(swi % (1 << 24));
-        text.open(Bracket::Object)?;
-        text.number_field(b"step", number)?;
         text.name(b"call")?;
         text.open_string()?;
         push_characters(text, b"CALL &")?;
@@ -108,11 +102,8 @@ impl StepBefore {
         alloc: Global,
         text: &mut RecordText,
         machine: &Machine,
-        number: u64,
         words: &[u8],
     ) -> Result<StepBefore, AllocError> {
-        text.open(Bracket::Object)?;
-        text.number_field(b"step", number)?;
         text.name(b"call")?;
         text.open_string()?;
         push_characters(text, b"LOAD ")?;
@@ -148,7 +139,7 @@ impl StepBefore {
         })
     }
 
-    /// Ends the record, by the machine after the step, what the step printed, and the registers that
+    /// Ends the fields, by the machine after the step, what the step printed, and the registers that
     /// were shown so far; but for where images stand. A stub has written these registers.
     ///
     /// # Errors

@@ -1,16 +1,15 @@
 -- What is pushed, one part behind another.
-use Rattle.std.proofs.Common.{ℕ, List, ◌++◌, ◌∙◌, ap}
+use Rattle.std.proofs.Common.{◌++◌}
 use Rattle.std.specs.Prelude.{codes}
 use Rattle.std.specs.Fmt.{decimal}
 use Rattle.trace_effects.specs.record_text.Spelling.{string_text}
 use Rattle.debug_records.specs.Records.{record_sizes}
-use Rattle.debug_records.proofs.RecordLemmas.{first_field, next_field, opened, last_field}
+use Rattle.debug_records.proofs.RecordLemmas.{next_field, opened, last_field}
 use Rattle.debug_records.proofs.ends.push_setting.Goals as goal
 
 pub returns : goal.returns
 returns c =
     let setting = c.args.setting.now in
-    let opening = c.open.new.self in
     let start = c.number_field.new.self in
     let name = c.string_field.new.self in
     let sizes = c.push_sizes.new.text in
@@ -24,10 +23,8 @@ returns c =
     let behind_sizes = codes "," ++ (budget_text ++ (codes "," ++ limit_text)) in
     let behind_name = codes "," ++ (sizes_text ++ behind_sizes) in
     let behind_start = codes "," ++ (name_text ++ behind_name) in
-    opened c.args.text.now.bytes.items opening.bytes.items all (codes "{") (start_text ++ behind_start) c.args.text.now.follows
-    c.requires.empty c.requires.first c.in_ok-open.ensures.text
-    (first_field opening.bytes.items start.bytes.items all start_text behind_start opening.follows
-    c.in_ok-open.ensures.follows c.in_ok-number_field.ensures.text
+    opened c.args.text.now.bytes.items start.bytes.items all start_text behind_start c.args.text.now.follows
+    c.requires.empty c.requires.first c.in_ok-number_field.ensures.text
     (next_field start.bytes.items name.bytes.items all name_text behind_name start.follows
     c.in_ok-number_field.ensures.follows c.in_ok-string_field.ensures.text
     (next_field name.bytes.items sizes.bytes.items all sizes_text behind_sizes name.follows
@@ -35,4 +32,4 @@ returns c =
     (next_field sizes.bytes.items budget.bytes.items all budget_text (codes "," ++ limit_text) sizes.follows
     c.in_ok-push_sizes.ensures.follows c.in_ok-number_field-2.ensures.text
     (last_field budget.bytes.items all limit_text budget.follows
-    c.in_ok-number_field-2.ensures.follows c.in_ok-number_field-3.ensures.text)))))
+    c.in_ok-number_field-2.ensures.follows c.in_ok-number_field-3.ensures.text))))

@@ -1,0 +1,192 @@
+//! What the record of an answer begins with.
+
+ghost use Rattle.std.specs.Prelude.{◌≡◌, ◌==◌, ◌++◌, List, true, codes, IfOk, OnOk};
+ghost use Rattle.std.specs.List.{position};
+ghost use Rattle.trace_effects.specs.record_text.Spelling.{string_text};
+ghost use Rattle.image_loader.specs.Entries.{Entry};
+ghost use Rattle.debug_session.specs.Session.{debug_state};
+ghost use Rattle.debug_records.specs.AnswerHeads.{answer_fields, answer_head, expect_field, is_remark_use, is_stepping_use, reason_from, reason_in, refused_field, steps_field, text_field, without_end};
+
+use crate::answers::AnswerParts;
+use crate::counts::LineCounts;
+use crate::lines::LineUse;
+use crate::records::head_of;
+use debug_session::DebugSession;
+use std::alloc::{AllocError, Global};
+use trace_effects::record_text::{Bracket, RecordText};
+
+/// The line's number, and what the line was answered.
+pub(crate) fn answer_head(
+    alloc: Global,
+    session: &DebugSession,
+    parts: &AnswerParts<'_>,
+    used: &LineUse<'_>,
+) -> Result<RecordText, AllocError>
+    ensures { (held : List Entry) → IfOk result (λ head. head.bytes.items
+        ≡ answer_head parts.now.number (answer_fields (is_remark_use used.now) (is_stepping_use used.now)
+        parts.now.taken parts.now.counts (debug_state session.now held) parts.now.answer.now)) }
+{
+    let mut head = head_of(alloc, b"answer", parts.number as u64)?;
+    push_answer(&mut head, session, parts, used)?;
+    Ok(head)
+}
+
+fn push_answer(
+    head: &mut RecordText,
+    session: &DebugSession,
+    parts: &AnswerParts<'_>,
+    used: &LineUse<'_>,
+) -> Result<(), AllocError>
+    requires { head.old.follows ≡ true }
+    ensures { (held : List Entry) → OnOk result (head.new.bytes.items ≡ head.old.bytes.items
+        ++ answer_fields (is_remark_use used.now) (is_stepping_use used.now) parts.now.taken
+        parts.now.counts (debug_state session.now held) parts.now.answer.now) }
+{
+    match *used {
+        LineUse::Remark => head.truth_field(b"remark"),
+        LineUse::Steps => push_stepped(head, parts.taken, session.answer()),
+        _ => push_plain(head, parts, LineCounts::of(session)),
+    }
+}
+
+// How many steps a line took, and how they ended.
+fn push_stepped(head: &mut RecordText, taken: u64, answer: &[u8]) -> Result<(), AllocError>
+    requires { head.old.follows ≡ true }
+    ensures { OnOk result (head.new.bytes.items
+        ≡ head.old.bytes.items ++ (steps_field taken ++ text_field answer.now)) }
+{
+    push_steps(head, taken)?;
+    push_text(head, answer)
+}
+
+fn push_steps(head: &mut RecordText, taken: u64) -> Result<(), AllocError>
+    requires { head.old.follows ≡ true }
+    ensures text { OnOk result (head.new.bytes.items ≡ head.old.bytes.items ++ steps_field taken) }
+    ensures follows { OnOk result (head.new.follows ≡ true) }
+{
+    if taken > 0 {
+        return head.number_field(b"steps", taken);
+    }
+    Ok(())
+}
+
+// What a line is answered that takes no steps.
+fn push_plain(
+    head: &mut RecordText,
+    parts: &AnswerParts<'_>,
+    counts: LineCounts,
+) -> Result<(), AllocError>
+    requires { head.old.follows ≡ true }
+    ensures { OnOk result (head.new.bytes.items ≡ head.old.bytes.items
+        ++ (text_field parts.now.answer.now ++ (refused_field parts.now.counts counts
+        ++ expect_field parts.now.counts counts parts.now.answer.now))) }
+{
+    push_text(head, parts.answer)?;
+    push_refused(head, parts.counts, counts)?;
+    push_verdict(head, parts, counts)
+}
+
+// A text without the end of its last line, if there is one.
+fn push_text(head: &mut RecordText, bytes: &[u8]) -> Result<(), AllocError>
+    requires { head.old.follows ≡ true }
+    ensures text { OnOk result (head.new.bytes.items ≡ head.old.bytes.items ++ text_field bytes.now) }
+    ensures follows { OnOk result (head.new.follows ≡ true) }
+{
+    let whole = without_end(bytes);
+    if whole.is_empty() {
+        return Ok(());
+    }
+    head.string_field(b"text", whole)
+}
+
+/// A text without the end of its line.
+pub(crate) fn without_end(text: &[u8]) -> &[u8]
+    ensures { result.now ≡ without_end text.now }
+{
+    match text {
+        [front @ .., b'\n'] => front,
+        _ => text,
+    }
+}
+
+// Whether more lines are refused than before.
+fn push_refused(
+    head: &mut RecordText,
+    before: LineCounts,
+    after: LineCounts,
+) -> Result<(), AllocError>
+    requires { head.old.follows ≡ true }
+    ensures text { OnOk result (head.new.bytes.items ≡ head.old.bytes.items ++ refused_field before after) }
+    ensures follows { OnOk result (head.new.follows ≡ true) }
+{
+    if before.refused < after.refused {
+        return head.truth_field(b"refused");
+    }
+    Ok(())
+}
+
+// Whether what a line expects is so, and what is so if not.
+fn push_verdict(
+    head: &mut RecordText,
+    parts: &AnswerParts<'_>,
+    counts: LineCounts,
+) -> Result<(), AllocError>
+    requires { head.old.follows ≡ true }
+    ensures { OnOk result (head.new.bytes.items ≡ head.old.bytes.items
+        ++ expect_field parts.now.counts counts parts.now.answer.now) }
+{
+    if parts.counts.passed < counts.passed {
+        return push_pass(head);
+    }
+    if parts.counts.failed == counts.failed {
+        return Ok(());
+    }
+    push_fail(head, reason_in(parts.answer))
+}
+
+fn push_pass(head: &mut RecordText) -> Result<(), AllocError>
+    requires { head.old.follows ≡ true }
+    ensures { OnOk result (head.new.bytes.items
+        ≡ head.old.bytes.items ++ codes ",\"expect\":{\"pass\":true}") }
+{
+    head.open_field(b"expect", Bracket::Object)?;
+    head.truth_field(b"pass")?;
+    head.close(Bracket::Object)
+}
+
+fn push_fail(head: &mut RecordText, reason: &[u8]) -> Result<(), AllocError>
+    requires { head.old.follows ≡ true }
+    ensures { OnOk result (head.new.bytes.items ≡ head.old.bytes.items
+        ++ (codes ",\"expect\":{\"pass\":false,\"is\":" ++ (string_text reason.now ++ codes "}"))) }
+{
+    head.open_field(b"expect", Bracket::Object)?;
+    head.name(b"pass")?;
+    head.word(b"false")?;
+    head.string_field(b"is", reason)?;
+    head.close(Bracket::Object)
+}
+
+// What stands behind the first colon and a space, up to the end of the line.
+fn reason_in(answer: &[u8]) -> &[u8]
+    ensures { result.now ≡ reason_in answer.now }
+{
+    match colon_in(answer) {
+        Some(place) => reason_from(&answer[place + 1..]),
+        None => b"",
+    }
+}
+
+fn colon_in(text: &[u8]) -> Option<usize>
+    ensures { result ≡ position (λ b. b == 58) text.now }
+{
+    text.iter().position(|byte| *byte == b':')
+}
+
+fn reason_from(text: &[u8]) -> &[u8]
+    ensures { result.now ≡ reason_from text.now }
+{
+    match text {
+        [b' ', reason @ .., b'\n'] => reason,
+        _ => b"",
+    }
+}
