@@ -1,5 +1,7 @@
+pub mod BackLemmas
 pub mod EscapeLemmas
 pub mod MemoryLemmas
+pub mod PacketLemmas
 pub mod RegisterLemmas
 pub mod WatchLemmas
 pub mod WriteLemmas

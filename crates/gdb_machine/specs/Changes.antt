@@ -8,7 +8,7 @@ use Rattle.arm_core.specs.Psr.{mode_of}
 use Rattle.arm_core.specs.State.{State, with_psr, with_register, with_register_in}
 use Rattle.gdb_machine.specs.declared.changes.RegisterWrite.{RegisterWrite}
 use Rattle.gdb_machine.specs.declared.changes.RegisterWrite.TheVariants as change
-use Rattle.gdb_machine.specs.Registers.{register_bank, register_shown, status_word}
+use Rattle.gdb_machine.specs.Registers.{register_bank, status_word}
 
 -- the status in a word
 abbrev pub status_in : ℕ → Psr

@@ -1,5 +1,5 @@
 -- The target's description, shown by parts.
-use Rattle.std.specs.Prelude.{ℕ, ◌<◌, nat_lt, min, List, ◌∷◌, length, take, drop, if◌then◌else◌}
+use Rattle.std.specs.Prelude.{ℕ, nat_lt, min, List, ◌∷◌, length, take, drop, if◌then◌else◌}
 use Rattle.gdb_packets.specs.declared.requests.ByteRange.{ByteRange}
 use Rattle.gdb_machine.specs.declared.description.TheConstants.{DESCRIPTION}
 use Rattle.gdb_machine.specs.Memory.{most_shown}

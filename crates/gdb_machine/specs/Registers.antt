@@ -1,7 +1,7 @@
 -- The registers as GDB numbers them: R0 to R14 of the present mode, the program counter, the status,
 -- R15 as one word, and then those of all banks. The status is shown as a later processor has it in a
 -- mode of 26 bits: the flags in bits 31 to 28, I and F in bits 7 and 6, the mode in bits 1 and 0.
-use Rattle.std.specs.Prelude.{ℕ, zero, suc, ◌+◌, ◌-◌, ◌*◌, ◌^◌, ◌==◌, nat_lt, List, [], ◌++◌, Option, Some, None, codes, unwrap_or, if◌then◌else◌}
+use Rattle.std.specs.Prelude.{ℕ, zero, suc, ◌+◌, ◌-◌, ◌*◌, ◌^◌, ◌==◌, nat_lt, List, [], ◌++◌, Option, Some, None, codes, if◌then◌else◌}
 use Rattle.std.specs.Int.{from_bool, to_le_bytes, w32}
 use Rattle.hex.specs.Hex.{encode_lower}
 use Rattle.arm_core.specs.declared.psr.Mode.{Mode}

@@ -4,21 +4,32 @@
 //! Promise: registers and mapped bytes are those of the machine, in GDB's order.
 #![tactic(auto)]
 
+mod back_ends;
+mod change_packets;
 mod changes;
 mod description;
 mod escape;
+mod gdb_breaks;
 mod laws;
 mod libraries;
 mod memory;
 mod registers;
+mod step_ends;
 mod stops;
 mod watches;
 
+pub use back_ends::{BackEnd, changed_end, stood_end};
+pub use change_packets::{break_refusal, decoded, store_refusal, wanted_write, watch_refusal};
 pub use changes::{RegisterWrite, register_write};
 pub use description::description_part;
-pub use laws::register_writes_are_read;
+pub use gdb_breaks::GdbBreaks;
+pub use laws::{first_is_met_first, register_writes_are_read};
 pub use libraries::{libraries_part, library_lines};
 pub use memory::{known_bytes, memory_shown};
 pub use registers::{all_registers, one_register, register_shown};
+pub use step_ends::{
+    goes_on, is_interrupt, is_own_signal, last_stop, push_halted, stepped, struck_after,
+    was_library,
+};
 pub use stops::{GdbStop, Signal, signal_number_of, stop_packet};
 pub use watches::{SeenByte, Watch, WatchError, WatchKind, WatchedPlace, Watches, first_changed};

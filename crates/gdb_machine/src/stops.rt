@@ -2,7 +2,7 @@
 
 ghost use Rattle.std.specs.Prelude.{◌≡◌, ◌∷◌, [], IfOk};
 ghost use Rattle.hex.specs.Hex.{encode_lower};
-ghost use Rattle.gdb_machine.specs.Stops.{gone_text, first_registers_text, is_gone, reached_text, signal_number, signal_number_of as number_shown, signal_of, signal_of_fault as fault_shown, stop_packet as packet_shown, shown_value, watch_word};
+ghost use Rattle.gdb_machine.specs.Stops.{gone_text, first_registers_text, is_gone, reached_text, signal_number, signal_number_of as number_shown, signal_of, signal_of_fault as fault_shown, stop_packet as packet_shown, shown_value, watch_reached, watch_word};
 
 use crate::registers::{register_shown, word_digits};
 use crate::watches::{WatchKind, WatchedPlace};
@@ -64,6 +64,10 @@ pub enum GdbStop {
     Library,
     /// It was ended by the signal of its fault.
     Killed(Fault),
+    /// It went back over a step that had changed a byte of a watch.
+    WatchedBack(WatchedPlace),
+    /// It went back as far as the past of the machine is known.
+    Begin,
 }
 
 impl GdbStop {
@@ -80,6 +84,7 @@ impl GdbStop {
     {
         match self {
             GdbStop::Stepped | GdbStop::Watched(_) | GdbStop::Library => Some(Signal::Trap),
+            GdbStop::WatchedBack(_) | GdbStop::Begin => Some(Signal::Trap),
             GdbStop::Asked => Some(Signal::Interrupt),
             GdbStop::Ran(Stop::Break(_)) => Some(Signal::Trap),
             GdbStop::Ran(Stop::Budget) => Some(Signal::Steps),
@@ -140,21 +145,28 @@ fn gone_text(alloc: Global, why: GdbStop) -> Result<Vec<u8>, AllocError>
     Ok(text)
 }
 
-// What reached the program: a break, or a watch that was struck; or that other modules are there.
+// What reached the program: a break, a watch that was struck, or the beginning of what is known of its past;
+// or that other modules are there.
 fn reached(alloc: Global, why: GdbStop) -> Result<Vec<u8>, AllocError>
     ensures { IfOk result (λ text. text.items ≡ reached_text why) }
 {
     match why {
         GdbStop::Ran(Stop::Break(_)) => Vec::from_slice(alloc, b"swbreak:;"),
         GdbStop::Library => Vec::from_slice(alloc, b"library:;"),
-        GdbStop::Watched(place) => {
-            let mut text = Vec::from_slice(alloc, watch_word(place.kind))?;
-            text.extend_from_slice(encode(alloc, place.address.to_be_bytes())?.as_bytes())?;
-            text.extend_from_slice(b";")?;
-            Ok(text)
-        }
+        GdbStop::Begin => Vec::from_slice(alloc, b"replaylog:begin;"),
+        GdbStop::Watched(place) | GdbStop::WatchedBack(place) => watch_reached(alloc, place),
         _ => Ok(Vec::new(alloc)),
     }
+}
+
+// `watch:`, or what stands for its kind, and the address.
+fn watch_reached(alloc: Global, place: WatchedPlace) -> Result<Vec<u8>, AllocError>
+    ensures { IfOk result (λ text. text.items ≡ watch_reached place) }
+{
+    let mut text = Vec::from_slice(alloc, watch_word(place.kind))?;
+    text.extend_from_slice(encode(alloc, place.address.to_be_bytes())?.as_bytes())?;
+    text.extend_from_slice(b";")?;
+    Ok(text)
 }
 
 fn watch_word(kind: WatchKind) -> &'static [u8]

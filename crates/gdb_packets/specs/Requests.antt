@@ -30,7 +30,9 @@ pub data GdbRequest : Type 0 where
   Step : GdbRequest
   StepWith : ℕ → GdbRequest
   StepRange : PlaceRange → GdbRequest
-  -- `vCont?`
+  -- `bs`, a step back; `bc`, back as far as something stops it; `vCont?`
+  StepBack : GdbRequest
+  ContinueBack : GdbRequest
   Ways : GdbRequest
   -- `Z`, `z`: a kind, an address, and how many bytes
   AddPoint : PointKind → ByteRange → GdbRequest
@@ -50,15 +52,12 @@ pub data GdbRequest : Type 0 where
   Line : List ℕ → GdbRequest
   -- `F`: what the other side answers to a call, and whether it reports a Ctrl-C
   HostAnswer : Bool → GdbRequest
+  -- `D`; `k`, `vKill`; `!`; `R`, `vRun`
   Detach : GdbRequest
   Kill : GdbRequest
-  -- `vKill`
   KillProgram : GdbRequest
-  -- `!`
   Extended : GdbRequest
-  -- `R`
   Restart : GdbRequest
-  -- `vRun`
   RunProgram : GdbRequest
   Unknown : GdbRequest
 
@@ -128,12 +127,10 @@ abbrev pub set_register_numbered : Option ℕ → List ℕ → GdbRequest
 set_register_numbered None pairs = Unknown
 set_register_numbered (Some n) pairs = SetRegister n pairs
 
--- `n=v`
 abbrev pub set_register_request : Option PacketParts → GdbRequest
 set_register_request None = Unknown
 set_register_request (Some parts) = set_register_numbered (packet_number parts.before) parts.behind
 
--- `a,n:` and what is stored
 abbrev pub store_pairs_request : Option PacketParts → GdbRequest
 store_pairs_request None = Unknown
 store_pairs_request (Some parts) = of_range (byte_range_of parts.before)
@@ -159,7 +156,6 @@ point_of_kind (Some kind) (Some range) request = request kind range
 point_of_kind (Some kind) None request = Unknown
 point_of_kind None range request = Unknown
 
--- `kind,a,n`
 abbrev pub point_request : Option PacketParts → (PointKind → ByteRange → GdbRequest) → GdbRequest
 point_request None request = Unknown
 point_request (Some parts) request = point_of_kind (point_kind parts.before) (byte_range_of parts.behind)
@@ -232,13 +228,11 @@ host_answer_in (Some parts) text =
 abbrev pub host_answer_request : List ℕ → GdbRequest
 host_answer_request text = host_answer_in (parts_around 44 text) text
 
--- `g` or `c`, and a thread
 abbrev pub thread_request : List ℕ → GdbRequest
 thread_request [] = Unknown
 thread_request (letter ∷ thread) = if letter == 103 || letter == 99 then of_thread (thread_in thread) else
     Unknown
 
--- `;` and the number of a process
 abbrev pub is_process : List ℕ → Bool
 is_process [] = false
 is_process (mark ∷ number) = mark == 59 && is_some (packet_number number)
@@ -266,6 +260,12 @@ access_request letter rest =
     if letter == 90 then Some (point_request (parts_around 44 rest) AddPoint) else (
     if letter == 122 then Some (point_request (parts_around 44 rest) RemovePoint) else None)))))))
 
+-- `s` or `c` behind `b`
+abbrev pub back_request : List ℕ → GdbRequest
+back_request text =
+    if bytes_eq text (codes "s") then StepBack else (
+    if bytes_eq text (codes "c") then ContinueBack else Unknown)
+
 -- .. and of what the program does
 abbrev pub control_request : ℕ → List ℕ → GdbRequest
 control_request letter rest =
@@ -275,7 +275,8 @@ control_request letter rest =
     if letter == 84 then of_thread (thread_in rest) else (
     if letter == 70 then host_answer_request rest else (
     if letter == 68 then if_shown (is_process rest) Detach else (
-    if letter == 82 then if_shown (is_some (packet_number rest)) Restart else Unknown))))))
+    if letter == 82 then if_shown (is_some (packet_number rest)) Restart else (
+    if letter == 98 then back_request rest else Unknown)))))))
 
 abbrev pub first_shown : Option GdbRequest → GdbRequest → GdbRequest
 first_shown (Some reported) other = reported
@@ -374,6 +375,8 @@ gdb_request (request.ContinueWith signal) = ContinueWith signal
 gdb_request request.Step = Step
 gdb_request (request.StepWith signal) = StepWith signal
 gdb_request (request.StepRange places) = StepRange places
+gdb_request request.StepBack = StepBack
+gdb_request request.ContinueBack = ContinueBack
 gdb_request request.Ways = Ways
 gdb_request (request.AddPoint kind range) = AddPoint kind range
 gdb_request (request.RemovePoint kind range) = RemovePoint kind range

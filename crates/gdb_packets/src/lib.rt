@@ -6,7 +6,9 @@
 #![tactic(auto)]
 
 mod digits;
+mod fixed;
 mod frames;
+mod going;
 mod laws;
 mod numbers;
 mod parts;
@@ -15,7 +17,9 @@ pub mod request_laws;
 mod requests;
 mod words;
 
+pub use fixed::{fixed_reply, is_taken_so, keeps_acks, threads};
 pub use frames::push_packet;
+pub use going::{Going, has_left};
 pub use laws::packets_are_read;
 pub use reader::{FramePlace, MOST_PACKET, PacketReader, Piece};
 pub use requests::{ByteRange, PlaceRange, PointKind, Request, request_of};

@@ -1,7 +1,7 @@
 //! What a packet asks for.
 
 ghost use Rattle.std.specs.Prelude.{◌≡◌, option_map};
-ghost use Rattle.gdb_packets.specs.Requests.{gdb_request, packet_request, parts_around, Memory, AddPoint, RemovePoint, lone_request, access_request, control_request, lettered_request, register_request, set_register_request, store_pairs_request, store_bytes_request, point_kind, point_request, thread_request, is_process, begins_word, of_range, of_signal, of_thread, ContinueWith, StepWith};
+ghost use Rattle.gdb_packets.specs.Requests.{gdb_request, packet_request, parts_around, Memory, AddPoint, RemovePoint, lone_request, access_request, back_request, control_request, lettered_request, register_request, set_register_request, store_pairs_request, store_bytes_request, point_kind, point_request, thread_request, is_process, begins_word, of_range, of_signal, of_thread, ContinueWith, StepWith};
 
 use crate::numbers::number_of;
 use crate::parts::{byte_range_of, parts_around, thread_in};
@@ -67,6 +67,10 @@ pub enum Request<'a> {
     StepWith(u32),
     /// `vCont;r a,b`: steps, as long as the program stands in a range.
     StepRange(PlaceRange),
+    /// `bs`: a step back.
+    StepBack,
+    /// `bc`: back, as far as something stops it.
+    ContinueBack,
     /// `vCont?`: which ways there are to go on.
     Ways,
     /// `Z`: a break or a watch set.
@@ -187,7 +191,21 @@ fn control_request(letter: u8, rest: &[u8]) -> Request<'static>
         b'F' => host_answer_request(rest),
         b'D' if is_process(rest) => Request::Detach,
         b'R' if number_of(rest).is_some() => Request::Restart,
+        b'b' => back_request(rest),
         _ => Request::Unknown,
+    }
+}
+
+// `s` or `c` behind `b`.
+fn back_request(text: &[u8]) -> Request<'static>
+    ensures { gdb_request result ≡ back_request text.now }
+{
+    if text == b"s".as_slice() {
+        Request::StepBack
+    } else if text == b"c".as_slice() {
+        Request::ContinueBack
+    } else {
+        Request::Unknown
     }
 }
 

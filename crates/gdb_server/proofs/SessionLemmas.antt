@@ -1,3 +1,4 @@
+pub mod BackLemmas
 pub mod ChangeLemmas
 pub mod LookLemmas
 pub mod RunLemmas

@@ -1,15 +1,15 @@
 -- What the bytes of the other side do, and what they are answered with: a packet by its request, a spoilt
 -- one by `-`, or where that is no longer sent as if it were whole; `-` by the last answer once more; the byte
 -- 3 stops a run.
-use Rattle.std.specs.Prelude.{ℕ, zero, suc, ◌+◌, ◌/◌, not, ◌&&◌, is_some, Bool, true, false, List, [], ◌∷◌, ◌++◌, take, drop, length, codes, Option, Some, None, if◌then◌else◌}
+use Rattle.std.specs.Prelude.{ℕ, zero, suc, ◌+◌, ◌/◌, is_some, Bool, true, false, List, [], ◌∷◌, ◌++◌, take, drop, length, codes, Option, Some, None, if◌then◌else◌}
 use Rattle.hex.specs.Hex.{encode_lower}
 use Rattle.gdb_server.specs.session.Requests.{gdb_answered}
 use Rattle.gdb_server.specs.session.Runs.{stop_asked}
 use Rattle.gdb_server.specs.session.State.{GdbState, GdbAnswered}
 use Rattle.debug_session.specs.declared.session.DebugSettings.{DebugSettings}
+use Rattle.gdb_packets.specs.Fixed.{is_taken_so, keeps_acks}
 use Rattle.gdb_packets.specs.Frames.{packet_frame}
 use Rattle.gdb_packets.specs.Reading.{Reading, Taken, reading_start, byte_taken}
-use Rattle.gdb_packets.specs.Requests as request
 use Rattle.gdb_packets.specs.Requests.{GdbRequest, packet_request}
 use Rattle.gdb_packets.specs.declared.reader.Piece.{Piece}
 use Rattle.gdb_packets.specs.declared.reader.Piece.TheVariants as piece
@@ -50,11 +50,6 @@ reply_packet None = []
 abbrev pub answer_text : GdbAnswered → List ℕ
 answer_text a = shown_packets a.reported ++ reply_packet a.reply
 
--- `+` and `-` are sent no more after that
-abbrev pub keeps_acks : GdbRequest → Bool
-keeps_acks request.NoAcks = false
-keeps_acks other = true
-
 abbrev pub ack_text : Bool → List ℕ
 ack_text true = codes "+"
 ack_text false = []
@@ -75,10 +70,6 @@ packet_served setting start s = request_served s (packet_request s.reading.packe
 abbrev pub spoilt_text : Bool → List ℕ
 spoilt_text true = codes "-"
 spoilt_text false = packet_frame (codes "E16")
-
--- Where packets aren't asked for again, one whose sum is wrong is taken as it came, unless it is too long.
-abbrev pub is_taken_so : Bool → Bool → Bool
-is_taken_so has_acks fits = not has_acks && fits
 
 abbrev pub spoilt_served : DebugSettings → List ℕ → ServerState → Bool → Served
 spoilt_served setting start s true = packet_served setting start s

@@ -4,13 +4,13 @@ ghost use Rattle.std.specs.Prelude.{◌≡◌, ◌++◌, true, [], List, IfErr, 
 ghost use Rattle.command_shell.specs.Error.{IsLineError};
 ghost use Rattle.profile.specs.Output.{AddsFront, Writes};
 ghost use Rattle.std.specs.Io.KnownBytes.{Appends};
-ghost use Rattle.gdb_server.specs.Serving.{ack_text, shown_packets, text_packet, reply_packet, spoilt_text, is_taken_so, keeps_acks as keeps_acks_shown};
-ghost use Rattle.gdb_packets.specs.Requests.{gdb_request};
+ghost use Rattle.gdb_server.specs.Serving.{ack_text, shown_packets, text_packet, reply_packet, spoilt_text};
+ghost use Rattle.gdb_packets.specs.Fixed.{is_taken_so};
 ghost use Rattle.std.specs.Option.{option_map};
 
 use crate::session::{GdbAnswer, GdbSession};
 use command_shell::RunError;
-use gdb_packets::{PacketReader, Piece, Request, push_packet, request_of};
+use gdb_packets::{PacketReader, Piece, is_taken_so, keeps_acks, push_packet, request_of};
 use image_loader::Images;
 use profile::text_sink::TextSink;
 use profile::{Sink, WriteFault, push_all};
@@ -249,20 +249,6 @@ impl GdbServer {
             push_all(sink, b"$E16#ac")
         }
     }
-}
-
-// Whether a packet that came spoilt is taken as it is.
-fn is_taken_so(has_acks: bool, is_whole: bool) -> bool
-    ensures { result ≡ is_taken_so has_acks is_whole }
-{
-    !has_acks && is_whole
-}
-
-// Whether `+` and `-` are sent after a request too.
-fn keeps_acks(request: &Request<'_>) -> bool
-    ensures { result ≡ keeps_acks_shown (gdb_request request.now) }
-{
-    !matches!(request, Request::NoAcks)
 }
 
 /// Writes an answer: the text for the user in packets, and then the packet.

@@ -2,20 +2,21 @@
 #![tactic(auto)]
 
 mod acting;
+mod back;
 mod changing;
 mod going;
 mod laws;
 mod lines;
 mod looking;
-mod more_breaks;
 mod running;
 mod session;
 mod stepping;
 mod storing;
 
 pub use gdb_machine::{GdbStop, Signal};
+pub use gdb_packets::Going;
 pub use laws::{
     looking_changes_nothing, looking_lines_leave_the_machine, registers_are_read,
     slices_are_one_run, writes_are_whole,
 };
-pub use session::{GdbAnswer, GdbSession, GdbSettings, Going};
+pub use session::{GdbAnswer, GdbSession, GdbSettings};

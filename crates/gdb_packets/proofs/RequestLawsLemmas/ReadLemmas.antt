@@ -155,6 +155,14 @@ ways_read : packet_request (codes "vCont?") ≡ request.Ways
 unfolding packet_request word_request whole_word_request
 ways_read = refl
 
+back_step_read : packet_request (codes "bs") ≡ request.StepBack
+unfolding packet_request
+back_step_read = refl
+
+back_continue_read : packet_request (codes "bc") ≡ request.ContinueBack
+unfolding packet_request
+back_continue_read = refl
+
 current_read : packet_request (codes "qC") ≡ request.CurrentThread
 unfolding packet_request word_request whole_word_request
 current_read = refl
@@ -265,6 +273,8 @@ reads (request.ContinueWith signal) text asks = goes_with signal text asks
 reads request.Step text asks = steps text asks
 reads (request.StepWith signal) text asks = steps_with signal text asks
 reads (request.StepRange places) text asks = going (request.StepRange places) text asks
+reads request.StepBack text is = alone text (codes "bs") request.StepBack is back_step_read
+reads request.ContinueBack text is = alone text (codes "bc") request.ContinueBack is back_continue_read
 reads request.Ways text is = alone text (codes "vCont?") request.Ways is ways_read
 reads (request.AddPoint kind range) text b =
     ap packet_request (b.whole ∙ ap (λ (x : List ℕ). 90 ∷ x) b.kind.whole)

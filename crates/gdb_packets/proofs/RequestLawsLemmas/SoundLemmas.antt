@@ -6,7 +6,7 @@ use Rattle.std.specs.Prelude.{Option, Some, None, is_some, nat_le, ◌==◌, cod
 use Rattle.std.specs.Str.{bytes_eq}
 use Rattle.gdb_packets.specs.Numbers.{packet_number}
 use Rattle.gdb_packets.specs.Requests as request
-use Rattle.gdb_packets.specs.Requests.{GdbRequest, PacketParts, byte_range_of, control_request, first_shown, host_answer_flagged, host_answer_in, host_answer_request, if_shown, is_call_result, is_process, lettered_request, lone_request, of_range, of_signal, of_thread, parts_around, point_kind, point_of_kind, point_request, range_of_both, range_of_parts, register_request, set_register_numbered, set_register_request, store_bytes_request, store_pairs_request, thread_in, thread_numbered, thread_request}
+use Rattle.gdb_packets.specs.Requests.{GdbRequest, PacketParts, back_request, byte_range_of, control_request, first_shown, host_answer_flagged, host_answer_in, host_answer_request, if_shown, is_call_result, is_process, lettered_request, lone_request, of_range, of_signal, of_thread, parts_around, point_kind, point_of_kind, point_request, range_of_both, range_of_parts, register_request, set_register_numbered, set_register_request, store_bytes_request, store_pairs_request, thread_in, thread_numbered, thread_request}
 use Rattle.gdb_packets.specs.declared.requests.ByteRange.{ByteRange}
 use Rattle.gdb_packets.specs.declared.requests.PointKind.{PointKind}
 use Rattle.gdb_packets.specs.declared.requests.PointKind.TheVariants as point
@@ -283,6 +283,15 @@ signal_sound rest asked text some = by (packet_number rest) refl
     by None e = unknown text
     by (Some n) e = some n e
 
+back_sound : (letter : ℕ) (rest : List ℕ) → (letter == 98) ≡ true → Sound (back_request rest) (letter ∷ rest)
+back_sound letter rest is =
+    if_sound (bytes_eq rest (codes "s")) request.StepBack _ (letter ∷ rest) (λ e. record { asks = behind_b (codes "s") e })
+    (if_sound (bytes_eq rest (codes "c")) request.ContinueBack _ (letter ∷ rest) (λ e. record { asks = behind_b (codes "c") e })
+    (unknown (letter ∷ rest)))
+  where
+    behind_b : (word : List ℕ) → bytes_eq rest word ≡ true → letter ∷ rest ≡ 98 ∷ word
+    behind_b word e = begins letter 98 rest is ∙ ap (λ (r : List ℕ). 98 ∷ r) (same_bytes rest word e)
+
 control_sound : (letter next : ℕ) (rest : List ℕ) → Sound (control_request letter (next ∷ rest)) (letter ∷ next ∷ rest)
 control_sound letter next rest =
     let text = next ∷ rest in
@@ -300,7 +309,8 @@ control_sound letter next rest =
     (if_sound (letter == 82) _ _ _ (λ e. shown_sound (is_some (packet_number text)) request.Restart (letter ∷ text) (λ number. record {
       asks = record { rest = text; whole = begins letter 82 text e; kind = number };
     }))
-    (unknown (letter ∷ text))))))))
+    (if_sound (letter == 98) _ _ _ (λ e. back_sound letter text e)
+    (unknown (letter ∷ text)))))))))
 
 pub lettered_sound : (letter next : ℕ) (rest : List ℕ) → Sound (lettered_request letter (next ∷ rest)) (letter ∷ next ∷ rest)
 lettered_sound letter next rest =

@@ -1,26 +1,20 @@
 -- What requests come to that change what stands.
 use Rattle.std.proofs.Common.{◌≡◌, ℕ, Bool, Bor, List, [], refl, ap, ◌∙◌}
 use Rattle.std.specs.Prelude.{Option, Result, Ok, Err, IfOk, MatchResult, option_map}
-use Rattle.std.specs.Int.{from_le_bytes, w32}
 use Rattle.command_shell.specs.declared.error.RunError.{RunError}
-use Rattle.hex.specs.declared.error.FromHexError.{FromHexError}
-use Rattle.gdb_machine.specs.Changes.{register_write}
 use Rattle.gdb_packets.specs.Requests.{gdb_request}
 use Rattle.gdb_packets.specs.declared.requests.PlaceRange.{PlaceRange}
 use Rattle.gdb_packets.specs.declared.requests.Request.{Request}
 use Rattle.gdb_packets.specs.declared.requests.Request.TheVariants as asked
-use Rattle.gdb_server.specs.session.Changes.{write_wanted}
+use Rattle.command_shell.specs.State.{ScriptState}
+use Rattle.debug_session.specs.Past.{PastState}
+use Rattle.gdb_machine.specs.declared.changes.RegisterWrite.{RegisterWrite}
+use Rattle.gdb_server.specs.session.Changes.{past_after_write, script_with_change, with_change}
 use Rattle.gdb_server.specs.session.Requests.{act_shown, gdb_change_shown}
 use Rattle.gdb_server.specs.session.Session.{IsGdbAnswered}
-use Rattle.gdb_server.specs.session.State.{GdbState, GdbAnswered}
+use Rattle.gdb_server.specs.session.State.{GdbState, GdbAnswered, with_past, with_script}
 use Rattle.gdb_server.specs.declared.session.session.GdbAnswer.{GdbAnswer}
 use Rattle.debug_session.specs.declared.session.DebugSettings.{DebugSettings}
-
-pub write_read : {U : Type 0} (n : ℕ) (out : List ℕ) (r : Result U FromHexError) (done : U) (read : Result (List ℕ) FromHexError)
-    → MatchResult read (λ bytes. (r ≡ Ok done) × (out ≡ bytes)) (λ e. r ≡ Err e) → r ≡ Ok done
-    → register_write n (from_le_bytes w32 out) ≡ write_wanted n read
-write_read n out r done (Ok bytes) reported is = ap (λ (b : List ℕ). register_write n (from_le_bytes w32 b)) reported.1
-write_read n out r done (Err e) reported is = absurd (cc)
 
 -- an answer of which the parts are known
 pub answer_known : (now : GdbState) (r : Result GdbAnswer RunError) (reply : Option (List ℕ)) (reported : GdbAnswered)
@@ -33,43 +27,52 @@ answer_known now (Ok answer) reply reported none packet is = record {
 }
 answer_known now (Err e) reply reported none packet is = tt
 
+-- a change of the machine, and what is kept of it
+pub changed_so : (g : GdbState) (s : ScriptState) (p : PastState) (change : RegisterWrite) → s ≡ script_with_change g.debug.script change
+    → p ≡ past_after_write g.debug.past change → with_past (with_script g s) p ≡ with_change g change
+changed_so g s p change script past = ap (λ (x : ScriptState). with_past (with_script g x) p) script
+    ∙ ap (λ (q : PastState). with_past (with_script g (script_with_change g.debug.script change)) q) past
+
 -- a request that none of the calls of its own answers is a change
 pub other_act : (setting : DebugSettings) (start : List ℕ) (g : GdbState) (request : Request)
     → (request ≡ asked.Continue → ⊥) → ((n : ℕ) → request ≡ asked.ContinueWith n → ⊥) → (request ≡ asked.Step → ⊥)
     → ((n : ℕ) → request ≡ asked.StepWith n → ⊥) → ((places : PlaceRange) → request ≡ asked.StepRange places → ⊥) → ((asks : Bool) → request ≡ asked.HostAnswer asks → ⊥)
     → ((pairs : Bor (List ℕ)) → request ≡ asked.Line pairs → ⊥) → (request ≡ asked.RunProgram → ⊥) → (request ≡ asked.Restart → ⊥)
+    → (request ≡ asked.StepBack → ⊥) → (request ≡ asked.ContinueBack → ⊥)
     → gdb_change_shown g (gdb_request request) ≡ act_shown setting start g (gdb_request request)
-other_act setting start g asked.Reason c cw s sw w h l p r = refl
-other_act setting start g asked.Registers c cw s sw w h l p r = refl
-other_act setting start g (asked.SetRegisters pairs) c cw s sw w h l p r = refl
-other_act setting start g (asked.Register n) c cw s sw w h l p r = refl
-other_act setting start g (asked.SetRegister n pairs) c cw s sw w h l p r = refl
-other_act setting start g (asked.Memory range) c cw s sw w h l p r = refl
-other_act setting start g (asked.StorePairs range pairs) c cw s sw w h l p r = refl
-other_act setting start g (asked.StoreBytes range bytes) c cw s sw w h l p r = refl
-other_act setting start g asked.Continue c cw s sw w h l p r = absurd (c refl)
-other_act setting start g (asked.ContinueWith n) c cw s sw w h l p r = absurd (cw n refl)
-other_act setting start g asked.Step c cw s sw w h l p r = absurd (s refl)
-other_act setting start g (asked.StepWith n) c cw s sw w h l p r = absurd (sw n refl)
-other_act setting start g (asked.StepRange places) c cw s sw w h l p r = absurd (w places refl)
-other_act setting start g asked.Ways c cw s sw w h l p r = refl
-other_act setting start g (asked.AddPoint kind range) c cw s sw w h l p r = refl
-other_act setting start g (asked.RemovePoint kind range) c cw s sw w h l p r = refl
-other_act setting start g asked.Supported c cw s sw w h l p r = refl
-other_act setting start g asked.NoAcks c cw s sw w h l p r = refl
-other_act setting start g (asked.Description range) c cw s sw w h l p r = refl
-other_act setting start g (asked.Libraries range) c cw s sw w h l p r = refl
-other_act setting start g (asked.Thread is_own) c cw s sw w h l p r = refl
-other_act setting start g asked.IsAttached c cw s sw w h l p r = refl
-other_act setting start g asked.CurrentThread c cw s sw w h l p r = refl
-other_act setting start g asked.FirstThreads c cw s sw w h l p r = refl
-other_act setting start g asked.MoreThreads c cw s sw w h l p r = refl
-other_act setting start g (asked.Line pairs) c cw s sw w h l p r = absurd (l pairs refl)
-other_act setting start g (asked.HostAnswer asks) c cw s sw w h l p r = absurd (h asks refl)
-other_act setting start g asked.Detach c cw s sw w h l p r = refl
-other_act setting start g asked.Kill c cw s sw w h l p r = refl
-other_act setting start g asked.KillProgram c cw s sw w h l p r = refl
-other_act setting start g asked.Extended c cw s sw w h l p r = refl
-other_act setting start g asked.Restart c cw s sw w h l p r = absurd (r refl)
-other_act setting start g asked.RunProgram c cw s sw w h l p r = absurd (p refl)
-other_act setting start g asked.Unknown c cw s sw w h l p r = refl
+other_act setting start g asked.Reason c cw s sw w h l p r sb cb = refl
+other_act setting start g asked.Registers c cw s sw w h l p r sb cb = refl
+other_act setting start g (asked.SetRegisters pairs) c cw s sw w h l p r sb cb = refl
+other_act setting start g (asked.Register n) c cw s sw w h l p r sb cb = refl
+other_act setting start g (asked.SetRegister n pairs) c cw s sw w h l p r sb cb = refl
+other_act setting start g (asked.Memory range) c cw s sw w h l p r sb cb = refl
+other_act setting start g (asked.StorePairs range pairs) c cw s sw w h l p r sb cb = refl
+other_act setting start g (asked.StoreBytes range bytes) c cw s sw w h l p r sb cb = refl
+other_act setting start g asked.Continue c cw s sw w h l p r sb cb = absurd (c refl)
+other_act setting start g (asked.ContinueWith n) c cw s sw w h l p r sb cb = absurd (cw n refl)
+other_act setting start g asked.Step c cw s sw w h l p r sb cb = absurd (s refl)
+other_act setting start g (asked.StepWith n) c cw s sw w h l p r sb cb = absurd (sw n refl)
+other_act setting start g (asked.StepRange places) c cw s sw w h l p r sb cb = absurd (w places refl)
+other_act setting start g asked.StepBack c cw s sw w h l p r sb cb = absurd (sb refl)
+other_act setting start g asked.ContinueBack c cw s sw w h l p r sb cb = absurd (cb refl)
+other_act setting start g asked.Ways c cw s sw w h l p r sb cb = refl
+other_act setting start g (asked.AddPoint kind range) c cw s sw w h l p r sb cb = refl
+other_act setting start g (asked.RemovePoint kind range) c cw s sw w h l p r sb cb = refl
+other_act setting start g asked.Supported c cw s sw w h l p r sb cb = refl
+other_act setting start g asked.NoAcks c cw s sw w h l p r sb cb = refl
+other_act setting start g (asked.Description range) c cw s sw w h l p r sb cb = refl
+other_act setting start g (asked.Libraries range) c cw s sw w h l p r sb cb = refl
+other_act setting start g (asked.Thread is_own) c cw s sw w h l p r sb cb = refl
+other_act setting start g asked.IsAttached c cw s sw w h l p r sb cb = refl
+other_act setting start g asked.CurrentThread c cw s sw w h l p r sb cb = refl
+other_act setting start g asked.FirstThreads c cw s sw w h l p r sb cb = refl
+other_act setting start g asked.MoreThreads c cw s sw w h l p r sb cb = refl
+other_act setting start g (asked.Line pairs) c cw s sw w h l p r sb cb = absurd (l pairs refl)
+other_act setting start g (asked.HostAnswer asks) c cw s sw w h l p r sb cb = absurd (h asks refl)
+other_act setting start g asked.Detach c cw s sw w h l p r sb cb = refl
+other_act setting start g asked.Kill c cw s sw w h l p r sb cb = refl
+other_act setting start g asked.KillProgram c cw s sw w h l p r sb cb = refl
+other_act setting start g asked.Extended c cw s sw w h l p r sb cb = refl
+other_act setting start g asked.Restart c cw s sw w h l p r sb cb = absurd (r refl)
+other_act setting start g asked.RunProgram c cw s sw w h l p r sb cb = absurd (p refl)
+other_act setting start g asked.Unknown c cw s sw w h l p r sb cb = refl

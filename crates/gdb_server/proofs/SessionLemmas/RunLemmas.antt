@@ -10,14 +10,15 @@ use Rattle.command_shell.specs.MachineState.{stop_of}
 use Rattle.debug_session.specs.DebugScript.{debug_line_answer, debug_lines_answer}
 use Rattle.debug_session.specs.DebugState.{DebugAnswered, DebugState, IsDebugged}
 use Rattle.debug_session.specs.declared.session.DebugSettings.{DebugSettings}
+use Rattle.gdb_machine.specs.StepEnds.{halted_text, steps_further, stop_after_step}
 use Rattle.gdb_machine.specs.declared.stops.GdbStop.{GdbStop}
 use Rattle.gdb_machine.specs.declared.stops.GdbStop.TheVariants as reason
-use Rattle.gdb_server.specs.declared.session.session.Going.{Going}
-use Rattle.gdb_server.specs.declared.session.session.Going.TheVariants as going
-use Rattle.gdb_server.specs.session.Runs.{after_begin, asking, unhalted_answer, begin_shown, break_here, debug_anew, fault_shown, first_slice_shown, gdb_step_shown, gdb_stop_shown, going_shown, goes_on_if, halt_shown, halted_text, has_break_due, host_answered, line_decoded, slice_steps, slice_shown, step_taken, stop_after_step, stop_asked, stop_shown_with, stops_if, unless_halted_before, unless_taken, with_debug, with_whole_budget, without_quit}
+use Rattle.gdb_packets.specs.declared.going.Going.{Going}
+use Rattle.gdb_packets.specs.declared.going.Going.TheVariants as going
+use Rattle.gdb_server.specs.session.Runs.{after_begin, asking, unhalted_answer, begin_shown, break_here, debug_anew, fault_shown, first_slice_shown, gdb_step_shown, gdb_stop_shown, going_shown, goes_on_if, halt_shown, has_break_due, host_answered, line_decoded, slice_steps, slice_shown, step_taken, stop_asked, stop_shown_with, stops_if, unless_halted_before, unless_taken, with_debug, with_whole_budget, without_quit}
 use Rattle.gdb_server.specs.session.Session.{IsAfterSteps, IsGdbAnswered}
-use Rattle.gdb_server.specs.session.State.{GdbAnswered, GdbState, no_reply, packet_reply, with_script}
-use Rattle.gdb_server.specs.session.Steps.{StepsTaken, gdb_steps, is_other_list, steps_further}
+use Rattle.gdb_server.specs.session.State.{GdbAnswered, GdbState, no_reply, packet_reply, with_steps_noted}
+use Rattle.gdb_server.specs.session.Steps.{StepsTaken, gdb_steps, is_other_list}
 use Rattle.gdb_server.specs.declared.session.session.GdbAnswer.{GdbAnswer}
 
 -- a slice after which the other side is asked, and one that ends the run
@@ -29,12 +30,12 @@ slice_asks g now goes text end done further =
     let goes_there : steps_further t.stop && nat_lt 0 t.script.left ≡ true =
     subst (λ (e : GdbStop). steps_further e && nat_lt 0 t.script.left ≡ true) done.reason
     (subst (λ (s : GdbState). steps_further end && nat_lt 0 s.debug.script.left ≡ true) done.state further) in
-    ap (λ (s : GdbState). asking s goes text) done.state ∙ ap (λ (x : List ℕ). asking (with_script g t.script) goes x) done.text
+    ap (λ (s : GdbState). asking s goes text) done.state ∙ ap (λ (x : List ℕ). asking (with_steps_noted g t.script) goes x) done.text
     ∙ sym (shown_if (steps_further t.stop && nat_lt 0 t.script.left) goes_there) where
       shown_if : (b : Bool) → b ≡ true
           → (let t : StepsTaken = gdb_steps g goes slice_steps in
-          (if b then asking (with_script g t.script) goes t.printed else gdb_stop_shown (with_script g t.script) t.printed t.stop)
-          ≡ asking (with_script g t.script) goes t.printed)
+          (if b then asking (with_steps_noted g t.script) goes t.printed else gdb_stop_shown (with_steps_noted g t.script) t.printed t.stop)
+          ≡ asking (with_steps_noted g t.script) goes t.printed)
       shown_if b is = rw is refl
 
 pub slice_ends : (g now : GdbState) (goes : Going) (text : List ℕ) (end : GdbStop)
@@ -46,13 +47,13 @@ slice_ends g now goes text end done ends =
     subst (λ (e : GdbStop). steps_further e && nat_lt 0 t.script.left ≡ false) done.reason
     (subst (λ (s : GdbState). steps_further end && nat_lt 0 s.debug.script.left ≡ false) done.state ends) in
     ap (λ (s : GdbState). gdb_stop_shown s text end) done.state
-    ∙ ap (λ (x : List ℕ). gdb_stop_shown (with_script g t.script) x end) done.text
-    ∙ ap (λ (e : GdbStop). gdb_stop_shown (with_script g t.script) t.printed e) done.reason
+    ∙ ap (λ (x : List ℕ). gdb_stop_shown (with_steps_noted g t.script) x end) done.text
+    ∙ ap (λ (e : GdbStop). gdb_stop_shown (with_steps_noted g t.script) t.printed e) done.reason
     ∙ sym (shown_if (steps_further t.stop && nat_lt 0 t.script.left) ends_there) where
       shown_if : (b : Bool) → b ≡ false
           → (let t : StepsTaken = gdb_steps g goes slice_steps in
-          (if b then asking (with_script g t.script) goes t.printed else gdb_stop_shown (with_script g t.script) t.printed t.stop)
-          ≡ gdb_stop_shown (with_script g t.script) t.printed t.stop)
+          (if b then asking (with_steps_noted g t.script) goes t.printed else gdb_stop_shown (with_steps_noted g t.script) t.printed t.stop)
+          ≡ gdb_stop_shown (with_steps_noted g t.script) t.printed t.stop)
       shown_if b is = rw is refl
 
 pub step_stops : (g now : GdbState) (text : List ℕ) (end why : GdbStop)
@@ -61,8 +62,8 @@ pub step_stops : (g now : GdbState) (text : List ℕ) (end why : GdbStop)
 step_stops g now text end why done is =
     let t : StepsTaken = gdb_steps g going.Once 1 in
     ap (λ (s : GdbState). gdb_stop_shown s text why) done.state
-    ∙ ap (λ (x : List ℕ). gdb_stop_shown (with_script g t.script) x why) done.text
-    ∙ ap (λ (e : GdbStop). gdb_stop_shown (with_script g t.script) t.printed e) (is ∙ ap stop_after_step done.reason)
+    ∙ ap (λ (x : List ℕ). gdb_stop_shown (with_steps_noted g t.script) x why) done.text
+    ∙ ap (λ (e : GdbStop). gdb_stop_shown (with_steps_noted g t.script) t.printed e) (is ∙ ap stop_after_step done.reason)
 
 -- of other modules GDB is told first, and then of a break that is due
 pub shows_library : (g : GdbState) → is_other_list g.libraries g.debug.script ≡ true → gdb_stop_shown g [] reason.Library ≡ first_slice_shown g

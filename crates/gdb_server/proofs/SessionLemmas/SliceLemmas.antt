@@ -3,16 +3,18 @@ use Rattle.std.proofs.Common.{◌≡◌, ◌+◌, ℕ, zero, suc, Bool, true, fa
 use Rattle.std.specs.Prelude.{Option, Some, None, if◌then◌else◌}
 use Rattle.std.proofs.lemmas.Bool.{both_ways}
 use Rattle.command_shell.specs.State.{ScriptState}
+use Rattle.gdb_machine.specs.StepEnds.{steps_further, struck_after}
 use Rattle.gdb_machine.specs.Watches.{first_changed}
 use Rattle.gdb_machine.specs.declared.stops.GdbStop.{GdbStop}
 use Rattle.gdb_machine.specs.declared.stops.GdbStop.TheVariants as reason
 use Rattle.profile.specs.declared.stop.Stop.TheVariants as stop
 use Rattle.gdb_machine.specs.declared.watches.WatchedPlace.{WatchedPlace}
-use Rattle.gdb_server.specs.declared.session.session.Going.{Going}
+use Rattle.gdb_packets.specs.declared.going.Going.{Going}
 use Rattle.gdb_server.specs.declared.session.stepping.StepAhead.{StepAhead}
 use Rattle.gdb_server.specs.session.Laws.{GdbSlicesAreOneRun}
-use Rattle.gdb_server.specs.session.MoreBreaks.{is_among}
-use Rattle.gdb_server.specs.session.Steps.{StepLooks, StepsTaken, end_beside, end_of_step, has_left, is_other_list, looked_further, looked_steps, machine_end, ahead_of, printed_before, script_steps, steps_further, struck_after, watched_or}
+use Rattle.gdb_machine.specs.GdbBreaks.{is_among}
+use Rattle.gdb_packets.specs.Going.{has_left}
+use Rattle.gdb_server.specs.session.Steps.{StepLooks, StepsTaken, end_beside, end_of_step, is_other_list, looked_further, looked_steps, machine_end, ahead_of, printed_before, script_steps, watched_or}
 use Rattle.gdb_server.proofs.SessionLemmas.StepLemmas.{no_step, one_more}
 
 -- what ends steps is no end of a budget

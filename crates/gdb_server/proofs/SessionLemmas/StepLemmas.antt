@@ -5,19 +5,21 @@ use Rattle.std.proofs.lemmas.List.{append-nil}
 use Rattle.std.proofs.lemmas.Bool.Decides.{nat_tests}
 use Rattle.command_shell.specs.State.{ScriptState}
 use Rattle.command_shell.specs.Stepping.{IsAfterRun}
+use Rattle.gdb_machine.specs.StepEnds.{steps_further, struck_after}
 use Rattle.gdb_machine.specs.Watches.{first_changed}
 use Rattle.gdb_machine.specs.declared.stops.GdbStop.{GdbStop}
 use Rattle.gdb_machine.specs.declared.stops.GdbStop.TheVariants as reason
 use Rattle.gdb_machine.specs.declared.watches.SeenByte.{SeenByte}
 use Rattle.gdb_machine.specs.declared.watches.WatchedPlace.{WatchedPlace}
-use Rattle.gdb_server.specs.declared.session.session.Going.{Going}
+use Rattle.gdb_packets.specs.declared.going.Going.{Going}
 use Rattle.gdb_server.specs.declared.session.stepping.StepAhead.{StepAhead}
 use Rattle.profile.specs.declared.stop.Stop.{Stop}
 use Rattle.profile.specs.declared.stop.Stop.TheVariants as stop
-use Rattle.gdb_server.specs.session.MoreBreaks.{is_among}
-use Rattle.gdb_server.specs.session.Session.{IsAfterSteps}
-use Rattle.gdb_server.specs.session.State.{GdbState, with_script}
-use Rattle.gdb_server.specs.session.Steps.{StepLooks, StepsTaken, end_beside, end_of_step, has_left, is_other_list, looked_further, looked_steps, looks_at, machine_end, ahead_of, none_taken, printed_before, script_steps, steps_further, struck_after, watched_or}
+use Rattle.gdb_machine.specs.GdbBreaks.{is_among}
+use Rattle.gdb_server.specs.session.Session.{IsAfterLooked, IsAfterSteps}
+use Rattle.gdb_server.specs.session.State.{GdbState, with_noted, with_script}
+use Rattle.gdb_packets.specs.Going.{has_left}
+use Rattle.gdb_server.specs.session.Steps.{StepLooks, StepsTaken, end_beside, end_of_step, is_other_list, looked_further, looked_steps, looks_at, machine_end, ahead_of, none_taken, printed_before, script_steps, watched_or}
 
 pub one_more : (l : StepLooks) (left : ℕ) (s : ScriptState) → looked_steps l (suc left) s
     ≡ looked_further (script_steps s 1)
@@ -70,7 +72,7 @@ same_looks first here now goes seen others next =
 ends_with : (l : StepLooks) (first here now : GdbState) (before held after : List ℕ) (count left : ℕ) (end : GdbStop)
     (t : StepsTaken) → AreStepsLeft l first here before held count left → looked_steps l left here.debug.script ≡ t
     → now ≡ with_script here t.script → after ≡ held ++ t.printed → end ≡ t.stop
-    → IsAfterSteps first now before after end (looked_steps l count first.debug.script)
+    → IsAfterLooked first now before after end (looked_steps l count first.debug.script)
 ends_with l first here now before held after count left end t i is state text reason = record {
   state = state ∙ ap (λ (g : GdbState). with_script g t.script) i.others
       ∙ ap (with_script first) (sym (ap (λ (u : StepsTaken). u.script) is) ∙ i.script);
@@ -97,7 +99,7 @@ pub ends_there : (l : StepLooks) (first here now : GdbState) (before held after 
     (why : GdbStop) → AreStepsLeft l first here before held count left → 0 < left → now ≡ with_script here now.debug.script
     → IsAfterRun here.debug.script (min 1 here.debug.script.left) now.debug.script (Some held) (Some after) taken end
     → end_of_step l (ahead_of l.going l.watches here.debug.script) (reason.Ran end) now.debug.script ≡ Some why
-    → IsAfterSteps first now before after why (looked_steps l count first.debug.script)
+    → IsAfterLooked first now before after why (looked_steps l count first.debug.script)
 ends_there l first here now before held after count left taken end why i some others ran is =
     let step = one_step here.debug.script now.debug.script held after taken end ran in
     let there = looked_there l here.debug.script now.debug.script end (Some why) step.0 step.2 is in
@@ -127,10 +129,20 @@ goes_further l first here now before held after count left taken end i some othe
 -- none is left
 pub ends_here : (l : StepLooks) (first here : GdbState) (before held : List ℕ) (count left : ℕ)
     → AreStepsLeft l first here before held count left → left ≡ 0
-    → IsAfterSteps first here before held (none_taken here.debug.script).stop (looked_steps l count first.debug.script)
+    → IsAfterLooked first here before held (none_taken here.debug.script).stop (looked_steps l count first.debug.script)
 ends_here l first here before held count left i none =
     ends_with l first here here before held held count left (none_taken here.debug.script).stop (none_taken here.debug.script) i
     (no_step l left here.debug.script none) refl (sym (append-nil held)) refl
+
+-- what the steps did is kept
+pub steps_noted : (g here now : GdbState) (before after : List ℕ) (stop : GdbStop) (taken : StepsTaken) (left : ℕ)
+    → IsAfterLooked g here before after stop taken → now ≡ with_noted here left → left ≡ g.debug.script.left
+    → IsAfterSteps g now before after stop taken
+steps_noted g here now before after stop taken left i noted same = record {
+  state = noted ∙ ap (λ (n : ℕ). with_noted here n) same ∙ ap (λ (s : GdbState). with_noted s g.debug.script.left) i.state;
+  text = i.text;
+  reason = i.reason;
+}
 
 -- WHAT IS LOOKED AT
 

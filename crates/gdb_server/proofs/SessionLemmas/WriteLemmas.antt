@@ -22,11 +22,12 @@ use Rattle.gdb_machine.specs.declared.changes.RegisterWrite.TheVariants as chang
 use Rattle.gdb_machine.proofs.WriteLemmas.{register_writes_are_read}
 use Rattle.gdb_packets.specs.Requests.{SetRegister, StoreBytes, StorePairs}
 use Rattle.gdb_packets.specs.declared.requests.ByteRange.{ByteRange}
-use Rattle.gdb_server.specs.session.Changes.{bytes_of_pairs, decoded_stored, register_changed, script_with_change, write_wanted}
+use Rattle.gdb_machine.specs.ChangePackets.{bytes_of_pairs, store_refusal, write_wanted}
+use Rattle.gdb_server.specs.session.Changes.{decoded_stored, register_changed, script_with_change}
 use Rattle.gdb_server.specs.session.Laws.{AreBytesWhole, GdbRegistersAreRead, GdbWritesAreWhole, IsRegisterSet}
 use Rattle.gdb_server.specs.session.Requests.{gdb_answered}
 use Rattle.gdb_server.specs.session.State.{GdbAnswered, GdbState, packet_reply}
-use Rattle.gdb_server.specs.session.Stores.{bytes_stored, store_refusal, store_shown}
+use Rattle.gdb_server.specs.session.Stores.{bytes_stored, store_shown}
 
 -- a reply of three bytes is not `OK`
 not_ok : (text : List ℕ) → length text ≡ 3 → Some text ≡ Some (codes "OK") → ⊥
@@ -82,7 +83,7 @@ none_stored bytes at address = grind (arith, nat_tests)
 met : (g : GdbState) (range : ByteRange) (byte : ℕ) (bytes : List ℕ) (o : Option Fault)
     → put_fault g.debug.script.machine.store range.start (length (byte ∷ bytes)) ≡ o
     → AreBytesWhole g range (byte ∷ bytes)
-    (bytes_stored g (ok_unless_fault o (script_with_bytes g.debug.script range.start (byte ∷ bytes))))
+    (bytes_stored g (byte ∷ bytes) (ok_unless_fault o (script_with_bytes g.debug.script range.start (byte ∷ bytes))))
 met g range byte bytes None e = record {
   done = λ is address. refl;
   refused = λ other. absurd (other refl);
@@ -95,7 +96,7 @@ met g range byte bytes (Some f) e = record {
 }
 
 stored : (g : GdbState) (range : ByteRange) (bytes : List ℕ)
-    → AreBytesWhole g range bytes (bytes_stored g (script_after_put g.debug.script range.start bytes))
+    → AreBytesWhole g range bytes (bytes_stored g bytes (script_after_put g.debug.script range.start bytes))
 stored g range [] = record {
   done = λ is address. none_stored g.debug.script.machine.store.bytes.at range.start address;
   refused = λ other. absurd (other refl);
@@ -108,7 +109,7 @@ store_is_whole : (g : GdbState) (range : ByteRange) (bytes : List ℕ) → AreBy
 store_is_whole g range bytes = by (length bytes == range.count) refl
   where
     by : (b : Bool) → (length bytes == range.count) ≡ b
-        → AreBytesWhole g range bytes (if b then bytes_stored g (script_after_put g.debug.script range.start bytes) else packet_reply g (codes "E16"))
+        → AreBytesWhole g range bytes (if b then bytes_stored g bytes (script_after_put g.debug.script range.start bytes) else packet_reply g (codes "E16"))
     by true e = stored g range bytes
     by false e = record {
       done = λ is. absurd (not_ok (codes "E16") refl is);

@@ -1,6 +1,7 @@
 -- The requests that only look, and the packet that each is answered with. Those of other requests are
 -- none.
-use Rattle.std.specs.Prelude.{ℕ, Bool, true, false, List, [], ◌++◌, Option, Some, None, codes}
+use Rattle.std.specs.Prelude.{ℕ, List, Option, Some}
+use Rattle.gdb_packets.specs.Fixed.{fixed_reply, threads_text}
 use Rattle.gdb_packets.specs.Requests as request
 use Rattle.gdb_packets.specs.Requests.{GdbRequest}
 use Rattle.gdb_machine.specs.Description.{description_text}
@@ -9,31 +10,6 @@ use Rattle.gdb_machine.specs.Memory.{memory_reply}
 use Rattle.gdb_machine.specs.Registers.{all_registers_text, register_reply}
 use Rattle.gdb_machine.specs.Stops.{is_gone, stop_packet}
 use Rattle.gdb_server.specs.session.State.{GdbState}
-
-abbrev pub supported_text : List ℕ
-supported_text =
-    codes "PacketSize=4000;QStartNoAckMode+;vContSupported+;swbreak+;hwbreak+;qXfer:features:read+"
-    ++ codes ";qXfer:libraries:read+"
-
--- a packet that is always the same; an empty one says that a request isn't known
-abbrev pub fixed_reply : GdbRequest → Option (List ℕ)
-fixed_reply request.NoAcks = Some (codes "OK")
-fixed_reply (request.Thread true) = Some (codes "OK")
-fixed_reply (request.Thread false) = Some (codes "E01")
-fixed_reply request.Extended = Some (codes "OK")
-fixed_reply request.Supported = Some supported_text
-fixed_reply request.Ways = Some (codes "vCont;c;C;s;S;r")
-fixed_reply request.IsAttached = Some (codes "0")
-fixed_reply request.CurrentThread = Some (codes "QC1")
-fixed_reply request.MoreThreads = Some (codes "l")
-fixed_reply (request.SetRegisters pairs) = Some []
-fixed_reply request.Unknown = Some []
-fixed_reply _ = None
-
--- the one thread, while the program is there
-abbrev pub threads_text : Bool → List ℕ
-threads_text true = codes "l"
-threads_text false = codes "m1"
 
 -- `?`, `g`, `p`, `m`, the description, the list of libraries and that of threads
 abbrev pub look_reply : GdbState → GdbRequest → Option (List ℕ)

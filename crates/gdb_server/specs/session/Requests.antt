@@ -6,7 +6,8 @@ use Rattle.gdb_packets.specs.declared.requests.ByteRange.{ByteRange}
 use Rattle.gdb_packets.specs.declared.requests.PointKind.{PointKind}
 use Rattle.gdb_packets.specs.declared.requests.PointKind.TheVariants as point
 use Rattle.gdb_machine.specs.declared.watches.WatchKind.TheVariants as kind
-use Rattle.gdb_server.specs.declared.session.session.Going.TheVariants as going
+use Rattle.gdb_packets.specs.declared.going.Going.TheVariants as going
+use Rattle.gdb_server.specs.session.Back as back
 use Rattle.gdb_server.specs.session.Changes as changes
 use Rattle.gdb_server.specs.session.Looks.{look_reply}
 use Rattle.gdb_server.specs.session.Runs as runs
@@ -50,6 +51,8 @@ act_shown setting start g (request.ContinueWith signal) = runs.going_shown g goi
 act_shown setting start g request.Step = runs.going_shown g going.Once None
 act_shown setting start g (request.StepWith signal) = runs.going_shown g going.Once (Some signal)
 act_shown setting start g (request.StepRange places) = runs.going_shown g (going.Within places) None
+act_shown setting start g request.StepBack = back.step_back_shown setting g
+act_shown setting start g request.ContinueBack = back.continue_back_shown setting g
 act_shown setting start g (request.HostAnswer asks) = runs.host_answered g asks
 act_shown setting start g (request.Line pairs) = runs.monitor_shown setting g pairs
 act_shown setting start g request.RunProgram = runs.run_program_shown setting start g

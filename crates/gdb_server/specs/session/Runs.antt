@@ -1,27 +1,28 @@
 -- Requests that take steps. A run goes in slices: after each the other side is asked whether the user
 -- wants the program to stop.
 use Rattle.std.specs.Prelude.{ℕ, ◌==◌, ◌&&◌, ◌||◌, nat_lt, option_map, Bool, true, false, List, [], ◌++◌, codes, Option, Some, None, if◌then◌else◌}
-use Rattle.profile.specs.FaultNames.{fault_name}
 use Rattle.profile.specs.declared.fault.Fault.{Fault}
 use Rattle.profile.specs.declared.stop.Stop.{Stop}
 use Rattle.profile.specs.declared.stop.Stop.TheVariants as stop
 use Rattle.command_shell.specs.Answers.{stop_text}
 use Rattle.command_shell.specs.Memory.{script_started_anew, script_with_budget}
 use Rattle.command_shell.specs.MachineState.{stop_of}
+use Rattle.debug_session.specs.Past.{past_from_start}
 use Rattle.debug_session.specs.DebugScript.{debug_line_answer, debug_lines_answer}
 use Rattle.debug_session.specs.DebugState.{DebugAnswered, DebugState}
 use Rattle.debug_session.specs.declared.session.DebugSettings.{DebugSettings}
 use Rattle.std.specs.Str.Lines.{lines}
 use Rattle.hex.specs.Hex.{decode_of}
-use Rattle.gdb_machine.specs.Stops.{signal_number_of, stop_packet}
+use Rattle.gdb_machine.specs.StepEnds.{halted_text, is_own_signal, last_stop, steps_further, stop_after_step, was_library}
+use Rattle.gdb_machine.specs.Stops.{stop_packet}
 use Rattle.gdb_machine.specs.declared.stops.GdbStop.{GdbStop}
 use Rattle.gdb_machine.specs.declared.stops.GdbStop.TheVariants as reason
-use Rattle.gdb_server.specs.declared.session.session.Going.{Going}
-use Rattle.gdb_server.specs.declared.session.session.Going.TheVariants as going
-use Rattle.gdb_server.specs.session.Changes.{bytes_of_pairs}
-use Rattle.gdb_server.specs.session.MoreBreaks.{is_among}
-use Rattle.gdb_server.specs.session.State.{GdbState, GdbAnswered, packet_reply, no_reply, script_libraries, with_script}
-use Rattle.gdb_server.specs.session.Steps.{StepsTaken, gdb_steps, is_other_list, steps_further}
+use Rattle.gdb_packets.specs.declared.going.Going.{Going}
+use Rattle.gdb_packets.specs.declared.going.Going.TheVariants as going
+use Rattle.gdb_machine.specs.ChangePackets.{bytes_of_pairs}
+use Rattle.gdb_machine.specs.GdbBreaks.{is_among}
+use Rattle.gdb_server.specs.session.State.{GdbState, GdbAnswered, packet_reply, no_reply, script_libraries, with_script, with_steps_noted}
+use Rattle.gdb_server.specs.session.Steps.{StepsTaken, gdb_steps, is_other_list}
 
 -- `rosm: ` and the stop line of a fault, or where the budget is used up
 abbrev pub user_text : GdbStop → ℕ → List ℕ
@@ -34,6 +35,8 @@ user_text reason.Asked pc = []
 user_text (reason.Watched place) pc = []
 user_text reason.Library pc = []
 user_text (reason.Killed f) pc = []
+user_text (reason.WatchedBack place) pc = []
+user_text reason.Begin pc = []
 
 -- the modules that GDB knows of after a stop: where it is told that there are others, those that are there
 abbrev pub libraries_after : GdbStop → GdbState → List ℕ
@@ -43,6 +46,8 @@ libraries_after reason.Asked g = g.libraries
 libraries_after (reason.Watched place) g = g.libraries
 libraries_after (reason.Ran x) g = g.libraries
 libraries_after (reason.Killed f) g = g.libraries
+libraries_after (reason.WatchedBack place) g = g.libraries
+libraries_after reason.Begin g = g.libraries
 
 abbrev pub with_stop : GdbState → GdbStop → GdbState
 with_stop g why = record g { libraries = libraries_after why g; going = None; stop = why }
@@ -74,8 +79,8 @@ asking g goes printed = record {
 abbrev pub slice_done : GdbState → Going → StepsTaken → GdbAnswered
 slice_done g goes taken =
     if steps_further taken.stop && nat_lt 0 taken.script.left
-    then asking (with_script g taken.script) goes taken.printed
-    else gdb_stop_shown (with_script g taken.script) taken.printed taken.stop
+    then asking (with_steps_noted g taken.script) goes taken.printed
+    else gdb_stop_shown (with_steps_noted g taken.script) taken.printed taken.stop
 
 abbrev pub slice_shown : GdbState → Going → GdbAnswered
 slice_shown g goes = slice_done g goes (gdb_steps g goes slice_steps)
@@ -86,14 +91,6 @@ with_whole_budget g = with_script g (script_with_budget g.debug.script g.most)
 
 -- Whether a break is still to be shown: the program stands at one, and GDB was told there that it may have to
 -- set others.
-abbrev pub was_library : GdbStop → Bool
-was_library reason.Library = true
-was_library reason.Stepped = false
-was_library reason.Asked = false
-was_library (reason.Watched place) = false
-was_library (reason.Ran x) = false
-was_library (reason.Killed f) = false
-
 abbrev pub stands_at_break : GdbState → Bool
 stands_at_break g = (is_among g.debug.script.breaks g.debug.script.machine.cpu.pc
     || is_among g.breaks g.debug.script.machine.cpu.pc)
@@ -129,36 +126,37 @@ stops_if g (Some goes) = gdb_stop_shown g [] reason.Asked
 abbrev pub stop_asked : GdbState → GdbAnswered
 stop_asked g = stops_if g g.going
 
--- a step that was taken is no end of a run
-abbrev pub stop_after_step : GdbStop → GdbStop
-stop_after_step why = if steps_further why then reason.Stepped else why
-
 abbrev pub gdb_step_done : GdbState → StepsTaken → GdbAnswered
 gdb_step_done g taken =
-    gdb_stop_shown (with_script g taken.script) taken.printed (stop_after_step taken.stop)
+    gdb_stop_shown (with_steps_noted g taken.script) taken.printed (stop_after_step taken.stop)
 
 -- one step
 abbrev pub gdb_step_shown : GdbState → GdbAnswered
 gdb_step_shown g = gdb_step_done g (gdb_steps g going.Once 1)
 
--- why the machine itself stood after its last step
-abbrev pub last_stop : Option Stop → GdbStop
-last_stop None = reason.Stepped
-last_stop (Some x) = stop_after_step (reason.Ran x)
+-- why the program stands at a place to which a step led
+abbrev pub stop_here : GdbState → GdbStop
+stop_here g = if stands_at_break g then break_here g else reason.Stepped
+
+abbrev pub unless_stepped : GdbState → GdbStop → GdbStop
+unless_stepped g reason.Stepped = stop_here g
+unless_stepped g other = other
 
 -- GDB takes a watch on ARM for one that strikes before its instruction, and takes that step itself before it
 -- looks at the bytes ("have_nonsteppable_watchpoint" in GDB's own terms). Here a watch strikes once they have
 -- changed: the step is taken already, and that request moves nothing.
-abbrev pub taken_after : GdbStop → Option Stop → Option GdbStop
-taken_after (reason.Watched place) last = Some (last_stop last)
-taken_after reason.Library last = None
-taken_after reason.Stepped last = None
-taken_after reason.Asked last = None
-taken_after (reason.Ran x) last = None
-taken_after (reason.Killed f) last = None
+abbrev pub taken_after : GdbStop → GdbState → Option GdbStop
+taken_after (reason.Watched place) g = Some (unless_stepped g (last_stop g.debug.script.last))
+taken_after reason.Library g = None
+taken_after reason.Stepped g = None
+taken_after reason.Asked g = None
+taken_after (reason.Ran x) g = None
+taken_after (reason.Killed f) g = None
+taken_after (reason.WatchedBack place) g = None
+taken_after reason.Begin g = None
 
 abbrev pub step_taken : GdbState → Option GdbStop
-step_taken g = taken_after g.stop g.debug.script.last
+step_taken g = taken_after g.stop g
 
 abbrev pub unless_taken : Option GdbStop → GdbState → GdbAnswered → GdbAnswered
 unless_taken (Some why) g other = gdb_stop_shown g [] why
@@ -170,14 +168,6 @@ unhalted_answer g going.Once = unless_taken (step_taken g) g (gdb_step_shown g)
 unhalted_answer g (going.Within places) = unless_taken (step_taken g) g (slice_shown g (going.Within places))
 
 -- A machine that a fault has halted takes no step. The signal of its fault, given back to it, ends the program.
-abbrev pub halted_text : Fault → List ℕ
-halted_text f = codes "rosm: halted by " ++ (fault_name f ++ codes
-    "; RESET, load or another pc wakes the machine\n")
-
-abbrev pub is_own_signal : Option ℕ → Fault → Bool
-is_own_signal None f = false
-is_own_signal (Some signal) f = signal == signal_number_of f
-
 abbrev pub fault_shown : GdbState → Bool → Fault → GdbAnswered
 fault_shown g true f = gdb_stop_shown g [] (reason.Killed f)
 fault_shown g false f = stop_shown_with g (halted_text f) (reason.Ran (stop.Fault f))
@@ -220,6 +210,7 @@ monitor_shown setting g pairs = line_decoded setting g (bytes_of_pairs (decode_o
 abbrev pub debug_anew : DebugSettings → DebugState → DebugState
 debug_anew setting d = record (without_quit d) {
   script = script_started_anew d.script setting.config setting.budget;
+  past = past_from_start setting.keeps_past;
 }
 
 abbrev pub begin_shown : DebugSettings → List ℕ → GdbState → DebugAnswered

@@ -4,7 +4,7 @@ use Rattle.image_loader.specs.Entries.{Entry}
 use Rattle.debug_session.specs.Session.{debug_state}
 use Rattle.gdb_machine.specs.declared.stops.GdbStop.{GdbStop}
 use Rattle.gdb_server.specs.session.Steps.{StepsTaken}
-use Rattle.gdb_server.specs.session.State.{GdbState, GdbAnswered, with_script}
+use Rattle.gdb_server.specs.session.State.{GdbState, GdbAnswered, with_script, with_steps_noted}
 use Rattle.gdb_server.specs.declared.session.session.GdbAnswer.{GdbAnswer}
 use Rattle.gdb_server.specs.declared.session.session.GdbSession.{GdbSession}
 
@@ -27,9 +27,16 @@ pub record IsGdbAnswered (now : GdbState) (answer : GdbAnswer) (reported : GdbAn
   pub reply : option_map (λ reply. reply.items) answer.reply ≡ reported.reply
 
 -- A session, a text and an answer after steps: the session stands in their state, what they printed is
--- appended, and the answer shows why they ended.
-pub record IsAfterSteps (old now : GdbState) (before after : List ℕ) (stop : GdbStop) (taken : StepsTaken) :
+-- appended, and the answer shows why they ended. What they did isn't kept yet.
+pub record IsAfterLooked (old now : GdbState) (before after : List ℕ) (stop : GdbStop) (taken : StepsTaken) :
     Type 0 where
   pub state : now ≡ with_script old taken.script
+  pub text : after ≡ before ++ taken.printed
+  pub reason : stop ≡ taken.stop
+
+-- The same, and what they did is kept.
+pub record IsAfterSteps (old now : GdbState) (before after : List ℕ) (stop : GdbStop) (taken : StepsTaken) :
+    Type 0 where
+  pub state : now ≡ with_steps_noted old taken.script
   pub text : after ≡ before ++ taken.printed
   pub reason : stop ≡ taken.stop

@@ -1,7 +1,9 @@
 -- What a session with GDB works on, and what a request is answered with.
-use Rattle.std.specs.Prelude.{ℕ, Bool, false, List, [], Option, Some, None}
+use Rattle.std.specs.Prelude.{ℕ, ◌-◌, Bool, false, true, List, [], Option, Some, None}
 use Rattle.image_loader.specs.Entries.{Entry}
 use Rattle.command_shell.specs.State.{ScriptState}
+use Rattle.debug_session.specs.PastNoted.{is_faulted, past_with_steps}
+use Rattle.debug_session.specs.Past.{PastState}
 use Rattle.debug_session.specs.DebugState.{DebugState, debug_start_state}
 use Rattle.debug_session.specs.DebugChecksReportForm.TheVariants.{Answers}
 use Rattle.debug_session.specs.Meters.{silent_meter}
@@ -11,10 +13,9 @@ use Rattle.gdb_machine.specs.declared.stops.GdbStop.{GdbStop}
 use Rattle.gdb_machine.specs.declared.stops.GdbStop.TheVariants as reason
 use Rattle.gdb_machine.specs.declared.watches.Watch.{Watch}
 use Rattle.gdb_server.specs.declared.session.session.GdbSettings.{GdbSettings}
-use Rattle.gdb_server.specs.declared.session.session.Going.{Going}
+use Rattle.gdb_packets.specs.declared.going.Going.{Going}
 
--- What a debugging script works on, GDB's watches, its breaks beyond those of the machine's own
--- table, the lines of the modules that GDB was told are there, how many steps a run may take, what the run that
+-- What a debugging script works on, GDB's watches, its breaks, the lines of the modules that GDB was told are there, how many steps a run may take, what the run that
 -- is under way is for, if one is, why the program stands, and whether GDB is gone.
 pub record GdbState : Type 0 where
   pub debug : DebugState
@@ -44,6 +45,23 @@ no_reply g = record { state = g; reported = []; reply = None }
 abbrev pub with_script : GdbState → ScriptState → GdbState
 with_script g s = record g { debug = record g.debug { script = s } }
 
+-- the past alone is another
+abbrev pub with_past : GdbState → PastState → GdbState
+with_past g p = record g { debug = record g.debug { past = p } }
+
+-- What GDB does is kept of no line of a script: as of line 0.
+abbrev pub gdb_line : ℕ
+gdb_line = 0
+
+-- What steps did to the machine is kept: as many as were taken since so many were left.
+abbrev pub with_noted : GdbState → ℕ → GdbState
+with_noted g left = with_past g (past_with_steps g.debug.past gdb_line (left - g.debug.script.left)
+    (is_faulted g.debug.script.machine.halt))
+
+-- the state after steps
+abbrev pub with_steps_noted : GdbState → ScriptState → GdbState
+with_steps_noted g s = with_noted (with_script g s) g.debug.script.left
+
 -- the lines of the modules that are there
 abbrev pub script_libraries : ScriptState → List ℕ
 script_libraries s = library_lines s.machine.tables.modules
@@ -55,6 +73,7 @@ debug_settings setting = record {
   budget = setting.budget;
   form = Answers;
   meter = silent_meter;
+  keeps_past = true;
 }
 
 -- before the first line

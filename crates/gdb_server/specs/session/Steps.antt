@@ -1,26 +1,26 @@
 -- Steps that are taken one by one, with a look before and after each, and where they end: where a watch is
 -- struck, the machine itself stops, a break is reached, or what they are taken for.
-use Rattle.std.specs.Prelude.{ℕ, zero, suc, ◌/◌, ◌%◌, ◌==◌, not, ◌||◌, ◌&&◌, nat_le, nat_lt, min, Bool, true, false, List, [], ◌++◌, Option, Some, None, Result, Ok, Err, if◌then◌else◌}
+use Rattle.std.specs.Prelude.{ℕ, zero, suc, ◌==◌, not, ◌||◌, ◌&&◌, nat_le, nat_lt, min, Bool, true, false, List, [], ◌++◌, Option, Some, None, if◌then◌else◌}
 use Rattle.std.specs.Str.{bytes_eq}
 use Rattle.profile.specs.MemoryMap.{return_gate}
-use Rattle.profile.specs.declared.fault.Fault.{Fault}
 use Rattle.profile.specs.declared.stop.Stop.TheVariants as stop
 use Rattle.address_map.specs.Bytes.{word_loaded}
 use Rattle.command_shell.specs.MachineState.{MachineState}
 use Rattle.command_shell.specs.Run.{Run}
 use Rattle.command_shell.specs.State.{ScriptState}
 use Rattle.command_shell.specs.Stepping.{script_run, script_after_run}
+use Rattle.gdb_machine.specs.StepEnds.{is_interrupt, steps_further, struck_after}
 use Rattle.gdb_machine.specs.Watches.{first_changed, struck_place, watched_bytes}
 use Rattle.gdb_machine.specs.declared.stops.GdbStop.{GdbStop}
 use Rattle.gdb_machine.specs.declared.stops.GdbStop.TheVariants as reason
 use Rattle.gdb_machine.specs.declared.watches.SeenByte.{SeenByte}
 use Rattle.gdb_machine.specs.declared.watches.Watch.{Watch}
 use Rattle.gdb_machine.specs.declared.watches.WatchedPlace.{WatchedPlace}
-use Rattle.gdb_packets.specs.declared.requests.PlaceRange.{PlaceRange}
-use Rattle.gdb_server.specs.declared.session.session.Going.{Going}
-use Rattle.gdb_server.specs.declared.session.session.Going.TheVariants as going
+use Rattle.gdb_packets.specs.Going.{has_left}
+use Rattle.gdb_packets.specs.declared.going.Going.{Going}
+use Rattle.gdb_packets.specs.declared.going.Going.TheVariants as going
 use Rattle.gdb_server.specs.declared.session.stepping.StepAhead.{StepAhead}
-use Rattle.gdb_server.specs.session.MoreBreaks.{is_among}
+use Rattle.gdb_machine.specs.GdbBreaks.{is_among}
 use Rattle.gdb_server.specs.session.State.{GdbState, script_libraries}
 
 -- what steps leave: the state, what the guest printed, and why they ended
@@ -40,20 +40,8 @@ script_steps s count = steps_taken s (min count s.left) (script_run s (min count
 abbrev pub printed_before : List ℕ → StepsTaken → StepsTaken
 printed_before printed taken = record taken { printed = printed ++ taken.printed }
 
--- whether a step was taken after which there may be another
-abbrev pub steps_further : GdbStop → Bool
-steps_further (reason.Ran stop.Budget) = true
-steps_further (reason.Ran stop.Exit) = false
-steps_further (reason.Ran (stop.Break address)) = false
-steps_further (reason.Ran (stop.Fault f)) = false
-steps_further reason.Stepped = false
-steps_further reason.Asked = false
-steps_further (reason.Watched place) = false
-steps_further reason.Library = false
-steps_further (reason.Killed f) = false
-
 -- what is looked at for each step: what the steps are for, the watches and the watched bytes as they were
--- before, breaks beyond those of the machine's table, and the lines of the modules that GDB was told are there
+-- before, GDB's breaks, and the lines of the modules that GDB was told are there
 pub record StepLooks : Type 0 where
   pub going : Going
   pub watches : List Watch
@@ -64,11 +52,6 @@ pub record StepLooks : Type 0 where
 abbrev pub looks_at : GdbState → Going → List SeenByte → StepLooks
 looks_at g goes seen =
     record { going = goes; watches = g.watches; seen = seen; breaks = g.breaks; libraries = g.libraries }
-
--- A software interrupt is an instruction with bits 27 to 24 set.
-abbrev pub is_interrupt : Result ℕ Fault → Bool
-is_interrupt (Ok word) = word / 0x1000000 % 16 == 15
-is_interrupt (Err fault) = false
 
 -- whether the next step begins at a software interrupt, or where module code goes back
 abbrev pub begins_call : MachineState → Bool
@@ -95,15 +78,7 @@ ahead_of goes watches s =
 abbrev pub is_other_list : List ℕ → ScriptState → Bool
 is_other_list reported s = not (bytes_eq (script_libraries s) reported)
 
-abbrev pub is_within : PlaceRange → ℕ → Bool
-is_within places address = nat_le places.start address && nat_lt address places.end
-
-abbrev pub has_left : Going → ℕ → Bool
-has_left (going.Within places) address = not (is_within places address)
-has_left going.Once address = false
-has_left going.On address = false
-
--- a break beyond those of the machine's table; the end of what the steps are for; another list of modules
+-- a break of GDB's; the end of what the steps are for; another list of modules
 abbrev pub end_beside : Going → List ℕ → List ℕ → Bool → ScriptState → Option GdbStop
 end_beside goes breaks reported may_change s =
     if is_among breaks s.machine.cpu.pc then Some (reason.Ran (stop.Break s.machine.cpu.pc)) else (
@@ -117,11 +92,6 @@ machine_end l why may_change s =
 abbrev pub watched_or : Option WatchedPlace → Option GdbStop → Option GdbStop
 watched_or (Some place) other = Some (reason.Watched place)
 watched_or None other = other
-
--- what a step that ended so struck: one that met a fault has loaded and stored nothing
-abbrev pub struck_after : GdbStop → Option WatchedPlace → Option WatchedPlace
-struck_after (reason.Ran (stop.Fault f)) struck = None
-struck_after why struck = struck
 
 -- why the steps end with one before which that was so, that left this, and after which the machine itself stood
 -- for that reason

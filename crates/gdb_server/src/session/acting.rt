@@ -4,9 +4,9 @@ ghost use Rattle.std.specs.Prelude.{◌≡◌, [], None, List, IfErr, IfOk, opti
 ghost use Rattle.command_shell.specs.Error.{IsLineError};
 ghost use Rattle.gdb_packets.specs.Requests.{gdb_request};
 
-use crate::session::session::{GdbAnswer, GdbSession, Going};
+use crate::session::session::{GdbAnswer, GdbSession};
 use command_shell::RunError;
-use gdb_packets::Request;
+use gdb_packets::{Going, Request};
 use image_loader::Images;
 
 impl GdbSession {
@@ -34,6 +34,8 @@ impl GdbSession {
             Request::Step => self.go(images, Going::Once, None),
             Request::StepWith(signal) => self.go(images, Going::Once, Some(*signal)),
             Request::StepRange(places) => self.go(images, Going::Within(*places), None),
+            Request::StepBack => self.step_back(images),
+            Request::ContinueBack => self.continue_back(images),
             Request::HostAnswer(asks) => self.host_answered(images, *asks),
             Request::Line(pairs) => self.answer_line(images, pairs),
             Request::RunProgram => self.run_program(images),
@@ -52,16 +54,9 @@ impl GdbSession {
             ≡ option_map (λ text. text.now) reply.entry) }
         ensures errors { IfErr result IsLineError }
     {
-        let reported = Vec::new(self.alloc);
         match reply {
-            Some(reply) => {
-                let reply = Some(Vec::from_slice(self.alloc, reply)?);
-                Ok(GdbAnswer { reported, reply })
-            }
-            None => Ok(GdbAnswer {
-                reported,
-                reply: None,
-            }),
+            Some(reply) => Ok(self.with_reply(Vec::from_slice(self.alloc, reply)?)),
+            None => Ok(self.without_reply()),
         }
     }
 
@@ -77,7 +72,7 @@ impl GdbSession {
         ensures errors { IfErr result IsLineError }
     {
         match request {
-            Request::SetRegister(number, pairs) => Ok(Some(self.set_register(*number, pairs))),
+            Request::SetRegister(number, pairs) => Ok(Some(self.set_register(*number, pairs)?)),
             Request::StorePairs(range, pairs) => Ok(Some(self.store_pairs(*range, pairs)?)),
             Request::StoreBytes(range, bytes) => Ok(Some(self.store(*range, bytes))),
             Request::AddPoint(kind, range) => Ok(Some(self.add_point(*kind, *range))),

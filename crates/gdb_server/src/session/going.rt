@@ -1,21 +1,19 @@
 //! How a run or a step begins.
 
-ghost use Rattle.std.specs.Prelude.{◌≡◌, ◌++◌, List, IfErr, IfOk};
+ghost use Rattle.std.specs.Prelude.{◌≡◌, List, IfErr, IfOk};
 ghost use Rattle.command_shell.specs.Error.{IsLineError};
-ghost use Rattle.profile.specs.Output.{Writes};
-ghost use Rattle.gdb_server.specs.session.Runs.{halted_text, is_own_signal, last_stop as last_shown};
 
-use crate::session::running::stepped;
-use crate::session::session::{GdbAnswer, GdbSession, Going};
+use crate::session::session::{GdbAnswer, GdbSession};
 use command_shell::RunError;
-use gdb_machine::{GdbStop, signal_number_of};
+use gdb_machine::{GdbStop, is_own_signal, last_stop, push_halted};
+use gdb_packets::Going;
 use image_loader::Images;
 use profile::text_sink::TextSink;
-use profile::{Fault, Sink, Stop, WriteFault, push_all};
+use profile::{Fault, Stop};
 
 impl GdbSession {
     ghost use Rattle.image_loader.specs.Entries.{Entry};
-    ghost use Rattle.gdb_server.specs.session.Runs.{unhalted_answer, fault_shown, going_shown, halt_shown, step_taken, with_whole_budget};
+    ghost use Rattle.gdb_server.specs.session.Runs.{unhalted_answer, fault_shown, going_shown, halt_shown, step_taken, stop_here, unless_stepped, with_whole_budget};
     ghost use Rattle.gdb_server.specs.session.Session.{gdb_state, IsGdbAnswered};
 
     /// Begins a run or takes a step, with a signal or without.
@@ -107,55 +105,28 @@ impl GdbSession {
         ensures { (images : List Entry) → result ≡ step_taken (gdb_state self.now images) }
     {
         match self.stop {
-            GdbStop::Watched(_) => Some(last_stop(self.debug.session.last())),
+            GdbStop::Watched(_) => Some(self.unless_stepped(last_stop(self.debug.session.last()))),
             _ => None,
         }
     }
-}
 
-// Why the machine itself stood after its last step.
-fn last_stop(last: Option<Stop>) -> GdbStop
-    ensures { result ≡ last_shown last }
-{
-    match last {
-        Some(stop) => stepped(GdbStop::Ran(stop)),
-        None => GdbStop::Stepped,
+    fn unless_stepped(&self, stop: GdbStop) -> GdbStop
+        ensures { (images : List Entry) → result ≡ unless_stepped (gdb_state self.now images) stop }
+    {
+        match stop {
+            GdbStop::Stepped => self.stop_here(),
+            _ => stop,
+        }
     }
-}
 
-// Whether a signal is that of a fault.
-fn is_own_signal(signal: Option<u32>, fault: Fault) -> bool
-    ensures { result ≡ is_own_signal signal fault }
-{
-    match signal {
-        Some(signal) => signal == u32::from(signal_number_of(fault)),
-        None => false,
+    /// Why the program stands at a place to which a step led.
+    pub(crate) fn stop_here(&self) -> GdbStop
+        ensures { (images : List Entry) → result ≡ stop_here (gdb_state self.now images) }
+    {
+        if self.stands_at_break() {
+            GdbStop::Ran(Stop::Break(self.debug.session.machine().cpu().pc()))
+        } else {
+            GdbStop::Stepped
+        }
     }
-}
-
-// `rosm: halted by DataUnmapped; RESET, load or another pc wakes the machine`
-fn push_halted<W: Sink>(sink: &mut W, fault: Fault) -> Result<(), WriteFault>
-    ensures { Writes W.contents W.has_failed sink.old sink.new result (halted_text fault) }
-{
-    push_between(
-        sink,
-        b"rosm: halted by ",
-        fault.name().as_bytes(),
-        b"; RESET, load or another pc wakes the machine\n",
-    )
-}
-
-// A text between two others.
-fn push_between<W: Sink>(
-    sink: &mut W,
-    before: &[u8],
-    text: &[u8],
-    after: &[u8],
-) -> Result<(), WriteFault>
-    ensures { Writes W.contents W.has_failed sink.old sink.new result
-        (before.now ++ (text.now ++ after.now)) }
-{
-    push_all(sink, before)?;
-    push_all(sink, text)?;
-    push_all(sink, after)
 }

@@ -4,10 +4,9 @@ ghost use Rattle.std.specs.Prelude.{◌≡◌, List, Some, IfErr, IfOk, OnOk};
 ghost use Rattle.command_shell.specs.Error.{IsLineError};
 ghost use Rattle.profile.specs.text_sink.TextSink.{sink_text_of};
 
-use crate::session::changing::decoded;
 use crate::session::session::{GdbAnswer, GdbSession};
 use command_shell::RunError;
-use gdb_machine::GdbStop;
+use gdb_machine::{GdbStop, decoded};
 use image_loader::Images;
 use profile::text_lines::Lines;
 use profile::text_sink::TextSink;
@@ -120,10 +119,6 @@ impl GdbSession {
         ensures errors { IfErr result IsLineError }
     {
         let _shown = self.begin(images)?;
-        let reported = Vec::new(self.alloc);
-        Ok(GdbAnswer {
-            reported,
-            reply: None,
-        })
+        Ok(self.without_reply())
     }
 }

@@ -2,18 +2,13 @@
 
 ghost use Rattle.std.specs.Prelude.{◌≡◌, List, IfOk, option_map};
 ghost use Rattle.gdb_packets.specs.Requests.{gdb_request};
-ghost use Rattle.gdb_server.specs.session.Looks.{fixed_reply as fixed_shown, threads_text};
 
 use crate::session::session::GdbSession;
 use gdb_machine::{
     all_registers, description_part, libraries_part, memory_shown, one_register, stop_packet,
 };
-use gdb_packets::Request;
+use gdb_packets::{Request, fixed_reply, threads};
 use std::alloc::AllocError;
-
-/// What the other side may ask for.
-const SUPPORTED: &[u8] = b"PacketSize=4000;QStartNoAckMode+;vContSupported+;swbreak+;hwbreak+;\
-    qXfer:features:read+;qXfer:libraries:read+";
 
 impl GdbSession {
     ghost use Rattle.image_loader.specs.Entries.{Entry};
@@ -51,29 +46,5 @@ impl GdbSession {
             Some(reply) => Ok(Some(Vec::from_slice(self.alloc, reply)?)),
             None => Ok(None),
         }
-    }
-}
-
-// The one thread, while the program is there.
-fn threads(is_gone: bool) -> &'static [u8]
-    ensures { result.now ≡ threads_text is_gone }
-{
-    if is_gone { b"l" } else { b"m1" }
-}
-
-// What requests are answered with whose answer is always the same.
-fn fixed_reply(request: &Request<'_>) -> Option<&'static [u8]>
-    ensures { option_map (λ text. text.now) result ≡ fixed_shown (gdb_request request.now) }
-{
-    match request {
-        Request::NoAcks | Request::Thread(true) | Request::Extended => Some(b"OK"),
-        Request::Thread(false) => Some(b"E01"),
-        Request::Supported => Some(SUPPORTED),
-        Request::Ways => Some(b"vCont;c;C;s;S;r"),
-        Request::IsAttached => Some(b"0"),
-        Request::CurrentThread => Some(b"QC1"),
-        Request::MoreThreads => Some(b"l"),
-        Request::Unknown | Request::SetRegisters(_) => Some(b""),
-        _ => None,
     }
 }

@@ -6,13 +6,13 @@ ghost use Rattle.command_shell.specs.Answers.{stop_text};
 ghost use Rattle.command_shell.specs.Error.{IsLineError};
 ghost use Rattle.profile.specs.Output.{Writes};
 ghost use Rattle.profile.specs.text_sink.TextSink.{sink_text_of};
-ghost use Rattle.gdb_server.specs.session.Steps.{steps_further as goes_on_shown};
-ghost use Rattle.gdb_server.specs.session.Runs.{stop_after_step, user_text, was_library as was_library_shown};
+ghost use Rattle.gdb_machine.specs.StepEnds.{steps_further as goes_on_shown};
+ghost use Rattle.gdb_server.specs.session.Runs.{user_text};
 
-use crate::session::session::{GdbAnswer, GdbSession, Going};
-use crate::session::stepping::goes_on;
+use crate::session::session::{GdbAnswer, GdbSession};
 use command_shell::{RunError, print_stop};
-use gdb_machine::{GdbStop, library_lines, stop_packet};
+use gdb_machine::{GdbStop, goes_on, library_lines, stepped, stop_packet, was_library};
+use gdb_packets::Going;
 use image_loader::Images;
 use profile::text_sink::TextSink;
 use profile::{Sink, Stop, WriteFault, push_all};
@@ -56,7 +56,8 @@ impl GdbSession {
         was_library(self.stop) && self.stands_at_break()
     }
 
-    fn stands_at_break(&self) -> bool
+    /// Whether the program stands at a break.
+    pub(crate) fn stands_at_break(&self) -> bool
         ensures { (images : List Entry) → result ≡ stands_at_break (gdb_state self.now images) }
     {
         let at = self.debug.session.machine().cpu().pc();
@@ -76,11 +77,7 @@ impl GdbSession {
         ensures errors { IfErr result IsLineError }
     {
         let Some(going) = self.going else {
-            let reported = Vec::new(self.alloc);
-            return Ok(GdbAnswer {
-                reported,
-                reply: None,
-            });
+            return Ok(self.without_reply());
         };
         if asks {
             return self.stopped(TextSink::new(self.alloc), GdbStop::Asked);
@@ -98,11 +95,7 @@ impl GdbSession {
         ensures errors { IfErr result IsLineError }
     {
         let Some(_) = self.going else {
-            let reported = Vec::new(self.alloc);
-            return Ok(GdbAnswer {
-                reported,
-                reply: None,
-            });
+            return Ok(self.without_reply());
         };
         self.stopped(TextSink::new(self.alloc), GdbStop::Asked)
     }
@@ -204,24 +197,6 @@ fn may_go_on(stop: GdbStop, left: u64) -> bool
     ensures { result ≡ (goes_on_shown stop && nat_lt 0 left) }
 {
     goes_on(stop) && left > 0
-}
-
-/// Why the program stands after a step.
-pub(crate) fn stepped(stop: GdbStop) -> GdbStop
-    ensures { result ≡ stop_after_step stop }
-{
-    if goes_on(stop) {
-        GdbStop::Stepped
-    } else {
-        stop
-    }
-}
-
-// Whether GDB was told of other modules.
-fn was_library(stop: GdbStop) -> bool
-    ensures { result ≡ was_library_shown stop }
-{
-    matches!(stop, GdbStop::Library)
 }
 
 // `rosm: ` and the stop line of a fault, or where the budget is used up.

@@ -1,17 +1,19 @@
 //! A session with GDB, and how one of its requests is answered.
 
-ghost use Rattle.std.specs.Prelude.{◌≡◌, [], Some, List, IfOk, IfErr, is_some};
+ghost use Rattle.std.specs.Prelude.{◌≡◌, [], None, Some, List, IfOk, IfErr, is_some};
 ghost use Rattle.command_shell.specs.Error.{IsLineError};
-ghost use Rattle.gdb_server.specs.session.State.{debug_settings as debug_setting_shown};
+ghost use Rattle.gdb_server.specs.session.State.{debug_settings, gdb_start};
 
-use crate::session::more_breaks::MoreBreaks;
 use command_shell::RunError;
 use debug_session::{DebugSession, DebugSettings, ReportForm, RunMeter};
-use gdb_machine::{GdbStop, Watches};
-use gdb_packets::{PlaceRange, Request};
+use gdb_machine::{GdbBreaks, GdbStop, Watches};
+use gdb_packets::{Going, Request};
 use image_loader::Images;
 use profile::{Config, Stop};
 use std::alloc::{AllocError, Global};
+
+/// The line under which what GDB does is kept in the past of the machine: no script has it.
+pub(crate) const GDB_LINE: u64 = 0;
 
 /// What a session is made with.
 #[derive(Clone, Copy, Debug)]
@@ -24,17 +26,6 @@ pub struct GdbSettings {
     pub most: u64,
 }
 
-/// What a run is for.
-#[derive(Clone, Copy)]
-pub enum Going {
-    /// One step.
-    Once,
-    /// Steps, as long as the program stands in a range of addresses.
-    Within(PlaceRange),
-    /// To go on until something stops it.
-    On,
-}
-
 /// A session with GDB: a session of debugging scripts, and what GDB has asked for.
 #[derive(Drop)]
 pub struct GdbSession {
@@ -43,8 +34,8 @@ pub struct GdbSession {
     pub(crate) start: Vec<u8>,
     pub(crate) debug: DebugSession,
     pub(crate) watches: Watches,
-    // The breaks for which the machine's own table has no room.
-    pub(crate) breaks: MoreBreaks,
+    // The breaks that GDB set.
+    pub(crate) breaks: GdbBreaks,
     // The lines of the modules that GDB was told are there.
     pub(crate) libraries: Vec<u8>,
     pub(crate) most: u64,
@@ -68,7 +59,6 @@ impl GdbSession {
     ghost use Rattle.gdb_packets.specs.Requests.{gdb_request};
     ghost use Rattle.gdb_server.specs.session.Requests.{gdb_answered};
     ghost use Rattle.gdb_server.specs.session.Session.{gdb_state, IsGdbAnswered};
-    ghost use Rattle.gdb_server.specs.session.State.{debug_settings, gdb_start};
 
     /// A session on a fresh machine, whose first lines have not been answered yet.
     ///
@@ -83,13 +73,13 @@ impl GdbSession {
     {
         let most = setting.most;
         let start = Vec::from_slice(alloc, start)?;
-        let debug = DebugSession::new(alloc, debug_settings(setting))?;
+        let debug = DebugSession::new(alloc, settings_of(setting))?;
         Ok(GdbSession {
             alloc,
             start,
             debug,
             watches: Watches::new(),
-            breaks: MoreBreaks::new(),
+            breaks: GdbBreaks::new(),
             libraries: Vec::new(alloc),
             most,
             going: None,
@@ -153,16 +143,28 @@ impl GdbSession {
             reply: Some(reply),
         }
     }
+
+    // Neither text nor a packet.
+    pub(crate) fn without_reply(&self) -> GdbAnswer
+        ensures reported { result.reported.items ≡ [] }
+        ensures reply { result.reply ≡ None }
+    {
+        GdbAnswer {
+            reported: Vec::new(self.alloc),
+            reply: None,
+        }
+    }
 }
 
 // What lines are answered with: as answers.
-fn debug_settings(setting: GdbSettings) -> DebugSettings
-    ensures { result ≡ debug_setting_shown setting }
+fn settings_of(setting: GdbSettings) -> DebugSettings
+    ensures { result ≡ debug_settings setting }
 {
     DebugSettings {
         config: setting.config,
         budget: setting.budget,
         form: ReportForm::Answers,
         meter: RunMeter::silent(),
+        keeps_past: true,
     }
 }

@@ -1,18 +1,23 @@
 //! Steps that are taken one by one, with a look before and after each.
 
-ghost use Rattle.std.specs.Prelude.{◌≡◌, List, IfErr, IfOk};
+ghost use Rattle.std.specs.Prelude.{◌≡◌, List, IfErr, IfOk, OnOk};
 ghost use Rattle.command_shell.specs.Error.{IsLineError};
 ghost use Rattle.command_shell.specs.GuestState.{state_of};
 ghost use Rattle.profile.specs.text_sink.TextSink.{sink_text_of};
-ghost use Rattle.gdb_server.specs.session.Steps.{begins_call, has_left, is_interrupt as is_interrupt_shown, may_change_list, steps_further as goes_on_shown, struck_after};
+ghost use Rattle.gdb_server.specs.session.Steps.{begins_call, may_change_list};
 
-use crate::session::session::{GdbSession, Going};
+use crate::session::session::{GDB_LINE, GdbSession};
 use command_shell::{Machine, RunError};
-use gdb_machine::{GdbStop, SeenByte, WatchedPlace, first_changed, library_lines};
+use debug_session::is_faulted;
+use gdb_machine::{
+    GdbStop, SeenByte, WatchedPlace, first_changed, goes_on, is_interrupt, library_lines,
+    struck_after,
+};
+use gdb_packets::{Going, has_left};
 use image_loader::Images;
+use profile::Stop;
 use profile::memory_map::RETURN_GATE;
 use profile::text_sink::TextSink;
-use profile::{Fault, Stop};
 use std::alloc::AllocError;
 
 /// What is known before a step: whether it may change which modules are there, and where its instruction
@@ -25,11 +30,12 @@ pub(crate) struct StepAhead {
 
 impl GdbSession {
     ghost use Rattle.image_loader.specs.Entries.{Entry};
-    ghost use Rattle.gdb_server.specs.session.Session.{gdb_state, IsAfterSteps};
+    ghost use Rattle.gdb_server.specs.session.Session.{gdb_state, IsAfterLooked, IsAfterSteps};
+    ghost use Rattle.gdb_server.specs.session.State.{with_noted};
     ghost use Rattle.gdb_server.specs.session.Steps.{ahead_of, end_beside, end_of_step, gdb_steps, is_other_list, struck_ahead};
     ghost use Rattle.gdb_server.specs.session.Steps.{looked_steps, looks_at};
 
-    /// Takes so many steps, fewer where they end before.
+    /// Takes so many steps, fewer where they end before, and keeps what they did.
     pub(crate) fn take_steps(
         &mut self,
         images: &Images,
@@ -47,7 +53,23 @@ impl GdbSession {
     {
         let map = self.debug.session.machine().memory();
         let seen = self.watches.seen_bytes(self.alloc, map)?;
-        self.take_looked(images, printed, going, seen.as_slice(), count)
+        let left = self.debug.session.left();
+        let stop = self.take_looked(images, printed, going, seen.as_slice(), count)?;
+        self.note_steps(left)?;
+        Ok(stop)
+    }
+
+    // Keeps what the steps did that were taken since so many were left.
+    fn note_steps(&mut self, left: u64) -> Result<(), AllocError>
+        ensures reported { (images : List Entry) → OnOk result (gdb_state self.new images
+            ≡ with_noted (gdb_state self.old images) left) }
+        ensures setting { self.new.debug.setting ≡ self.old.debug.setting }
+        ensures start { self.new.start.items ≡ self.old.start.items }
+    {
+        let taken = left.saturating_sub(self.debug.session.left());
+        let has_faulted = is_faulted(&self.debug.session);
+        self.debug.past.put_steps(GDB_LINE, taken, has_faulted)?;
+        Ok(())
     }
 
     fn take_looked(
@@ -59,7 +81,7 @@ impl GdbSession {
         count: u64,
     ) -> Result<GdbStop, RunError>
         ensures taken { IfOk result (λ stop.
-            IsAfterSteps (gdb_state self.old images.now) (gdb_state self.new images.now)
+            IsAfterLooked (gdb_state self.old images.now) (gdb_state self.new images.now)
             (sink_text_of printed.old) (sink_text_of printed.new) stop
             (looked_steps (looks_at (gdb_state self.old images.now) going seen.now) count
             (gdb_state self.old images.now).debug.script)) }
@@ -161,33 +183,6 @@ impl GdbSession {
     }
 }
 
-// What a step that ended so struck: one that met a fault has loaded and stored nothing.
-fn struck_after(stop: GdbStop, struck: Option<WatchedPlace>) -> Option<WatchedPlace>
-    ensures { result ≡ struck_after stop struck }
-{
-    match stop {
-        GdbStop::Ran(Stop::Fault(_)) => None,
-        _ => struck,
-    }
-}
-
-// Whether there may be another step.
-pub(crate) fn goes_on(stop: GdbStop) -> bool
-    ensures { result ≡ goes_on_shown stop }
-{
-    matches!(stop, GdbStop::Ran(Stop::Budget))
-}
-
-// Whether the program has left the range in which it is to take steps.
-fn has_left(going: Going, address: u32) -> bool
-    ensures { result ≡ has_left going address }
-{
-    match going {
-        Going::Within(places) => address < places.start || address >= places.end,
-        Going::Once | Going::On => false,
-    }
-}
-
 // Whether the next step may change which modules are there, where GDB wants to know of it at once.
 fn may_change_list(going: Going, machine: &Machine) -> bool
     ensures { result ≡ may_change_list going (state_of machine.now.guest) }
@@ -204,13 +199,4 @@ fn begins_call(machine: &Machine) -> bool
 {
     let at = machine.cpu().pc();
     at == RETURN_GATE || is_interrupt(machine.memory().load_word(at))
-}
-
-fn is_interrupt(word: Result<u32, Fault>) -> bool
-    ensures { result ≡ is_interrupt_shown word }
-{
-    match word {
-        Ok(word) => word / 0x0100_0000 % 16 == 15,
-        Err(_) => false,
-    }
 }

@@ -1,12 +1,11 @@
 //! Bytes stored by GDB.
 
 ghost use Rattle.std.specs.Prelude.{◌≡◌, List};
-ghost use Rattle.gdb_server.specs.session.Stores.{store_refusal as refusal_shown};
 
 use crate::session::session::GdbSession;
 use debug_session::put_bytes;
+use gdb_machine::store_refusal;
 use gdb_packets::ByteRange;
-use profile::Fault;
 
 impl GdbSession {
     ghost use Rattle.image_loader.specs.Entries.{Entry};
@@ -25,17 +24,14 @@ impl GdbSession {
             return b"E16";
         }
         match put_bytes(&mut self.debug.session, range.start, bytes) {
-            Ok(()) => b"OK",
+            Ok(()) => {
+                // what was there before isn't kept
+                if !bytes.is_empty() {
+                    self.debug.past.lose();
+                }
+                b"OK"
+            }
             Err(fault) => store_refusal(fault),
         }
-    }
-}
-
-fn store_refusal(fault: Fault) -> &'static [u8]
-    ensures { result.now ≡ refusal_shown fault }
-{
-    match fault {
-        Fault::OwnedWord => b"E0d",
-        _ => b"E0e",
     }
 }

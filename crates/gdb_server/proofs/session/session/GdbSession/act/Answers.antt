@@ -10,4 +10,5 @@ returns-in_ok-reply-in_default-clause-reported c =
     (c.in_ok-reply-in_default.ensures.reported images
     ∙ other_act c.args.self.now.debug.setting c.args.self.now.start.items (gdb_state c.args.self.now images) c.args.request.now
     c.in_default.not-Continue c.in_default.not-ContinueWith c.in_default.not-Step c.in_default.not-StepWith c.in_default.not-StepRange
-    c.in_default.not-HostAnswer c.in_default.not-Line c.in_default.not-RunProgram c.in_default.not-Restart)
+    c.in_default.not-HostAnswer c.in_default.not-Line c.in_default.not-RunProgram c.in_default.not-Restart
+    c.in_default.not-StepBack c.in_default.not-ContinueBack)

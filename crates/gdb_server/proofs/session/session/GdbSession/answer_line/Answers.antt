@@ -1,7 +1,7 @@
 use Rattle.std.proofs.Common.{◌≡◌, ap, subst, ◌∙◌}
 use Rattle.std.specs.Prelude.{codes, IfOk, option_map, Some, None}
 use Rattle.hex.specs.Hex.{decode_of}
-use Rattle.gdb_server.specs.session.Changes.{bytes_of_pairs}
+use Rattle.gdb_machine.specs.ChangePackets.{bytes_of_pairs}
 use Rattle.gdb_server.specs.session.Runs.{line_decoded}
 use Rattle.gdb_server.specs.session.Session.{gdb_state, IsGdbAnswered}
 use Rattle.gdb_server.specs.session.State.{GdbState, GdbAnswered}

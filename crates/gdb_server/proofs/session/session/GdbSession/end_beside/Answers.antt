@@ -3,9 +3,9 @@ use Rattle.arm_core.specs.State.{State}
 use Rattle.command_shell.specs.GuestState.{state_of}
 use Rattle.command_shell.specs.State.{ScriptState}
 use Rattle.command_shell.specs.Value.{MachineValue}
-use Rattle.gdb_server.specs.session.MoreBreaks.{is_among}
+use Rattle.gdb_machine.specs.GdbBreaks.{is_among}
 use Rattle.gdb_server.specs.session.Session.{gdb_state}
-use Rattle.gdb_server.specs.session.Steps.{has_left}
+use Rattle.gdb_packets.specs.Going.{has_left}
 use Rattle.gdb_server.proofs.SessionLemmas.StepLemmas.{beside_list, beside_nothing}
 use Rattle.gdb_server.proofs.session.session.GdbSession.end_beside.Goals as goal
 

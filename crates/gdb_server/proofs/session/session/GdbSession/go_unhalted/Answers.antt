@@ -1,6 +1,6 @@
 use Rattle.std.proofs.Common.{ℕ, List, ap, sym, ◌∙◌}
-use Rattle.gdb_server.specs.declared.session.session.Going.{Going}
-use Rattle.gdb_server.specs.declared.session.session.Going.TheVariants as going
+use Rattle.gdb_packets.specs.declared.going.Going.{Going}
+use Rattle.gdb_packets.specs.declared.going.Going.TheVariants as going
 use Rattle.gdb_server.specs.session.Runs.{unhalted_answer, gdb_step_shown, gdb_stop_shown, slice_shown}
 use Rattle.gdb_server.specs.session.Session.{gdb_state}
 use Rattle.gdb_server.specs.session.State.{GdbState}

@@ -1,28 +1,39 @@
-use Rattle.std.proofs.Common.{ap, sym, ◌∙◌}
+use Rattle.std.proofs.Common.{ℕ, ap, sym, ◌∙◌}
 use Rattle.command_shell.specs.Memory.{script_unhalted}
-use Rattle.command_shell.specs.State.{ScriptState}
+use Rattle.command_shell.specs.Session.{script_state}
+use Rattle.debug_session.specs.Past.{unknown_past}
+use Rattle.debug_session.specs.PastDeed.TheVariants as deed
+use Rattle.debug_session.specs.PastNoted.{past_with_deed}
+use Rattle.gdb_server.specs.session.Changes.{past_after_write, script_with_change}
 use Rattle.gdb_server.specs.session.Session.{gdb_state}
-use Rattle.gdb_machine.specs.declared.changes.RegisterWrite.{RegisterWrite}
-use Rattle.gdb_server.specs.session.Changes.{script_with_change}
-use Rattle.gdb_server.specs.session.State.{with_script}
+use Rattle.gdb_server.specs.session.State.{GdbState, gdb_line}
+use Rattle.gdb_server.proofs.SessionLemmas.ChangeLemmas.{changed_so}
 use Rattle.gdb_server.proofs.session.session.GdbSession.make_change.Goals as goal
 
-pub returns-in-Present-clause-reported : goal.returns-in-Present-clause-reported
-returns-in-Present-clause-reported c images =
-    ap (λ (s : ScriptState). with_script (gdb_state c.args.self.now images) s) (c.set_register.ensures images
-    ∙ ap (λ (d : RegisterWrite). script_with_change (gdb_state c.args.self.now images).debug.script d) (sym c.in-Present.is))
+pub returns-in_ok-put-in-Present-clause-reported : goal.returns-in_ok-put-in-Present-clause-reported
+returns-in_ok-put-in-Present-clause-reported c images =
+    let g : GdbState = gdb_state c.args.self.now images in
+    changed_so g (script_state c.set_register.new.self images) _ c.args.change
+    (c.set_register.ensures images ∙ ap (script_with_change g.debug.script) (sym c.in-Present.is))
+    (c.in_ok-put-in-Present.ensures ∙ ap (λ (n : ℕ). past_with_deed g.debug.past gdb_line (deed.Register n c.in-Present.value)) c.new-register.ensures ∙ ap (past_after_write g.debug.past) (sym c.in-Present.is))
 
 pub returns-in-Place-clause-reported : goal.returns-in-Place-clause-reported
 returns-in-Place-clause-reported c images =
-    ap (λ (s : ScriptState). with_script (gdb_state c.args.self.now images) s) (c.wake.ensures images ∙ ap script_unhalted (c.set_pc.ensures images)
-    ∙ ap (λ (d : RegisterWrite). script_with_change (gdb_state c.args.self.now images).debug.script d) (sym c.in-Place.is))
+    let g : GdbState = gdb_state c.args.self.now images in
+    changed_so g (script_state c.wake.new.self images) _ c.args.change
+    (c.wake.ensures images ∙ ap script_unhalted (c.set_pc.ensures images) ∙ ap (script_with_change g.debug.script) (sym c.in-Place.is))
+    (c.lose.ensures ∙ ap (past_after_write g.debug.past) (sym c.in-Place.is))
 
-pub returns-in-Status-clause-reported : goal.returns-in-Status-clause-reported
-returns-in-Status-clause-reported c images =
-    ap (λ (s : ScriptState). with_script (gdb_state c.args.self.now images) s) (c.set_psr.ensures images
-    ∙ ap (λ (d : RegisterWrite). script_with_change (gdb_state c.args.self.now images).debug.script d) (sym c.in-Status.is))
+pub returns-in_ok-put-in-Status-clause-reported : goal.returns-in_ok-put-in-Status-clause-reported
+returns-in_ok-put-in-Status-clause-reported c images =
+    let g : GdbState = gdb_state c.args.self.now images in
+    changed_so g (script_state c.set_psr.new.self images) _ c.args.change
+    (c.set_psr.ensures images ∙ ap (script_with_change g.debug.script) (sym c.in-Status.is))
+    (c.in_ok-put-in-Status.ensures ∙ ap (past_after_write g.debug.past) (sym c.in-Status.is))
 
 pub returns-in-Banked-clause-reported : goal.returns-in-Banked-clause-reported
 returns-in-Banked-clause-reported c images =
-    ap (λ (s : ScriptState). with_script (gdb_state c.args.self.now images) s) (c.set_register_in.ensures images
-    ∙ ap (λ (d : RegisterWrite). script_with_change (gdb_state c.args.self.now images).debug.script d) (sym c.in-Banked.is))
+    let g : GdbState = gdb_state c.args.self.now images in
+    changed_so g (script_state c.set_register_in.new.self images) _ c.args.change
+    (c.set_register_in.ensures images ∙ ap (script_with_change g.debug.script) (sym c.in-Banked.is))
+    (c.lose-in-Banked.ensures ∙ ap (past_after_write g.debug.past) (sym c.in-Banked.is))

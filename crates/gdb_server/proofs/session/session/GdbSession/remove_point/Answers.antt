@@ -6,6 +6,11 @@ use Rattle.gdb_server.specs.session.Requests.{remove_point_shown}
 use Rattle.gdb_server.specs.session.Session.{gdb_state}
 use Rattle.gdb_server.proofs.session.session.GdbSession.remove_point.Goals as goal
 
+pub returns-in-Break-clause-reported : goal.returns-in-Break-clause-reported
+returns-in-Break-clause-reported c = λ (images : List Entry).
+    c.remove_break.ensures.reported images
+    ∙ ap (λ (k : PointKind). remove_point_shown (gdb_state c.args.self.now images) k c.args.range) (sym c.in-Break.is)
+
 pub returns-in-StoreWatch-clause-reported : goal.returns-in-StoreWatch-clause-reported
 returns-in-StoreWatch-clause-reported c = λ (images : List Entry).
     c.remove_watch.ensures.reported images

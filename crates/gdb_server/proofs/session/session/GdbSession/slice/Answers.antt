@@ -1,10 +1,11 @@
 use Rattle.std.proofs.Common.{◌≡◌, ℕ, ◌&&◌, false, true, List, ap, subst, sym, ◌∙◌}
 use Rattle.std.specs.Prelude.{nat_lt}
 use Rattle.profile.specs.text_sink.TextSink.{sink_text_of}
+use Rattle.gdb_machine.specs.StepEnds.{steps_further}
 use Rattle.gdb_server.specs.session.Runs.{slice_steps}
 use Rattle.gdb_server.specs.session.Session.{gdb_state, IsAfterSteps}
 use Rattle.gdb_server.specs.session.State.{GdbState}
-use Rattle.gdb_server.specs.session.Steps.{gdb_steps, steps_further}
+use Rattle.gdb_server.specs.session.Steps.{gdb_steps}
 use Rattle.gdb_server.proofs.SessionLemmas.RunLemmas.{answered_as, slice_asks, slice_ends}
 use Rattle.gdb_server.proofs.session.session.GdbSession.slice.Goals as goal
 

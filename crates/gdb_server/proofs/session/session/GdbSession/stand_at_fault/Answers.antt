@@ -1,7 +1,8 @@
 use Rattle.std.proofs.Common.{◌≡◌, ◌++◌, ℕ, List, ap, sym, ◌∙◌}
+use Rattle.gdb_machine.specs.StepEnds.{halted_text}
 use Rattle.gdb_machine.specs.declared.stops.GdbStop.TheVariants as reason
 use Rattle.profile.specs.declared.stop.Stop.TheVariants as stop
-use Rattle.gdb_server.specs.session.Runs.{gdb_stop_shown, halted_text, stop_shown_with}
+use Rattle.gdb_server.specs.session.Runs.{gdb_stop_shown, stop_shown_with}
 use Rattle.gdb_server.specs.session.Session.{gdb_state}
 use Rattle.gdb_server.specs.session.State.{GdbState}
 use Rattle.profile.specs.text_sink.TextSink.{sink_text_of}

@@ -1,5 +1,5 @@
 use Rattle.std.proofs.Common.{ℕ, List, subst}
-use Rattle.gdb_server.specs.declared.session.session.Going.TheVariants as going
+use Rattle.gdb_packets.specs.declared.going.Going.TheVariants as going
 use Rattle.profile.specs.text_sink.TextSink.{sink_text_of}
 use Rattle.gdb_server.specs.session.Session.{gdb_state, IsAfterSteps}
 use Rattle.gdb_server.specs.session.State.{GdbState}

@@ -1,7 +1,7 @@
 use Rattle.std.proofs.Common.{◌++◌, ℕ, List, subst, ◌∙◌}
 use Rattle.std.specs.Prelude.{codes}
 use Rattle.profile.specs.Output.{Writes}
-use Rattle.gdb_server.proofs.session.going.push_halted.Goals as goal
+use Rattle.gdb_machine.proofs.step_ends.push_halted.Goals as goal
 
 pub returns : goal.returns
 returns g c =

@@ -1,7 +1,7 @@
 use Rattle.std.proofs.Common.{ap, ◌∙◌}
 use Rattle.gdb_machine.specs.Changes.{register_write}
-use Rattle.gdb_server.proofs.SessionLemmas.ChangeLemmas.{write_read}
-use Rattle.gdb_server.proofs.session.changing.wanted_write.Goals as goal
+use Rattle.gdb_machine.proofs.PacketLemmas.{write_read}
+use Rattle.gdb_machine.proofs.change_packets.wanted_write.Goals as goal
 
 pub returns-in-Ok-clause-value : goal.returns-in-Ok-clause-value
 returns-in-Ok-clause-value c =

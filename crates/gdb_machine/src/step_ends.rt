@@ -1,0 +1,101 @@
+//! How a step ended, and what of that is shown.
+
+ghost use Rattle.std.specs.Prelude.{◌≡◌, ◌++◌};
+ghost use Rattle.profile.specs.Output.{Writes};
+ghost use Rattle.gdb_machine.specs.StepEnds.{halted_text, is_interrupt as is_interrupt_shown, is_own_signal, last_stop as last_shown, steps_further as goes_on_shown, stop_after_step, struck_after, was_library as was_library_shown};
+
+use crate::stops::{GdbStop, signal_number_of};
+use crate::watches::WatchedPlace;
+use profile::{Fault, Sink, Stop, WriteFault, push_all};
+
+/// Whether there may be another step.
+pub fn goes_on(stop: GdbStop) -> bool
+    ensures { result ≡ goes_on_shown stop }
+{
+    matches!(stop, GdbStop::Ran(Stop::Budget))
+}
+
+/// Why the program stands after a step.
+pub fn stepped(stop: GdbStop) -> GdbStop
+    ensures { result ≡ stop_after_step stop }
+{
+    if goes_on(stop) {
+        GdbStop::Stepped
+    } else {
+        stop
+    }
+}
+
+/// Why the machine itself stood after its last step.
+pub fn last_stop(last: Option<Stop>) -> GdbStop
+    ensures { result ≡ last_shown last }
+{
+    match last {
+        Some(stop) => stepped(GdbStop::Ran(stop)),
+        None => GdbStop::Stepped,
+    }
+}
+
+/// What a step that ended so struck: one that met a fault has loaded and stored nothing.
+pub fn struck_after(stop: GdbStop, struck: Option<WatchedPlace>) -> Option<WatchedPlace>
+    ensures { result ≡ struck_after stop struck }
+{
+    match stop {
+        GdbStop::Ran(Stop::Fault(_)) => None,
+        _ => struck,
+    }
+}
+
+/// Whether GDB was told of other modules.
+pub fn was_library(stop: GdbStop) -> bool
+    ensures { result ≡ was_library_shown stop }
+{
+    matches!(stop, GdbStop::Library)
+}
+
+/// Whether a word that may have been loaded is a software interrupt.
+pub fn is_interrupt(word: Result<u32, Fault>) -> bool
+    ensures { result ≡ is_interrupt_shown word }
+{
+    match word {
+        Ok(word) => word / 0x0100_0000 % 16 == 15,
+        Err(_) => false,
+    }
+}
+
+/// Whether a signal is that of a fault.
+pub fn is_own_signal(signal: Option<u32>, fault: Fault) -> bool
+    ensures { result ≡ is_own_signal signal fault }
+{
+    match signal {
+        Some(signal) => signal == u32::from(signal_number_of(fault)),
+        None => false,
+    }
+}
+
+/// `rosm: halted by DataUnmapped; RESET, load or another pc wakes the machine`
+pub fn push_halted<W: Sink>(sink: &mut W, fault: Fault) -> Result<(), WriteFault>
+    ensures { Writes W.contents W.has_failed sink.old sink.new result (halted_text fault) }
+{
+    push_between(
+        sink,
+        b"rosm: halted by ",
+        fault.name().as_bytes(),
+        b"; RESET, load or another pc wakes the machine\n",
+    )
+}
+
+// A text between two others.
+fn push_between<W: Sink>(
+    sink: &mut W,
+    before: &[u8],
+    text: &[u8],
+    after: &[u8],
+) -> Result<(), WriteFault>
+    ensures { Writes W.contents W.has_failed sink.old sink.new result
+        (before.now ++ (text.now ++ after.now)) }
+{
+    push_all(sink, before)?;
+    push_all(sink, text)?;
+    push_all(sink, after)
+}

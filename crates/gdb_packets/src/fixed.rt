@@ -1,0 +1,50 @@
+//! Requests whose answer is always the same, or depends on nothing but whether the program is there; and
+//! after which the bytes `+` and `-` are sent no more.
+
+ghost use Rattle.std.specs.Prelude.{◌≡◌, option_map};
+ghost use Rattle.gdb_packets.specs.Requests.{gdb_request};
+ghost use Rattle.gdb_packets.specs.Fixed.{fixed_reply as fixed_shown, is_taken_so, keeps_acks, threads_text};
+
+use crate::requests::Request;
+
+/// What the other side may ask for.
+const SUPPORTED: &[u8] = b"PacketSize=4000;QStartNoAckMode+;vContSupported+;swbreak+;hwbreak+;\
+    qXfer:features:read+;qXfer:libraries:read+;ReverseStep+;ReverseContinue+";
+
+/// What a request is answered with whose answer is always the same; `None` for other requests.
+pub fn fixed_reply(request: &Request<'_>) -> Option<&'static [u8]>
+    ensures { option_map (λ text. text.now) result ≡ fixed_shown (gdb_request request.now) }
+{
+    match request {
+        Request::NoAcks | Request::Thread(true) | Request::Extended => Some(b"OK"),
+        Request::Thread(false) => Some(b"E01"),
+        Request::Supported => Some(SUPPORTED),
+        Request::Ways => Some(b"vCont;c;C;s;S;r"),
+        Request::IsAttached => Some(b"0"),
+        Request::CurrentThread => Some(b"QC1"),
+        Request::MoreThreads => Some(b"l"),
+        Request::Unknown | Request::SetRegisters(_) => Some(b""),
+        _ => None,
+    }
+}
+
+/// The one thread, while the program is there.
+pub fn threads(is_gone: bool) -> &'static [u8]
+    ensures { result.now ≡ threads_text is_gone }
+{
+    if is_gone { b"l" } else { b"m1" }
+}
+
+/// Whether a packet that came spoilt is taken as it is.
+pub fn is_taken_so(has_acks: bool, is_whole: bool) -> bool
+    ensures { result ≡ is_taken_so has_acks is_whole }
+{
+    !has_acks && is_whole
+}
+
+/// Whether `+` and `-` are sent after a request too.
+pub fn keeps_acks(request: &Request<'_>) -> bool
+    ensures { result ≡ keeps_acks (gdb_request request.now) }
+{
+    !matches!(request, Request::NoAcks)
+}
