@@ -2,9 +2,9 @@
 use Rattle.std.proofs.Common.{◌≡◌, ℕ, ◌+◌, zero, suc, Bool, true, false, List, [], ◌∷◌, drop, Option, Some, ap, refl, subst, sym, ◌∙◌, arith}
 use Rattle.command_shell_lines.specs.Blocks.{after_block, block_lines, lines_after, lines_in_block, lines_taken}
 use Rattle.command_shell_lines.specs.Requests.{is_end_of_block}
-use Rattle.debug_records.specs.DebugScript.{debug_line_answer}
-use Rattle.debug_records.specs.DebugState.{DebugAnswered, DebugState, IsDebugged}
-use Rattle.debug_records.specs.DebugSessionDebugSetting.{DebugSettings}
+use Rattle.debug_session.specs.DebugScript.{debug_line_answer}
+use Rattle.debug_session.specs.DebugState.{DebugAnswered, DebugState, IsDebugged}
+use Rattle.debug_session.specs.declared.session.DebugSettings.{DebugSettings}
 use Rattle.debug_program.specs.Answering.{ScriptPlace, shown_with_block}
 
 ended : (line : List ℕ) (rest : List (List ℕ)) → is_end_of_block line ≡ true

@@ -5,14 +5,14 @@ use Rattle.std.specs.Io.KnownBytes.{Appends, IsAtEnd}
 use Rattle.image_loader.specs.Entries.{Entry}
 use Rattle.profile.specs.Output.{AddsAllBut}
 use Rattle.profile.proofs.OutputLemmas.{AddsAllBut-more, Appends-from_all_but}
-use Rattle.debug_records.specs.DebugScript.{debug_script_answer, then_summary}
-use Rattle.debug_records.specs.DebugState.{DebugAnswered, DebugState, debug_start_state}
-use Rattle.debug_records.specs.ExitStatus.{debug_status}
-use Rattle.debug_modes.specs.expectations.reports.Reports.{summary_text}
-use Rattle.debug_records.specs.Session.{debug_state}
-use Rattle.debug_records.specs.DebugSession.{DebugSession}
-use Rattle.debug_records.specs.DebugSessionDebugSetting.{DebugSettings}
-use Rattle.debug_records.specs.DebugTyping.{DebugTyping}
+use Rattle.debug_session.specs.DebugScript.{debug_script_answer, then_summary}
+use Rattle.debug_session.specs.DebugState.{DebugAnswered, DebugState, debug_start_state}
+use Rattle.debug_session.specs.ExitStatus.{debug_status}
+use Rattle.debug_session.specs.Reports.{summary_text}
+use Rattle.debug_session.specs.Session.{debug_state}
+use Rattle.debug_session.specs.declared.session.DebugSession.{DebugSession}
+use Rattle.debug_session.specs.declared.session.DebugSettings.{DebugSettings}
+use Rattle.debug_program.specs.declared.typing.DebugTyping.{DebugTyping}
 use Rattle.debug_program.specs.GoingOn.{DebugsBoth, IsStatusOfBoth, IsStatusOfBothScripts, ended_lines}
 use Rattle.debug_program.specs.Talking.{DebugsInput, HasTalked, IsPlainTalk, IsStatusOfInput, debug_bytes_shown}
 use Rattle.debug_program.proofs.TalkLemmas.{quit_shown, script_shown_by}

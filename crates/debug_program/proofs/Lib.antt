@@ -4,6 +4,7 @@ pub mod GoingOnLemmas
 pub mod ReadLemmas
 pub mod ShownLemmas
 pub mod SpellingLemmas
+pub mod TakenLemmas
 pub mod TalkLemmas
 pub mod TranscriptLemmas
 pub mod WholeLinesLemmas

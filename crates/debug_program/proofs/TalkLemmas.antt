@@ -12,20 +12,21 @@ use Rattle.profile.specs.Output.{AddsAllBut, AddsFront}
 use Rattle.profile.specs.declared.device.Device.{Device}
 use Rattle.profile.proofs.KnownLemmas.{Keeps-self}
 use Rattle.profile.proofs.OutputLemmas.{AddsAllBut-more, AddsAllBut-start, Appends-from_all_but, Appends-join}
-use Rattle.debug_records.specs.DebugScript.{debug_lines_answer, debug_script_answer, then_summary}
-use Rattle.debug_records.specs.DebugState.{DebugAnswered, DebugState, IsDebugged, debug_start_state}
-use Rattle.debug_records.specs.ExitStatus.{debug_status}
-use Rattle.debug_modes.specs.expectations.reports.Reports.{summary_text}
-use Rattle.debug_records.specs.Failing.{IsTakenInPart, ReportsWriteFault}
-use Rattle.debug_records.specs.Session.{debug_state}
-use Rattle.debug_records.specs.Typing.{IsTaken}
-use Rattle.debug_modes.specs.declared.expectations.reports.reports.ReportForm.TheVariants.{Answers}
-use Rattle.debug_records.specs.DebugSession.{DebugSession}
-use Rattle.debug_records.specs.DebugSessionDebugSetting.{DebugSettings}
-use Rattle.debug_records.specs.DebugTyping.{DebugTyping}
-use Rattle.debug_records.proofs.LineLemmas.{none_answer}
-use Rattle.debug_records.proofs.FailLemmas.{front_start, front_then}
-use Rattle.debug_records.proofs.TakenLemmas.{part_answer, piece_answer}
+use Rattle.debug_session.specs.DebugScript.{debug_lines_answer, debug_script_answer, then_summary}
+use Rattle.debug_session.specs.DebugState.{DebugAnswered, DebugState, IsDebugged, debug_start_state}
+use Rattle.debug_session.specs.ExitStatus.{debug_status}
+use Rattle.debug_session.specs.Reports.{summary_text}
+use Rattle.debug_program.specs.Typing.{IsTakenInPart}
+use Rattle.debug_session.specs.Failing.{ReportsWriteFault}
+use Rattle.debug_session.specs.Session.{debug_state}
+use Rattle.debug_program.specs.Typing.{IsTaken}
+use Rattle.debug_session.specs.DebugChecksReportForm.TheVariants.{Answers}
+use Rattle.debug_session.specs.declared.session.DebugSession.{DebugSession}
+use Rattle.debug_session.specs.declared.session.DebugSettings.{DebugSettings}
+use Rattle.debug_program.specs.declared.typing.DebugTyping.{DebugTyping}
+use Rattle.debug_session.proofs.LineLemmas.{none_answer}
+use Rattle.debug_session.proofs.FailLemmas.{front_start, front_then}
+use Rattle.debug_program.proofs.TakenLemmas.{part_answer, piece_answer}
 use Rattle.debug_program.specs.Talking.{BeginsInput, DebugsInput, HasTalked, IsPlainTalk, IsStatusOfInput, IsStatusOfScript, TakesPiece, TakesPieceInPart, debug_bytes_shown}
 
 -- WRITERS

@@ -13,13 +13,13 @@ use Rattle.image_loader.specs.Entries.{Entry}
 use Rattle.profile.specs.text_lines.Lines.{ReadingPlace}
 use Rattle.command_shell.specs.Error.{IsLineError}
 use Rattle.command_shell.specs.declared.error.RunError.{RunError}
-use Rattle.debug_records.proofs.LineLemmas.{fewer, none_left, none_answer, step_state, step_text}
-use Rattle.debug_records.specs.DebugScript.{debug_lines_answer}
-use Rattle.debug_records.specs.DebugState.{DebugAnswered, DebugState, debug_answer, debug_start_state}
-use Rattle.debug_records.specs.Session.{debug_state}
-use Rattle.debug_modes.specs.expectations.reports.Reports.{summary_text}
-use Rattle.debug_records.specs.DebugSession.{DebugSession}
-use Rattle.debug_records.specs.DebugSessionDebugSetting.{DebugSettings}
+use Rattle.debug_session.proofs.LineLemmas.{fewer, none_left, none_answer, step_state, step_text}
+use Rattle.debug_session.specs.DebugScript.{debug_lines_answer}
+use Rattle.debug_session.specs.DebugState.{DebugAnswered, DebugState, debug_answer, debug_start_state}
+use Rattle.debug_session.specs.Session.{debug_state}
+use Rattle.debug_session.specs.Reports.{summary_text}
+use Rattle.debug_session.specs.declared.session.DebugSession.{DebugSession}
+use Rattle.debug_session.specs.declared.session.DebugSettings.{DebugSettings}
 use Rattle.debug_program.proofs.AnsweringLemmas.{place_is, with_block}
 use Rattle.debug_program.specs.Answering.{AreAnsweredLines, IsNextAnswered, ScriptPlace, place_of_answering, start_place, shown_by_lines}
 use Rattle.debug_program.specs.Spelling.{spelt_from}

@@ -4,10 +4,10 @@ use Rattle.std.specs.List.{flat_map}
 use Rattle.std.specs.Str.Lines.{lines}
 use Rattle.image_loader.specs.Entries.{Entry}
 use Rattle.command_shell_lines.specs.Blocks.{block_lines, lines_after, lines_taken}
-use Rattle.debug_records.specs.DebugScript.{debug_line_answer, line_opens}
-use Rattle.debug_records.specs.DebugState.{DebugAnswered, DebugState, debug_start_state}
-use Rattle.debug_records.specs.Session.{debug_state}
-use Rattle.debug_records.specs.DebugSessionDebugSetting.{DebugSettings}
+use Rattle.debug_session.specs.DebugScript.{debug_line_answer, line_opens}
+use Rattle.debug_session.specs.DebugState.{DebugAnswered, DebugState, debug_start_state}
+use Rattle.debug_session.specs.Session.{debug_state}
+use Rattle.debug_session.specs.declared.session.DebugSettings.{DebugSettings}
 use Rattle.debug_program.specs.declared.answering.AnsweredLine.{AnsweredLine}
 use Rattle.debug_program.specs.declared.answering.ScriptAnswering.{ScriptAnswering}
 

@@ -6,10 +6,10 @@ use Rattle.image_loader.specs.Entries.{Entry}
 use Rattle.debug_lines.specs.DebugRequests.{DebugRequest, Script, Stepping}
 use Rattle.debug_lines.specs.SteppingRequests as stepping
 use Rattle.command_shell_lines.specs.Requests as script
-use Rattle.debug_records.specs.DebugScript.{debug_script_answer, then_summary}
-use Rattle.debug_records.specs.DebugSessionDebugSetting.{DebugSettings}
-use Rattle.debug_records.specs.DebugTyping.{DebugTyping}
-use Rattle.debug_records.specs.ExitStatus.{debug_status}
+use Rattle.debug_session.specs.DebugScript.{debug_script_answer, then_summary}
+use Rattle.debug_session.specs.declared.session.DebugSettings.{DebugSettings}
+use Rattle.debug_program.specs.declared.typing.DebugTyping.{DebugTyping}
+use Rattle.debug_session.specs.ExitStatus.{debug_status}
 use Rattle.debug_program.specs.Talking.{IsPlainTalk, debug_bytes_shown}
 
 -- whether a line is open behind a text, by whether one was open before it

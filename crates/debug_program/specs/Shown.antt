@@ -1,7 +1,7 @@
 -- What a terminal is shown of a piece of the answers: where what the guest printed leaves a line open,
 -- how the steps ended stands on a line of its own.
 use Rattle.std.specs.Prelude.{ℕ, not, ◌&&◌, Bool, false, List, ◌∷◌, if◌then◌else◌}
-use Rattle.debug_modes.specs.expectations.Endings.{begins_ending}
+use Rattle.debug_session.specs.Endings.{begins_ending}
 use Rattle.debug_program.specs.GoingOn.{is_open_behind}
 
 -- whether a piece is how steps ended: it begins so, and has its line's end

@@ -5,16 +5,16 @@ use Rattle.std.specs.Io.KnownBytes.{Appends, Consumes}
 use Rattle.std.specs.Str.Lines.{lines}
 use Rattle.image_loader.specs.Entries.{Entry}
 use Rattle.profile.specs.Output.{AddsAllBut, AddsFront}
-use Rattle.debug_records.specs.DebugScript.{debug_lines_answer, debug_script_answer, then_summary}
-use Rattle.debug_records.specs.DebugState.{DebugAnswered}
-use Rattle.debug_records.specs.ExitStatus.{debug_status}
-use Rattle.debug_records.specs.Failing.{IsTakenInPart}
-use Rattle.debug_records.specs.Session.{debug_state}
-use Rattle.debug_records.specs.Typing.{IsTaken}
-use Rattle.debug_modes.specs.declared.expectations.reports.reports.ReportForm.{ReportForm}
-use Rattle.debug_modes.specs.declared.expectations.reports.reports.ReportForm.TheVariants.{Answers}
-use Rattle.debug_records.specs.DebugSessionDebugSetting.{DebugSettings}
-use Rattle.debug_records.specs.DebugTyping.{DebugTyping}
+use Rattle.debug_session.specs.DebugScript.{debug_lines_answer, debug_script_answer, then_summary}
+use Rattle.debug_session.specs.DebugState.{DebugAnswered}
+use Rattle.debug_session.specs.ExitStatus.{debug_status}
+use Rattle.debug_program.specs.Typing.{IsTakenInPart}
+use Rattle.debug_session.specs.Session.{debug_state}
+use Rattle.debug_program.specs.Typing.{IsTaken}
+use Rattle.debug_session.specs.DebugChecksReportForm.{ReportForm}
+use Rattle.debug_session.specs.DebugChecksReportForm.TheVariants.{Answers}
+use Rattle.debug_session.specs.declared.session.DebugSettings.{DebugSettings}
+use Rattle.debug_program.specs.declared.typing.DebugTyping.{DebugTyping}
 
 -- what bytes are answered that follow what waits, from where a session stands, up to their end
 abbrev pub debug_bytes_shown : DebugTyping → List Entry → List ℕ → DebugAnswered

@@ -4,10 +4,10 @@ use Rattle.std.specs.Io.KnownBytes.{Appends}
 use Rattle.std.specs.List.{flat_map}
 use Rattle.std.specs.Str.Lines.{lines}
 use Rattle.image_loader.specs.Entries.{Entry}
-use Rattle.debug_records.specs.DebugScript.{debug_lines_answer}
-use Rattle.debug_records.specs.DebugState.{DebugAnswered, debug_start_state}
-use Rattle.debug_modes.specs.expectations.reports.Reports.{summary_text}
-use Rattle.debug_records.specs.DebugSessionDebugSetting.{DebugSettings}
+use Rattle.debug_session.specs.DebugScript.{debug_lines_answer}
+use Rattle.debug_session.specs.DebugState.{DebugAnswered, debug_start_state}
+use Rattle.debug_session.specs.Reports.{summary_text}
+use Rattle.debug_session.specs.declared.session.DebugSettings.{DebugSettings}
 use Rattle.debug_program.specs.Answering.{AreAnsweredLines, ScriptPlace, start_place, shown_by_lines}
 use Rattle.debug_program.specs.Spelling.{spelt_from}
 use Rattle.debug_program.specs.declared.answering.AnsweredLine.{AnsweredLine}

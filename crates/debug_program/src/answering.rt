@@ -3,13 +3,13 @@
 ghost use Rattle.std.specs.Prelude.{◌≡◌, ◌+◌, ◌⊎◌, List, [], Some, true, IfOk, OnOk, IfNone, IfSome};
 ghost use Rattle.std.specs.Str.Lines.{lines};
 ghost use Rattle.command_shell_lines.specs.Blocks.{lines_after, lines_taken};
-ghost use Rattle.debug_records.specs.DebugScript.{line_opens};
-ghost use Rattle.debug_records.specs.DebugState.{IsDebugged};
-ghost use Rattle.debug_records.specs.Session.{debug_state};
+ghost use Rattle.debug_session.specs.DebugScript.{line_opens};
+ghost use Rattle.debug_session.specs.DebugState.{IsDebugged};
+ghost use Rattle.debug_session.specs.Session.{debug_state};
 ghost use Rattle.debug_program.specs.Answering.{place_of_answering, shown_with_block, IsNextAnswered};
 
 use crate::front_lines::cut_lines;
-use debug_records::DebugSession;
+use debug_session::DebugSession;
 use image_loader::Images;
 use profile::text_lines::Lines;
 use profile::text_sink::TextSink;

@@ -5,9 +5,9 @@ ghost use Rattle.profile.specs.Devices.{device_inner};
 ghost use Rattle.debug_program.specs.GoingOn.{DebugsBoth, IsStatusOfBoth};
 
 use crate::talk::{answer_pieces, talk};
+use crate::typing::DebugTyping;
 use crate::whole_lines::WholeLines;
 use command_shell::RunError;
-use debug_records::DebugTyping;
 use image_loader::Images;
 use profile::{Device, Sink, Source};
 use std::io::Write;

@@ -1,26 +1,22 @@
-//! Debugging scripts, from a terminal, a file or standard input, each line answered on standard
-//! output as it comes, or all of them as a transcript: the subcommand `debug` of the program
-//! `rosm_tools`, which people type as `rosm_debug`.
+//! Debugging scripts as they come, from a terminal, a file or standard input, for `rosm_tools`: each line
+//! answered as soon as it is whole, or all of them as a transcript.
 //!
 //! Promise: it writes what `debug_session` answers, to the end of the input.
-//!
-//! `rosm_debug [--script FILE [-i]] [--tap | --transcript | --json] [--pages N] [--app N] [--rma N]
-//! [--budget N] [FILE...] <SCRIPT`
 #![tactic(auto)]
 
 mod answering;
 mod front_lines;
 mod going_on;
-mod options;
-mod process;
 mod prompted;
-mod refusal;
 mod shown;
 mod spelling;
-mod talk;
+pub mod talk;
 mod transcript;
+mod typing;
 mod whole_lines;
-mod words;
 
-pub use debug_records::RunMeter;
-pub use process::run;
+pub use going_on::talk_behind_script;
+pub use prompted::PromptedLines;
+pub use shown::ShownAnswers;
+pub use transcript::show_transcript;
+pub use typing::DebugTyping;

@@ -6,7 +6,7 @@ ghost use Rattle.debug_program.specs.GoingOn.{is_open_behind as is_open_behind_s
 ghost use Rattle.debug_program.specs.Shown.{is_ending_line, shown_piece};
 
 use crate::whole_lines::is_open_behind;
-use debug_modes::expectations::begins_ending;
+use debug_session::begins_ending;
 use std::io;
 use std::io::Write;
 

@@ -5,16 +5,16 @@ ghost use Rattle.std.specs.Prelude.{◌≡◌, ◌<◌, ◌⊎◌, true, length,
 ghost use Rattle.profile.specs.Output.{Writes};
 ghost use Rattle.profile.specs.Pulls.{PullsAtMost};
 ghost use Rattle.command_shell.specs.Error.{IsLineError};
-ghost use Rattle.debug_records.specs.ExitStatus.{debug_status};
-ghost use Rattle.debug_records.specs.Failing.{ReportsWriteFault};
-ghost use Rattle.debug_modes.specs.expectations.reports.Reports.{summary_text};
+ghost use Rattle.debug_session.specs.ExitStatus.{debug_status};
+ghost use Rattle.debug_session.specs.Failing.{ReportsWriteFault};
+ghost use Rattle.debug_session.specs.Reports.{summary_text};
 ghost use Rattle.debug_program.specs.Transcript.{answered_text, debug_shown_in, BeginsTranscript, WritesTranscript};
 
 use crate::answering::{AnsweredLine, ScriptAnswering};
 use crate::spelling::{Side, push_side};
 use command_shell::RunError;
 use command_shell_lines::read_script;
-use debug_records::{DebugSession, DebugSettings};
+use debug_session::{DebugSession, DebugSettings};
 use image_loader::Images;
 use profile::text_sink::TextSink;
 use profile::{Sink, Source, WriteFault};

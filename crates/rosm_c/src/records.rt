@@ -36,6 +36,7 @@ pub(crate) fn write_records(
         budget,
         form: ReportForm::Answers,
         meter: RunMeter::silent(),
+        keeps_past: false,
     };
     let mut sink = TextSink::new(alloc);
     let (images, twin_images) = (Images::new(), Images::new());

@@ -4,15 +4,18 @@
 //! Promise: the first word chooses the tool, and another is refused.
 //!
 //! `rosm_tools debug WORD..` is what people type as `rosm_debug WORD..`; so it is with `rosm_gdb`.
-//! The tool `debug` is the library `debug_program`, and `gdb` a module here.
+//! Each tool is a module here.
 #![tactic(auto)]
 
+mod debug;
 mod gdb;
 mod subcommands;
+mod words;
 
+use crate::debug::run as run_debug;
 use crate::gdb::run as run_gdb;
 use crate::subcommands::{Subcommand, refuse, subcommand_asked};
-use debug_program::RunMeter;
+use debug_records::RunMeter;
 use profile::Device;
 use std::io::IsTerminal;
 use std::process::ExitCode;
@@ -32,7 +35,7 @@ fn main(rt: HostRuntime) -> ExitCode {
     match subcommand_asked(&rt) {
         Some(Subcommand::Debug) => {
             let is_terminal = rt.stdin().is_terminal();
-            debug_program::run(&rt, &mut errors, is_terminal, meter(&rt, is_terminal))
+            run_debug(&rt, &mut errors, is_terminal, meter(&rt, is_terminal))
         }
         Some(Subcommand::Gdb) => run_gdb(&rt, &mut errors),
         None => refuse(&rt),

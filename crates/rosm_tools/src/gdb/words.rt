@@ -1,12 +1,13 @@
 //! The words behind the subcommand's own: those that it alone takes, and those that `rosm` takes too.
 
-ghost use Rattle.std.specs.Prelude.{◌≡◌, drop, map, string_bytes, option_map, IfErr, IfOk, Ok, Option, None, Result};
+ghost use Rattle.std.specs.Prelude.{◌≡◌, map, string_bytes, option_map, IfErr, IfOk, Ok, Option, None, Result};
 ghost use Rattle.rosm_settings.specs.command_line.Settings.{settings_for};
 ghost use Rattle.rosm_tools.specs.gdb.Options.{any_sets_budget, machine_words, most_wanted, one_start_path, sets_budget, unless_path_lacks};
 ghost use Rattle.rosm_tools.specs.gdb.Endings.{AsksForGdb, IsGdbRefusalOf, IsMachineRefusal, IsRefusalOfWords, gdb_words_refused};
 
 use crate::gdb::options::{GdbWord, PartedGdbWords, part_words};
 use crate::gdb::refusal::GdbRefusal;
+use crate::words::{from_subcommand, texts_of};
 use rosm_settings::command_line::{Settings, SettingsError, line_reason, settings, sizes_reason};
 use std::alloc::{AllocError, Global};
 use std::env;
@@ -41,16 +42,6 @@ pub fn read_words<R: Env + AllocGlobal>(rt: &R) -> Result<WantedGdb, GdbRefusal<
     };
     let words: Vec<String> = args.collect(alloc)?;
     wanted_of(alloc, from_subcommand(words.as_slice()))
-}
-
-// The words from that of the subcommand on, which stands where the name of a program does.
-fn from_subcommand(words: &[String]) -> &[String]
-    ensures { result.now ≡ drop 1 words.now }
-{
-    match words {
-        [] => words,
-        [_program, rest @ ..] => rest,
-    }
 }
 
 fn words_refusal(kind: ErrorKind) -> GdbRefusal<'static>
@@ -176,14 +167,4 @@ fn asks_for_help(words: &[&str]) -> bool {
         }
     }
     false
-}
-
-fn texts_of<'a>(alloc: Global, words: &'a [String]) -> Result<Vec<&'a str>, AllocError>
-    ensures { IfOk result (λ texts. map (λ t. t.now) texts.items ≡ map string_bytes words.entry.now) }
-{
-    let mut texts = Vec::new(alloc);
-    for word in words {
-        texts.push(word.as_str())?;
-    }
-    Ok(texts)
 }

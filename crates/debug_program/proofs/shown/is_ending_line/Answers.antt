@@ -1,5 +1,5 @@
 use Rattle.std.proofs.Common.{false}
-use Rattle.debug_modes.specs.expectations.Endings.{begins_ending}
+use Rattle.debug_session.specs.Endings.{begins_ending}
 use Rattle.debug_program.specs.GoingOn.{is_open_behind}
 use Rattle.debug_program.proofs.ShownLemmas.{ending_else, ending_then}
 use Rattle.debug_program.proofs.shown.is_ending_line.Goals as goal

@@ -1,8 +1,8 @@
 -- By what is shown before the piece is taken.
 use Rattle.std.proofs.Common.{◌≡◌, ℕ, List, ap, inl, subst, ◌∙◌}
 use Rattle.std.specs.Prelude.{OnOk}
-use Rattle.debug_records.specs.Typing.{IsTaken}
-use Rattle.debug_records.specs.DebugSession.{DebugSession}
+use Rattle.debug_program.specs.Typing.{IsTaken}
+use Rattle.debug_session.specs.declared.session.DebugSession.{DebugSession}
 use Rattle.debug_program.proofs.TalkLemmas.{takes_in_part, takes_nothing, takes_so}
 use Rattle.debug_program.proofs.talk.answer_piece.Goals as goal
 

@@ -1,7 +1,7 @@
 -- By the lemmas of TalkLemmas.
 use Rattle.std.proofs.Common.{◌≡◌, ℕ, true, inl, inr, refl, rules, sym, ap, ◌∙◌}
-use Rattle.debug_records.specs.Session.{debug_state}
-use Rattle.debug_records.specs.DebugSession.{DebugSession}
+use Rattle.debug_session.specs.Session.{debug_state}
+use Rattle.debug_session.specs.declared.session.DebugSession.{DebugSession}
 use Rattle.debug_program.proofs.TalkLemmas.{talked_front, talked_here, talked_more, talked_none, talked_part, talked_still_by}
 use Rattle.debug_program.proofs.talk.answer_pieces.Goals as goal
 

@@ -1,7 +1,7 @@
 -- By the lemmas of TalkLemmas.
 use Rattle.std.proofs.Common.{◌≡◌, ap, rules, ◌∙◌}
-use Rattle.debug_records.specs.Session.{debug_state}
-use Rattle.debug_records.specs.DebugSessionDebugSetting.{DebugSettings}
+use Rattle.debug_session.specs.Session.{debug_state}
+use Rattle.debug_session.specs.declared.session.DebugSettings.{DebugSettings}
 use Rattle.profile.specs.Devices.{device_failed}
 use Rattle.debug_program.proofs.TalkLemmas.{begins_still, failed_reports, talk_front, talk_status, talk_text, talked_here, unfailed_reports}
 use Rattle.debug_program.proofs.talk.talk.Goals as goal

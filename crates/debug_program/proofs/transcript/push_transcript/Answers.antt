@@ -2,10 +2,10 @@ use Rattle.std.proofs.Common.{◌≡◌, ap, inr, refl, sym, ◌∙◌, List, �
 use Rattle.std.specs.Str.Lines.{lines}
 use Rattle.profile.specs.text_lines.Lines.{ReadingPlace}
 use Rattle.command_shell.specs.declared.error.RunError.TheVariants as error
-use Rattle.debug_records.specs.ExitStatus.{debug_status}
-use Rattle.debug_modes.specs.expectations.reports.Reports.{summary_text}
-use Rattle.debug_records.specs.Session.{debug_state}
-use Rattle.debug_records.specs.DebugSession.{DebugSession}
+use Rattle.debug_session.specs.ExitStatus.{debug_status}
+use Rattle.debug_session.specs.Reports.{summary_text}
+use Rattle.debug_session.specs.Session.{debug_state}
+use Rattle.debug_session.specs.declared.session.DebugSession.{DebugSession}
 use Rattle.debug_program.proofs.TranscriptLemmas.{begun_so, fewer_lines, line_error, next_is, none_next, some_of, starts_so, state_at_end, summary_is, transcript_ends, transcript_goes_on, transcript_starts}
 use Rattle.debug_program.specs.Answering.{place_of_answering}
 use Rattle.debug_program.specs.declared.answering.ScriptAnswering.{ScriptAnswering}

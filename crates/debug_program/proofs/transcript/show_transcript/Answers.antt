@@ -1,5 +1,5 @@
 use Rattle.std.proofs.Common.{◌≡◌, ℕ, List, inl, refl, rules}
-use Rattle.debug_records.specs.ExitStatus.{debug_status}
+use Rattle.debug_session.specs.ExitStatus.{debug_status}
 use Rattle.debug_program.specs.Transcript.{BeginsTranscript, debug_shown_in, WritesTranscript}
 use Rattle.debug_program.proofs.ReadLemmas.{of_read, of_read_or}
 use Rattle.debug_program.proofs.transcript.show_transcript.Goals as goal

@@ -1,5 +1,5 @@
 use Rattle.std.proofs.Common.{◌≡◌, ◌++◌, ap, ◌∙◌, [], List, ℕ}
-use Rattle.debug_modes.specs.expectations.reports.Reports.{summary_text}
+use Rattle.debug_session.specs.Reports.{summary_text}
 use Rattle.debug_program.proofs.transcript.summary_of.Goals as goal
 
 pub returns-in-Ok : goal.returns-in-Ok

@@ -1,6 +1,6 @@
 use Rattle.command_shell_lines.specs.Blocks.{block_lines}
-use Rattle.debug_records.specs.DebugScript.{debug_line_answer}
-use Rattle.debug_records.specs.Session.{debug_state}
+use Rattle.debug_session.specs.DebugScript.{debug_line_answer}
+use Rattle.debug_session.specs.Session.{debug_state}
 use Rattle.debug_program.proofs.AnsweringLemmas.{debug_gathered, with_block}
 use Rattle.debug_program.specs.Answering.{shown_with_block}
 use Rattle.debug_program.proofs.answering.ScriptAnswering.answer_to.Goals as goal

@@ -1,9 +1,9 @@
 use Rattle.std.proofs.Common.{◌≡◌, ◌+◌, ◌-◌, ℕ, List, ap, sym, refl, inl, inr, ◌∙◌, take, drop, arith}
 use Rattle.std.specs.Str.Lines.{lines}
 use Rattle.command_shell_lines.specs.Blocks.{lines_taken}
-use Rattle.debug_records.specs.DebugScript.{line_opens}
-use Rattle.debug_records.specs.DebugState.{DebugAnswered}
-use Rattle.debug_records.specs.Session.{debug_state}
+use Rattle.debug_session.specs.DebugScript.{line_opens}
+use Rattle.debug_session.specs.DebugState.{DebugAnswered}
+use Rattle.debug_session.specs.Session.{debug_state}
 use Rattle.profile.specs.text_lines.Lines.{ReadingPlace}
 use Rattle.debug_program.proofs.AnsweringLemmas.{left_behind_line, place_is}
 use Rattle.debug_program.specs.Answering.{place_after_line, place_of_answering, shown_with_block}

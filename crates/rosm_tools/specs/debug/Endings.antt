@@ -1,8 +1,8 @@
 -- The exit status: 2 for a command line that can't be, 4 for anything else that keeps lines from
 -- being answered, and else that of the lines.
 use Rattle.std.specs.Prelude.{ℕ, Result, Ok, Err}
-use Rattle.debug_program.specs.declared.refusal.DebugRefusal.{DebugRefusal}
-use Rattle.debug_program.specs.declared.refusal.DebugRefusal.TheVariants as refusal
+use Rattle.rosm_tools.specs.declared.debug.refusal.DebugRefusal.{DebugRefusal}
+use Rattle.rosm_tools.specs.declared.debug.refusal.DebugRefusal.TheVariants as refusal
 
 abbrev pub debug_refusal_status : DebugRefusal → ℕ
 debug_refusal_status refusal.Memory = 4

@@ -3,21 +3,20 @@
 ghost use Rattle.std.specs.Prelude.{◌≡◌, IfOk, OnOk};
 ghost use Rattle.std.specs.Process.{exit_status};
 ghost use Rattle.profile.specs.text_sink.Safe.{AddsSafe};
-ghost use Rattle.debug_program.specs.Endings.{ending_status};
+ghost use Rattle.rosm_tools.specs.debug.Endings.{ending_status};
 ghost use Rattle.debug_program.specs.GoingOn.{IsStatusOfBothScripts};
 ghost use Rattle.debug_program.specs.Talking.{IsStatusOfScript};
 
-use crate::going_on::talk_behind_script;
-use crate::options::WantedForm;
-use crate::prompted::PromptedLines;
-use crate::refusal::DebugRefusal;
-use crate::shown::ShownAnswers;
-use crate::talk::{hand_on, talk};
-use crate::transcript::show_transcript;
-use crate::words::{WantedSession, read_words};
+use crate::debug::options::WantedForm;
+use crate::debug::refusal::DebugRefusal;
+use crate::debug::words::{WantedSession, read_words};
 use command_shell::RunError;
 use command_shell_lines::read_script;
-use debug_records::{DebugSettings, DebugTyping, ReportForm, RunMeter, record_script};
+use debug_program::talk::{hand_on, talk};
+use debug_program::{
+    DebugTyping, PromptedLines, ShownAnswers, show_transcript, talk_behind_script,
+};
+use debug_records::{DebugSettings, ReportForm, RunMeter, record_script};
 use image_loader::Images;
 use profile::text_lines::cut;
 use profile::{Device, Sink, Source};
@@ -290,6 +289,7 @@ fn setting_of(wanted: &WantedSession, form: ReportForm, meter: RunMeter) -> Debu
         budget: wanted.settings.budget,
         form,
         meter,
+        keeps_past: true,
     }
 }
 

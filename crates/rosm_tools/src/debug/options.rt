@@ -2,7 +2,7 @@
 //! the path that follows it, and `-i`.
 
 ghost use Rattle.std.specs.Prelude.{◌≡◌, [], false, map, IfOk};
-ghost use Rattle.debug_program.specs.Options.{form_named, is_dashes, is_script_name, kind_at, kind_of_other, kind_of_word, words_shown, DebugWords};
+ghost use Rattle.rosm_tools.specs.debug.Options.{form_named, is_dashes, is_script_name, kind_at, kind_of_other, kind_of_word, words_shown, DebugWords};
 
 use debug_records::ReportForm;
 use std::alloc::{AllocError, Global};

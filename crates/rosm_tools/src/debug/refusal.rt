@@ -38,7 +38,7 @@ pub enum DebugRefusal<'a> {
 }
 
 impl DebugRefusal<'_> {
-    ghost use Rattle.debug_program.specs.Endings.{debug_refusal_status};
+    ghost use Rattle.rosm_tools.specs.debug.Endings.{debug_refusal_status};
 
     /// The exit status: 2 for a command line that can't be, else 4.
     pub fn status(&self) -> u8
@@ -52,7 +52,7 @@ impl DebugRefusal<'_> {
 }
 
 impl<'a> From<AllocError> for DebugRefusal<'a> {
-    ghost use Rattle.debug_program.specs.declared.refusal.DebugRefusal.TheVariants.{Memory};
+    ghost use Rattle.rosm_tools.specs.declared.debug.refusal.DebugRefusal.TheVariants.{Memory};
 
     ghost from_gives = { λ _ refused. refused ≡ Memory };
 
@@ -62,7 +62,7 @@ impl<'a> From<AllocError> for DebugRefusal<'a> {
 }
 
 impl<'a> From<RunError> for DebugRefusal<'a> {
-    ghost use Rattle.debug_program.specs.declared.refusal.DebugRefusal.TheVariants.{Script};
+    ghost use Rattle.rosm_tools.specs.declared.debug.refusal.DebugRefusal.TheVariants.{Script};
 
     ghost from_gives = { λ error refused. refused ≡ Script error };
 

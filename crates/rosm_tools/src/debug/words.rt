@@ -1,10 +1,11 @@
 //! The words behind the subcommand's own: those that it alone takes, and those that `rosm` takes too.
 
-ghost use Rattle.std.specs.Prelude.{◌≡◌, drop, map, string_bytes, IfOk};
-ghost use Rattle.debug_program.specs.Options.{form_of_all, may_go_on};
+ghost use Rattle.std.specs.Prelude.{◌≡◌};
+ghost use Rattle.rosm_tools.specs.debug.Options.{form_of_all, may_go_on};
 
-use crate::options::{WantedForm, part_words};
-use crate::refusal::DebugRefusal;
+use crate::debug::options::{WantedForm, part_words};
+use crate::debug::refusal::DebugRefusal;
+use crate::words::{from_subcommand, texts_of};
 use debug_records::ReportForm;
 use rosm_settings::command_line::{Settings, SettingsError, line_reason, settings, sizes_reason};
 use std::alloc::{AllocError, Global};
@@ -45,16 +46,6 @@ pub fn read_words<R: Env + AllocGlobal>(rt: &R) -> Result<WantedSession, DebugRe
     };
     let words: Vec<String> = args.collect(alloc)?;
     wanted_of(alloc, from_subcommand(words.as_slice()))
-}
-
-// The words from that of the subcommand on, which stands where the name of a program does.
-fn from_subcommand(words: &[String]) -> &[String]
-    ensures { result.now ≡ drop 1 words.now }
-{
-    match words {
-        [] => words,
-        [_program, rest @ ..] => rest,
-    }
 }
 
 fn words_refusal(kind: ErrorKind) -> DebugRefusal<'static> {
@@ -126,14 +117,4 @@ fn settings_of(alloc: Global, words: &[&str]) -> Result<Settings, DebugRefusal<'
         Err(SettingsError::Line) => Err(DebugRefusal::Line(line_reason(alloc, words)?)),
         Err(SettingsError::Sizes) => Err(DebugRefusal::Sizes(sizes_reason(alloc, words)?)),
     }
-}
-
-fn texts_of<'a>(alloc: Global, words: &'a [String]) -> Result<Vec<&'a str>, AllocError>
-    ensures { IfOk result (λ texts. map (λ t. t.now) texts.items ≡ map string_bytes words.entry.now) }
-{
-    let mut texts = Vec::new(alloc);
-    for word in words {
-        texts.push(word.as_str())?;
-    }
-    Ok(texts)
 }

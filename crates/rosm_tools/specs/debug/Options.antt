@@ -3,11 +3,11 @@
 use Rattle.std.specs.Prelude.{ℕ, ◌==◌, ◌||◌, ◌&&◌, not, Bool, true, false, List, [], ◌∷◌, Option, Some, None, codes, if◌then◌else◌}
 use Rattle.std.specs.List.{ends_with, starts_with}
 use Rattle.std.specs.Str.{bytes_eq}
-use Rattle.debug_modes.specs.declared.expectations.reports.reports.ReportForm.TheVariants as form
-use Rattle.debug_program.specs.declared.options.WantedForm.{WantedForm}
-use Rattle.debug_program.specs.declared.options.WantedForm.TheVariants as wanted
-use Rattle.debug_program.specs.declared.options.WordKind.{WordKind}
-use Rattle.debug_program.specs.declared.options.WordKind.TheVariants as kind
+use Rattle.debug_records.specs.DebugChecksReportForm.TheVariants as form
+use Rattle.rosm_tools.specs.declared.debug.options.WantedForm.{WantedForm}
+use Rattle.rosm_tools.specs.declared.debug.options.WantedForm.TheVariants as wanted
+use Rattle.rosm_tools.specs.declared.debug.options.WordKind.{WordKind}
+use Rattle.rosm_tools.specs.declared.debug.options.WordKind.TheVariants as kind
 
 -- whether all words after one are files
 abbrev pub is_dashes : List ℕ → Bool

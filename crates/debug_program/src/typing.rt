@@ -1,0 +1,264 @@
+//! A debugging script as it is typed: bytes that come in pieces, and each line answered as soon as it
+//! is whole.
+
+ghost use Rattle.std.specs.Prelude.{◌≡◌, ◌++◌, ◌+◌, ◌<◌, ◌≤◌, ◌^◌, ◌⊎◌, List, [], Err, IfOk, IfErr, OnOk, OnErr, length};
+ghost use Rattle.std.specs.Str.Lines.{lines};
+ghost use Rattle.debug_lines.specs.BlockEnds.{shown_beyond};
+ghost use Rattle.debug_lines.specs.WholeDebugRequests.{AreWholeDebugRequests};
+ghost use Rattle.debug_session.specs.DebugState.{IsDebugTypingError};
+ghost use Rattle.command_shell.specs.Error.{IsLineError};
+ghost use Rattle.profile.specs.Output.{AddsFront};
+
+use command_shell::RunError;
+use debug_lines::{missing_ends, read_requests};
+use debug_session::{DebugSession, DebugSettings};
+use image_loader::Images;
+use profile::Sink;
+use profile::text_lines::{Lines, cut_line};
+use std::alloc::{AllocError, Global};
+
+// The most bytes that may wait for the end of a request, as many as a script may have.
+const MOST_BYTES: usize = 1_048_576;
+
+/// A debugging session whose lines are typed.
+#[derive(Drop)]
+pub struct DebugTyping {
+    alloc: Global,
+    session: DebugSession,
+    // The bytes of a request that isn't whole.
+    pending: Vec<u8>,
+    // How many lines came before those that wait.
+    number: usize,
+    ghost numbered: { number + length pending.items < 2 ^ 64 },
+}
+
+/// What waits of a session that is typed, and a piece behind it, as they were read.
+#[derive(Drop)]
+pub struct TypedPiece {
+    text: Vec<u8>,
+    // How many of its bytes are requests that are whole.
+    whole: usize,
+    missing_ends: Vec<usize>,
+    ghost requests: { AreWholeDebugRequests text.items whole },
+}
+
+impl TypedPiece {
+    /// The lines at which blocks begin that turn out to lack their END in the piece.
+    pub fn missing_ends(&self) -> &[usize]
+        ensures { result.now ≡ self.now.missing_ends.items }
+    {
+        self.missing_ends.as_slice()
+    }
+}
+
+impl DebugTyping {
+    ghost use Rattle.image_loader.specs.Entries.{Entry};
+    ghost use Rattle.debug_session.specs.DebugScript.{debug_lines_answer};
+    ghost use Rattle.debug_session.specs.DebugState.{IsDebugged, debug_start_state};
+    ghost use Rattle.debug_program.specs.Typing.{HasTooLong, IsTakenInPart};
+    ghost use Rattle.debug_session.specs.Failing.{ReportsWriteFault};
+    ghost use Rattle.debug_session.specs.Session.{debug_state};
+    ghost use Rattle.debug_program.specs.Typing.{IsTaken, missing_ends_at_end, missing_ends_typed};
+    ghost use Rattle.debug_program.specs.Typing.{TypedPieceThenRest, TypedPiecesJoin, TypedTextTakenOneWay};
+
+    /// A session on a fresh machine, before anything is typed.
+    ///
+    /// # Errors
+    ///
+    /// Memory ran out.
+    pub fn new(alloc: Global, setting: DebugSettings) -> Result<DebugTyping, AllocError>
+        ensures state { IfOk result (λ typing. (images : List Entry)
+            → debug_state typing.session images ≡ debug_start_state setting images) }
+        ensures setting { IfOk result (λ typing. typing.session.setting ≡ setting) }
+        ensures pending { IfOk result (λ typing. typing.pending.items ≡ []) }
+        ensures number { IfOk result (λ typing. typing.number ≡ 0) }
+    {
+        Ok(DebugTyping {
+            alloc,
+            session: DebugSession::new(alloc, setting)?,
+            pending: Vec::new(alloc),
+            number: 0,
+        })
+    }
+
+    /// The session, as the requests that were whole left it.
+    pub fn session(&self) -> &DebugSession
+        ensures { result.now ≡ self.now.session }
+    {
+        &self.session
+    }
+
+    /// Whether a block is open before the next line.
+    pub fn is_in_block(&self) -> bool {
+        cut_line(self.pending.as_slice()).is_some()
+    }
+
+    /// Reads a piece that is typed next, behind what waits.
+    ///
+    /// # Errors
+    ///
+    /// Memory ran out.
+    pub fn read(&self, piece: &[u8]) -> Result<TypedPiece, AllocError>
+        ensures text { IfOk result (λ read. read.text.items ≡ self.now.pending.items ++ piece.now) }
+        ensures missing { IfOk result
+            (λ read. read.missing_ends.items ≡ missing_ends_typed self.now piece.now) }
+    {
+        let waiting = self.pending.as_slice();
+        let text = joined(self.alloc, waiting, piece)?;
+        let before = missing_ends(self.alloc, waiting, self.number, false)?;
+        let reading = read_requests(self.alloc, text.as_slice(), self.number)?;
+        let shown = reading.missing_ends.as_slice();
+        Ok(TypedPiece {
+            whole: reading.whole,
+            missing_ends: shown_beyond(self.alloc, before.as_slice(), shown)?,
+            text,
+        })
+    }
+
+    /// The line at which a block begins that turns out to lack its END where nothing more is typed.
+    ///
+    /// # Errors
+    ///
+    /// Memory ran out.
+    pub fn missing_ends_at_end(&self) -> Result<Vec<usize>, AllocError>
+        ensures { IfOk result (λ begins. begins.items ≡ missing_ends_at_end self.now) }
+    {
+        let waiting = self.pending.as_slice();
+        let before = missing_ends(self.alloc, waiting, self.number, false)?;
+        let all = missing_ends(self.alloc, waiting, self.number, true)?;
+        shown_beyond(self.alloc, before.as_slice(), all.as_slice())
+    }
+
+    /// Takes a piece of what is typed, and answers each request that is whole then, one after
+    /// another: a line, or a line that opens a block with its block. The rest waits for the next
+    /// piece.
+    ///
+    /// # Errors
+    ///
+    /// As [`answer`].
+    ///
+    /// [`answer`]: DebugTyping::answer
+    pub fn take<W: Sink>(
+        &mut self,
+        images: &mut Images,
+        sink: &mut W,
+        piece: &[u8],
+    ) -> Result<(), RunError>
+        ensures taken { OnOk result (IsTaken self.old self.new images.old images.new
+            (W.contents sink.old) (W.contents sink.new) (self.old.pending.items ++ piece.now)) }
+        ensures setting { self.new.session.setting ≡ self.old.session.setting }
+        ensures waiting { OnOk result (length self.new.pending.items ≤ 1048576) }
+        ensures memory { result ≡ Err RunError.Memory → (sink.new ≡ sink.old) ⊎ IsTakenInPart self.old
+            images.old (W.contents sink.old) (W.contents sink.new) (self.old.pending.items ++ piece.now) }
+        ensures too_long { result ≡ Err RunError.ScriptTooLong
+            → HasTooLong self.old.number (self.old.pending.items ++ piece.now) }
+        ensures nothing { result ≡ Err RunError.ScriptTooLong
+            → (sink.new ≡ sink.old) × (self.new ≡ self.old) × (images.new ≡ images.old) }
+        ensures write_fault { ReportsWriteFault W.has_failed sink.old sink.new result }
+        ensures errors { IfErr result IsDebugTypingError }
+        ensures same_flag { OnOk result (W.has_failed sink.new ≡ W.has_failed sink.old) }
+    {
+        let read = self.read(piece)?;
+        self.answer(images, sink, read)
+    }
+
+    /// Answers each request that is whole in what was read. The rest waits for the next piece.
+    ///
+    /// # Errors
+    ///
+    /// `ScriptTooLong` where what waits would have more than 1,048,576 bytes, and nothing is
+    /// answered then; `Memory` and `WriteFault`, when a part of the answers may stand written, and
+    /// the session ends there.
+    pub fn answer<W: Sink>(
+        &mut self,
+        images: &mut Images,
+        sink: &mut W,
+        read: TypedPiece,
+    ) -> Result<(), RunError>
+        ensures taken { OnOk result (IsTaken self.old self.new images.old images.new
+            (W.contents sink.old) (W.contents sink.new) read.text.items) }
+        ensures setting { self.new.session.setting ≡ self.old.session.setting }
+        ensures waiting { OnOk result (length self.new.pending.items ≤ 1048576) }
+        ensures memory { result ≡ Err RunError.Memory → (sink.new ≡ sink.old) ⊎ IsTakenInPart self.old
+            images.old (W.contents sink.old) (W.contents sink.new) read.text.items }
+        ensures too_long { result ≡ Err RunError.ScriptTooLong → HasTooLong self.old.number read.text.items }
+        ensures nothing { result ≡ Err RunError.ScriptTooLong
+            → (sink.new ≡ sink.old) × (self.new ≡ self.old) × (images.new ≡ images.old) }
+        ensures write_fault { ReportsWriteFault W.has_failed sink.old sink.new result }
+        ensures errors { IfErr result IsDebugTypingError }
+        ensures same_flag { OnOk result (W.has_failed sink.new ≡ W.has_failed sink.old) }
+    {
+        let all = read.text.as_slice();
+        let (requests, waiting) = all.split_at(read.whole);
+        if waiting.len() > MOST_BYTES {
+            return Err(RunError::ScriptTooLong);
+        }
+        if self.number > usize::MAX - all.len() {
+            return Err(RunError::ScriptTooLong);
+        }
+        let waiting = Vec::from_slice(self.alloc, waiting)?;
+        let mut lines = Lines::after(requests, self.number);
+        self.session.answer_lines(images, sink, &mut lines)?;
+        self.number = lines.number() + lines.count();
+        self.pending = waiting;
+        Ok(())
+    }
+
+    /// Nothing more is typed: answers what waits, a line without its end or a block without its
+    /// last line, and gives the session back.
+    ///
+    /// # Errors
+    ///
+    /// `Memory` and `WriteFault`, when a part of the answer may stand written.
+    pub fn end<W: Sink>(self, images: &mut Images, sink: &mut W) -> Result<DebugSession, RunError>
+        ensures reported { IfOk result (λ session. IsDebugged (W.contents sink.old) (W.contents sink.new)
+            (debug_state session images.new)
+            (debug_lines_answer self.session.setting self.number (debug_state self.session images.old)
+            (lines self.pending.items))) }
+        ensures setting { IfOk result (λ session. session.setting ≡ self.session.setting) }
+        ensures memory { result ≡ Err RunError.Memory → AddsFront (W.contents sink.old) (W.contents sink.new)
+            (debug_lines_answer self.session.setting self.number (debug_state self.session images.old)
+            (lines self.pending.items)).text }
+        ensures write_fault { ReportsWriteFault W.has_failed sink.old sink.new result }
+        ensures errors { IfErr result IsLineError }
+        ensures same_flag { OnOk result (W.has_failed sink.new ≡ W.has_failed sink.old) }
+    {
+        let mut session = self.session;
+        let mut lines = Lines::after(self.pending.as_slice(), self.number);
+        session.answer_lines(images, sink, &mut lines)?;
+        Ok(session)
+    }
+
+    /// What is typed in two pieces is taken as the two in one are.
+    pub fn pieces_join()
+        ensures { TypedPiecesJoin }
+    {}
+
+    /// What a piece is answered, and then what follows it up to the end, is what all of it is
+    /// answered: so all pieces of a script are answered as the whole script.
+    pub fn piece_then_rest()
+        ensures { TypedPieceThenRest }
+    {}
+
+    /// A text is taken in one way: the pieces of a text leave the session where the text in one piece
+    /// leaves it, and the same stands written.
+    pub fn taken_one_way()
+        ensures { TypedTextTakenOneWay }
+    {}
+}
+
+fn joined(alloc: Global, front: &[u8], rest: &[u8]) -> Result<Vec<u8>, AllocError>
+    ensures { IfOk result (λ all. all.items ≡ front.now ++ rest.now) }
+{
+    let mut all = Vec::from_slice(alloc, front)?;
+    all.extend_from_slice(rest)?;
+    Ok(all)
+}
+
+// What a longer reading shows beyond a shorter one.
+fn shown_beyond(alloc: Global, before: &[usize], all: &[usize]) -> Result<Vec<usize>, AllocError>
+    ensures { IfOk result (λ beyond. beyond.items ≡ shown_beyond before.now all.now) }
+{
+    let known = before.len().min(all.len());
+    Vec::from_slice(alloc, &all[known..])
+}
