@@ -34,9 +34,12 @@ test("transcripts of scripts are answered byte for byte", { skip }, () => {
   assert.ok(compared > 200, compared + " compared");
 });
 
+/* lines that a recorded script answers otherwise: records go forward alone */
+const ANSWERED_OTHERWISE = /^\s*(TRACE|PUT|SAVE|BACK|UNDO|WHEN|LAST)\b/mi;
+
 test("transcripts of debugging scripts have the answers that records have", { skip: skipRecords }, () => {
   let compared = 0;
-  for (const each of transcripts().filter((one) => one.isDebug && !/^\s*(TRACE|PUT|SAVE)\b/mi.test(one.script))) {
+  for (const each of transcripts().filter((one) => one.isDebug && !ANSWERED_OTHERWISE.test(one.script))) {
     const { bytes } = new Machine(module).records(bytesOf(each.script), each.name, each.setting);
     const text = textOf(bytes);
     let answers = "", out = "";

@@ -64,7 +64,7 @@ def talk_of(words: argparse.Namespace, program: str) -> tuple[Talk, Known]:
     helper = Session(engine, settings)
     text = helper.do(Line("HELP"))[0].text
     images = [Path(image).name for image in words.images]
-    talk = Talk(engine, Session(engine, settings), images=images, knows_back="BACK" in known_words(text).first)
+    talk = Talk(engine, Session(engine, settings), images=images)
     return talk, known_words(f"{text}\n{OWN_HELP}")
 
 

@@ -46,8 +46,6 @@ class Talk:
     session: Session
     opened: list[str] = field(default_factory=list)
     images: list[str] = field(default_factory=list)
-    # a program that has this line itself answers it
-    knows_back: bool = False
 
     @property
     def is_in_block(self) -> bool:
@@ -73,7 +71,8 @@ class Talk:
             return []
         if words[0].upper() == "QUIT":
             raise Ended
-        if words[0].upper() == "BACK" and not self.knows_back:
+        # each line is answered on a machine that has no past, so the prompt itself goes back
+        if words[0].upper() == "BACK":
             return self._back(words[1:])
         if words[0].upper() == "SAVE":
             return self._save(words[1:])

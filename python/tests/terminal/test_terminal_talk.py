@@ -15,6 +15,7 @@ from machine import ROOT
 from rosm.machine.session import Session
 from rosm.native import ScriptError, Settings
 from rosm.programs import ProgramEngine
+from rosm.terminal.command import parser_of, talk_of
 from rosm.terminal.talk import Ended, Shown, Talk
 
 pytestmark = needs_program
@@ -84,6 +85,14 @@ def test_back(talk: Talk) -> None:
     # the two that are left of R0 are counted down: BNE, SUBS, BNE, SWI
     assert texts(typed(talk, "EXPECT R0 1", "RUN", "EXPECT STEPS 4")) == ["pass", "stop Exit", "pass"]
     assert texts(typed(talk, "BACK x")) == ["BACK takes a number of steps"]
+
+
+def test_the_prompt_goes_back_itself(tmp_path: Path) -> None:
+    # the program knows BACK too, on a machine that has a past, which the prompt's has not
+    talk, _ = talk_of(parser_of("rosm").parse_args([]), program(tmp_path))
+    typed(talk, *COUNTDOWN, "BOOT c", "RUN")
+    assert texts(typed(talk, "BACK 4")) == ["at &8008, after 4 steps"]
+    assert texts(typed(talk, "UNDO")) == ["refused NoHistory"]
 
 
 def test_an_empty_line_steps_once_more(talk: Talk) -> None:
