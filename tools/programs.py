@@ -13,6 +13,8 @@ from concurrent.futures import ProcessPoolExecutor
 from dataclasses import dataclass
 from typing import Callable, Iterable, Iterator, TypeVar
 
+from transcripts import Transcript
+
 ROOT = pathlib.Path(__file__).resolve().parent.parent
 UNPROVED = ROOT / "out/unproved"
 # a program that takes longer is ended
@@ -79,6 +81,16 @@ def run(command: list[str], script: bytes, size: int | None = None) -> Outcome:
 def write_all(file: int, text: bytes) -> None:
     while text:
         text = text[os.write(file, text) :]
+
+
+def command_of(transcript: Transcript, programs: Programs, room: str, by_debugger: bool) -> list[str]:
+    """The program and its words; each image is handed in as a file."""
+    files = []
+    for name, image in transcript.images.items():
+        files.append(f"{room}/{name}")
+        pathlib.Path(files[-1]).write_bytes(image)
+    front = programs.rosm_debug if by_debugger else [programs.rosm]
+    return [*front, *["--tap"] * transcript.is_tap, *transcript.options, "--", *files]
 
 
 def side_by_side(work: Callable[[Task], Found], tasks: Iterable[Task]) -> Iterator[Found]:
