@@ -4,7 +4,7 @@ use Rattle.std.specs.Prelude.{ℕ, Bool, not, ◌+◌, ◌-◌, ◌||◌, nat_lt
 use Rattle.std.specs.List.{join_with_byte}
 use Rattle.profile.specs.Digits.{hex_number}
 use Rattle.address_map.specs.Bytes.{Bytes}
-use Rattle.assembler_text.specs.naming.Words.{is_same_name}
+use Rattle.assembler_text.specs.naming.Words.{after_word, is_same_name, word}
 use Rattle.command_shell_lines.specs.Numbers.{script_number}
 use Rattle.command_shell_lines.specs.Requests.{words}
 use Rattle.command_shell_lines.specs.debug_words.Texts.{text_behind}
@@ -90,22 +90,38 @@ pub record LineNaming : Type 0 where
   pub names : Naming
   pub bytes : Bytes
 
--- a call with the number of the SWI that a loaded module names so
-abbrev pub numbered_call : List ℕ → List ℕ → Option ℕ → List ℕ
-numbered_call front line (Some swi) = front ++ hex_number swi
-numbered_call front line None = line
+-- what stands before the name of a SWI, with `&`, and the name with what stands behind it
+abbrev pub behind_front : List ℕ → Option (List ℕ) → Option (List ℕ × List ℕ) → Option (List ℕ × List ℕ)
+behind_front front (Some named) others = Some (front, named)
+behind_front front None others = others
 
-abbrev pub numbered_by : LineNaming → Option (List ℕ) → Option (List ℕ) → List ℕ → List ℕ
-numbered_by n (Some name) traced line =
-    numbered_call (codes "CALL &") line (swi_of_modules n.bytes n.names.modules name)
-numbered_by n None (Some name) line =
-    numbered_call (codes "TRACE CALL &") line (swi_of_modules n.bytes n.names.modules name)
-numbered_by n None None line = numbered_behind n.names line (kept_words (words line))
+abbrev pub before_swi : List ℕ → Option (List ℕ × List ℕ)
+before_swi line =
+    behind_front (codes "CALL &") (text_behind (codes "CALL ") line) (
+    behind_front (codes "TRACE CALL &") (text_behind (codes "TRACE CALL ") line) (
+    behind_front (codes "STUB &") (text_behind (codes "STUB ") line) (
+    behind_front (codes "UNSTUB &") (text_behind (codes "UNSTUB ") line) None)))
+
+-- the number of the SWI that a loaded module names so, and what stands behind the name
+abbrev pub numbered_swi : List ℕ → List ℕ → List ℕ → Option ℕ → List ℕ
+numbered_swi front named line (Some swi) = front ++ (hex_number swi ++ after_word named)
+numbered_swi front named line None = line
+
+abbrev pub swi_by_parts : LineNaming → List ℕ → Option (List ℕ × List ℕ) → List ℕ
+swi_by_parts n line None = line
+swi_by_parts n line (Some parts) =
+    numbered_swi parts.0 parts.1 line (swi_of_modules n.bytes n.names.modules (word parts.1))
+
+abbrev pub line_with_swi : LineNaming → List ℕ → List ℕ
+line_with_swi n line = swi_by_parts n line (before_swi line)
+
+-- a line with the numbers of the places that it names
+abbrev pub line_with_places : Naming → List ℕ → List ℕ
+line_with_places n line = numbered_behind n line (kept_words (words line))
 
 -- what a line means: the line with the numbers
 abbrev pub line_with_numbers : LineNaming → List ℕ → List ℕ
-line_with_numbers n line =
-    numbered_by n (text_behind (codes "CALL ") line) (text_behind (codes "TRACE CALL ") line) line
+line_with_numbers n line = line_with_places n.names (line_with_swi n line)
 
 -- BYTES stands before numbers.
 abbrev pub is_number_or_bytes : List ℕ → Bool

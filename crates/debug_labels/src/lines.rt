@@ -4,12 +4,12 @@ ghost use Rattle.std.specs.Prelude.{◌≡◌, ◌≤◌, ◌++◌, IfOk, IfSome
 ghost use Rattle.std.specs.List.{join_with_byte};
 ghost use Rattle.address_map.specs.Memory.{bytes_of};
 ghost use Rattle.command_shell_lines.specs.Requests.{words};
-ghost use Rattle.debug_labels.specs.Lines.{has_places_behind, is_number_or_bytes, is_place_word, is_text_check, kept_by_size, kept_untraced, kept_words, looks_back, numbered_call, unnumbered_word};
+ghost use Rattle.debug_labels.specs.Lines.{has_places_behind, is_place_word, is_text_check, before_swi, kept_by_size, kept_untraced, kept_words, looks_back, unnumbered_word};
 
 use crate::module_swis::swi_of_modules;
 use crate::words::PlaceNames;
 use address_map::AddressMap;
-use assembler_text::naming::words::is_name;
+use assembler_text::naming::words::{after_word, is_name, word};
 use command_shell_lines::debug_words::text_behind;
 use command_shell_lines::number_of;
 use profile::HexText;
@@ -17,14 +17,14 @@ use profile::text_lines::cut;
 use std::alloc::{AllocError, Global};
 
 impl PlaceNames<'_> {
-    ghost use Rattle.debug_labels.specs.Lines.{line_with_numbers, numbered_words, word_behind};
+    ghost use Rattle.debug_labels.specs.Lines.{line_with_numbers, line_with_swi, numbered_words, word_behind};
 
     /// What a tidy line means: the line with a number, as `&8004`, in place of each word that names
     /// a place, in the lines that have places: behind BREAK, UNBREAK, MEM, CODE, HEAP, POKE, STEP,
     /// WORDS, GOSUB, WATCH, UNWATCH, DUMP, FILL and FIND, and behind one word more after PUT, SET and
     /// EXPECT, but behind SET PSR and where EXPECT compares text, and after BACK UNTIL, LAST CHANGE,
-    /// LAST CLAIM and LAST FREE. Behind CALL, it is the number of the SWI that a loaded module's table
-    /// in memory names so. TRACE may stand before these.
+    /// LAST CLAIM and LAST FREE. Behind CALL, STUB and UNSTUB one word is
+    /// the number of the SWI that a loaded module's table in memory names so. TRACE may stand before these.
     ///
     /// # Errors
     ///
@@ -38,16 +38,33 @@ impl PlaceNames<'_> {
         ensures { IfOk result (λ text. text.items
             ≡ line_with_numbers (record { names = self.now; bytes = bytes_of memory.now }) line.now) }
     {
-        if let Some(name) = text_behind(b"CALL ", line) {
-            let swi = swi_of_modules(memory, self.modules, name);
-            numbered_call(alloc, b"CALL &", line, swi)
-        } else if let Some(name) = text_behind(b"TRACE CALL ", line) {
-            let swi = swi_of_modules(memory, self.modules, name);
-            numbered_call(alloc, b"TRACE CALL &", line, swi)
-        } else {
-            match kept_words(line) {
-                None => Vec::from_slice(alloc, line),
-                Some(kept) => self.numbered(alloc, line, kept),
+        let named = self.line_with_swi(alloc, memory, line)?;
+        match kept_words(named.as_slice()) {
+            None => Ok(named),
+            Some(kept) => self.numbered(alloc, named.as_slice(), kept),
+        }
+    }
+
+    // A line with the number of the SWI that a loaded module names so.
+    fn line_with_swi(
+        &self,
+        alloc: Global,
+        memory: &AddressMap,
+        line: &[u8],
+    ) -> Result<Vec<u8>, AllocError>
+        ensures { IfOk result (λ text. text.items
+            ≡ line_with_swi (record { names = self.now; bytes = bytes_of memory.now }) line.now) }
+    {
+        let Some((front, named)) = before_swi(line) else {
+            return Vec::from_slice(alloc, line);
+        };
+        match swi_of_modules(memory, self.modules, word(named)) {
+            None => Vec::from_slice(alloc, line),
+            Some(swi) => {
+                let mut text = Vec::from_slice(alloc, front)?;
+                text.extend_from_slice(HexText::number(swi).as_slice())?;
+                text.extend_from_slice(after_word(named))?;
+                Ok(text)
             }
         }
     }
@@ -90,27 +107,25 @@ impl PlaceNames<'_> {
     }
 }
 
-// A call with the number of a SWI, or the line where there is none.
-fn numbered_call(
-    alloc: Global,
-    front: &[u8],
-    line: &[u8],
-    swi: Option<u32>,
-) -> Result<Vec<u8>, AllocError>
-    ensures { IfOk result (λ text. text.items ≡ numbered_call front.now line.now swi) }
+// What stands before the name of a SWI, with `&`, and the name with what stands behind it.
+fn before_swi(line: &[u8]) -> Option<(&'static [u8], &[u8])>
+    ensures { option_map (λ parts. (parts.0.now, parts.1.now)) result ≡ before_swi line.now }
 {
-    match swi {
-        None => Vec::from_slice(alloc, line),
-        Some(swi) => {
-            let mut text = Vec::from_slice(alloc, front)?;
-            text.extend_from_slice(HexText::number(swi).as_slice())?;
-            Ok(text)
-        }
+    if let Some(named) = text_behind(b"CALL ", line) {
+        Some((b"CALL &", named))
+    } else if let Some(named) = text_behind(b"TRACE CALL ", line) {
+        Some((b"TRACE CALL &", named))
+    } else if let Some(named) = text_behind(b"STUB ", line) {
+        Some((b"STUB &", named))
+    } else if let Some(named) = text_behind(b"UNSTUB ", line) {
+        Some((b"UNSTUB &", named))
+    } else {
+        None
     }
 }
 
 /// Of a line with numbers in place of words that name places, the first word that is no number where
-/// a number or a place may stand.
+/// a number or a place may stand. BYTES stands before numbers.
 pub(crate) fn unnumbered_word(line: &[u8]) -> Option<&[u8]>
     ensures { option_map (λ word. word.now) result ≡ unnumbered_word (words line.now) }
 {
@@ -118,20 +133,14 @@ pub(crate) fn unnumbered_word(line: &[u8]) -> Option<&[u8]>
     let mut rest = Some(line);
     while let Some(text) = rest {
         let (word, others) = cut(text, b' ');
-        if left == 0 && !is_number_or_bytes(word) {
+        let stands = number_of(word).is_some() || is_name(word, b"BYTES");
+        if left == 0 && !stands {
             return Some(word);
         }
         left = left.saturating_sub(1);
         rest = others;
     }
     None
-}
-
-// BYTES stands before numbers.
-fn is_number_or_bytes(word: &[u8]) -> bool
-    ensures { result ≡ is_number_or_bytes word.now }
-{
-    number_of(word).is_some() || is_name(word, b"BYTES")
 }
 
 // How many words of a line stand as they are before those that may name places, if any may.
