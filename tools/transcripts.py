@@ -2,7 +2,8 @@
 
 A transcript begins with comments, `# TEXT`, that say what it shows. Words of the command line may follow, `$ WORD ..`:
 `--pages=N`, `--app=N`, `--rma=N`, `--budget=N`, images as `NAME=HEX` or `NAME=HEX*COUNT`, and `--debug`, with `--tap`
-after it, for a debugging script. Then stand the typed lines, `> TEXT`, each with its answers under it, and at the end
+after it, for a debugging script; `--behind=NAME` says that the script of another transcript stands in front of this
+one's, and its answers before these, as riscos/convert.txt. Then stand the typed lines, `> TEXT`, each with its answers under it, and at the end
 `= status N`. One that is wrong on purpose ends in `! TEXT`, the complaint that it must get.
 
 Bytes are spelt `\\xNN`, `\\r` and `\\t`; a backslash stands before a sign that has a meaning, and at the end of a line
@@ -13,7 +14,7 @@ from __future__ import annotations
 import enum
 import pathlib
 import re
-from dataclasses import dataclass, field
+from dataclasses import dataclass, field, replace
 
 ROOT = pathlib.Path(__file__).resolve().parent.parent
 TRANSCRIPTS = ROOT / "transcripts"
@@ -108,6 +109,8 @@ class Transcript:
     images: dict[str, bytes] = field(default_factory=dict)
     is_debugging: bool = False
     is_tap: bool = False
+    # the transcripts that stand in front of this one
+    behind: list[str] = field(default_factory=list)
     script: bytes = b""
     answer: bytes = b""
     # the line of the transcript at which each line of the answer begins
@@ -158,6 +161,8 @@ class Transcript:
             self.is_debugging = True
         elif word == "--tap" and self.is_debugging:
             self.is_tap = True
+        elif name == "--behind" and self.is_debugging:
+            self.behind.append(value)
         elif name in SIZES and NUMBER.fullmatch(value):
             self.options.append(word)
         elif sign and name and not name.startswith("--") and image:
@@ -166,7 +171,8 @@ class Transcript:
             self.images[name] = bytes.fromhex(image[1]) * int(image[2] or 1)
         else:
             raise LineError(
-                "a word is --debug, --tap after it, --pages=N, --app=N, --rma=N, --budget=N, NAME=HEX or NAME=HEX*COUNT"
+                "a word is --debug, --tap or --behind=NAME after it, --pages=N, --app=N, --rma=N, --budget=N, NAME=HEX"
+                " or NAME=HEX*COUNT"
             )
 
 
@@ -186,6 +192,24 @@ def read(text: str) -> Transcript:
     if not transcript.status_line:
         raise LineError(f"{number}: the last line is = status N")
     return transcript
+
+
+def with_those_in_front(transcript: Transcript) -> Transcript:
+    """A transcript, with the scripts and the answers of those that it stands behind. LineError: there is none."""
+    script, answer, lines = b"", b"", []
+    for name in transcript.behind:
+        path = TRANSCRIPTS / name
+        if not path.is_file():
+            raise LineError(f"there is no transcript {name} to stand behind")
+        other = read(text_of(path))
+        script, answer = script + other.script, answer + other.answer
+        lines += [1] * len(other.answer_lines)
+    return replace(
+        transcript,
+        script=script + transcript.script,
+        answer=answer + transcript.answer,
+        answer_lines=lines + transcript.answer_lines,
+    )
 
 
 def all_transcripts() -> list[pathlib.Path]:

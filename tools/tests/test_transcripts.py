@@ -16,7 +16,7 @@ sys.path.insert(0, str(TOOLS))
 import malformed  # noqa: E402
 import programs  # noqa: E402
 from programs import Outcome  # noqa: E402
-from transcripts import LineError, line_bytes, read, spelling  # noqa: E402
+from transcripts import TRANSCRIPTS, LineError, line_bytes, read, spelling, text_of, with_those_in_front  # noqa: E402
 
 
 def tool(name: str) -> ModuleType:
@@ -82,6 +82,19 @@ class Transcripts(unittest.TestCase):
             with self.subTest(text), self.assertRaises(LineError) as caught:
                 read(text)
             self.assertEqual(str(caught.exception)[: len(complaint)], complaint)
+
+    def test_a_transcript_stands_behind_another(self) -> None:
+        text = "# a\n$ --debug --behind=budgets/empty-script.txt --behind=debug/help.txt\n> STEP 0\nat &8000\n= status 3\n"
+        alone = read(text)
+        self.assertEqual(alone.script, b"STEP 0\n")
+        whole, other = with_those_in_front(alone), read(text_of(TRANSCRIPTS / "debug/help.txt"))
+        self.assertTrue(other.script)
+        self.assertEqual(whole.script, other.script + b"STEP 0\n")
+        self.assertEqual(whole.answer, other.answer + b"at &8000\n")
+        self.assertEqual(whole.answer_lines, [1] * len(other.answer_lines) + [4])
+        for wrong in (text.replace("empty-script", "no"), text.replace("--debug ", "")):
+            with self.assertRaises(LineError):
+                with_those_in_front(read(wrong))
 
     def test_bytes_are_spelt(self) -> None:
         self.assertEqual(line_bytes("a\\r\\t\\x1B\\\\\\>"), b"a\r\t\x1b\\>\n")
