@@ -49,8 +49,8 @@ NO_TRANSCRIPTS = (
     ("# a\n>x\n= status 3\n", "2: no line begins so"),
     ("# a\n> \xe9\n= status 3\n", "2: a byte that is not printable; it is written \\xNN"),
     ("# a\n> \\n\n= status 3\n", "2: a backslash stands before \\ # $ > = ! r t xNN, or at the end of the line"),
-    ("# a\n$ --tap\n= status 3\n", "2: a word is --debug, --tap after it, --pages=N"),
-    ("# a\n$ a=0\n= status 3\n", "2: a word is --debug, --tap after it, --pages=N"),
+    ("# a\n$ --tap\n= status 3\n", "2: a word is --debug, --tap or --behind=NAME after it, --pages=N"),
+    ("# a\n$ a=0\n= status 3\n", "2: a word is --debug, --tap or --behind=NAME after it, --pages=N"),
     ("# a\n$ a/b=00\n= status 3\n", "2: no file, or one more, can hand in an image of the name a/b"),
 )
 OUTCOMES = (
@@ -84,7 +84,8 @@ class Transcripts(unittest.TestCase):
             self.assertEqual(str(caught.exception)[: len(complaint)], complaint)
 
     def test_a_transcript_stands_behind_another(self) -> None:
-        text = "# a\n$ --debug --behind=budgets/empty-script.txt --behind=debug/help.txt\n> STEP 0\nat &8000\n= status 3\n"
+        front = "# a\n$ --debug --behind=budgets/empty-script.txt --behind=debug/help.txt\n"
+        text = front + "> STEP 0\nat &8000\n= status 3\n"
         alone = read(text)
         self.assertEqual(alone.script, b"STEP 0\n")
         whole, other = with_those_in_front(alone), read(text_of(TRANSCRIPTS / "debug/help.txt"))
