@@ -135,7 +135,7 @@ LESSONS = WEB.parent / "docs/lessons"
 LESSON_SCRIPT = re.compile(r"\bexamples/[\w/-]+\.script\b")
 # Where the editor's examples lie, and what each of these folders is called. Scripts of lessons come by their lessons.
 OF_LESSONS = "Lessons"
-GROUPS = [("play", "To play with"), ("lessons", OF_LESSONS), ("", "Examples"), ("debug", "Debugging")]
+GROUPS = [("play", "To play with"), ("lessons", OF_LESSONS), ("", "Examples"), ("debug", "Debugging"), ("riscos", "More SWIs")]
 ABOUT = re.compile(r"^\| `([\w./-]+\.script)` \| (.*?) \|$", re.MULTILINE)
 
 
