@@ -39,10 +39,13 @@ class Case:
     library: str = "convert"
     carry: str = ""
     value: bytes = b""
+    before: bytes = b""
 
     def lines(self) -> Iterator[str]:
         """The case as lines of a debugging script."""
         yield f"FILL &{BUFFER:X} {ROOM} BYTES {FILL}"
+        if self.before:
+            yield f'POKE &{BUFFER:X} "{spelt(self.before)}"'
         if self.text:
             yield f'POKE &{TEXT:X} "{spelt(self.text)}"'
         if self.value:

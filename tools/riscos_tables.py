@@ -1,4 +1,4 @@
-"""Cases of tools/run_riscos: variables and vectors at random, beside tables of Python's."""
+"""Cases of tools/run_riscos: variables, vectors and sorted words at random, beside tables of Python's."""
 from __future__ import annotations
 
 import random
@@ -134,3 +134,42 @@ class Vectors:
         for _ in range(300):
             yield self.change()
             yield self.call()
+
+
+def integer(word: int) -> int:
+    return word - WORD if word >> 31 else word
+
+
+def in_bytes(words: list[int]) -> bytes:
+    return b"".join(word.to_bytes(4, "little") for word in words)
+
+
+def sorted_words(chance: random.Random, order: int) -> Case:
+    """Words that are put in order, 12 at most: numbers, integers, or the addresses of some."""
+    count = chance.randrange(13)
+    words = [chance.choice((chance.getrandbits(32), chance.getrandbits(2), WORD - 1 - chance.getrandbits(2))) for _ in range(count)]
+    key = integer if order & 1 else int
+    given: dict[str, int | str] = {"R0": count, "R1": BUFFER, "R2": order}
+    if order < 2:
+        return Case("heapsort", given, written=in_bytes(sorted(words, key=key)), library="sort", before=in_bytes(words))
+    places = {TEXT + 4 * place: word for place, word in enumerate(words)}
+    made = sorted(places, key=lambda place: key(places[place]))
+    return Case("heapsort", given, written=in_bytes(made), text=in_bytes(words), library="sort", before=in_bytes([*places]))
+
+
+def sorted_texts(chance: random.Random, order: int) -> Case:
+    """Addresses of texts that are put in order."""
+    texts = ["".join(chance.choices("aAbB_", k=chance.randrange(4))) for _ in range(chance.randrange(13))]
+    places, text = {}, ""
+    for each in texts:
+        places[TEXT + len(text)] = each
+        text += each + chance.choice("\0\r\n")
+    made = sorted(places, key=lambda place: places[place].upper() if order == 4 else places[place])
+    given: dict[str, int | str] = {"R0": len(places), "R1": BUFFER, "R2": order}
+    return Case("heapsort", given, written=in_bytes(made), text=text.encode(), library="sort", before=in_bytes([*places]))
+
+
+def orders(chance: random.Random) -> Iterator[Case]:
+    """Cases of OS_HeapSort."""
+    for order in range(6):
+        yield from ((sorted_words if order < 4 else sorted_texts)(chance, order) for _ in range(40))
