@@ -13,6 +13,8 @@ BAD_STRING = "Bad string"
 NOT_FOUND = "System variable not found"
 BAD_RELEASE = "Bad vector release"
 CROWDED = "No room for a claim"
+BAD_COMMAND = "Bad command"
+SYNTAX = "Syntax: none"
 ERRORS = {
     OVERFLOW: 0x1E4,
     "Bad base": 0x16A,
@@ -22,6 +24,8 @@ ERRORS = {
     NOT_FOUND: 0x124,
     BAD_RELEASE: 0x1A1,
     CROWDED: 1006,
+    BAD_COMMAND: 254,
+    SYNTAX: 220,
 }
 
 
@@ -40,10 +44,14 @@ class Case:
     carry: str = ""
     value: bytes = b""
     before: bytes = b""
+    # words of memory, by their addresses
+    words: dict[int, int] = field(default_factory=dict)
 
     def lines(self) -> Iterator[str]:
         """The case as lines of a debugging script."""
         yield f"FILL &{BUFFER:X} {ROOM} BYTES {FILL}"
+        if self.words:
+            yield f"FILL &{min(self.words):X} {4 * len(self.words)} 0"
         if self.before:
             yield f'POKE &{BUFFER:X} "{spelt(self.before)}"'
         if self.text:
@@ -57,6 +65,8 @@ class Case:
         yield f"EXPECT FLAGS {self.carry}{'V' if self.error else 'v'} SVC"
         for name, value in self.wanted.items():
             yield f"EXPECT {name} &{value:X}"
+        for place, word in self.words.items():
+            yield f"EXPECT WORD &{place:X} &{word:X}"
         if self.error:
             yield "WHY"
             number = ERRORS[self.error]
