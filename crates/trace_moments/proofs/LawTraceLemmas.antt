@@ -1,2 +1,3 @@
 pub mod LeavingLemmas
+pub mod PlainLemmas
 pub mod StoreLemmas

@@ -4,3 +4,5 @@ pub mod FrameLemmas
 pub mod ItemLemmas
 pub mod WalkLemmas
 pub mod LawTraceLemmas
+pub mod StoredLemmas
+pub mod FieldLemmas

@@ -1,12 +1,15 @@
 //! The words that an instruction loads and stores.
 
-ghost use Rattle.std.specs.Prelude.{◌≡◌, ◌≤◌, IfSome, MatchOption};
+ghost use Rattle.std.specs.Prelude.{◌≡◌, ◌≤◌, map, IfOk, IfSome, MatchOption};
+ghost use Rattle.address_map.specs.Bytes.{word_at};
+ghost use Rattle.address_map.specs.Memory.{byte_at};
 ghost use Rattle.trace_effects.specs.Loaded.{loaded_words};
+ghost use Rattle.trace_moments.specs.Stored.{AreListed, renewed};
 
 use address_map::AddressMap;
 use arm_core::Cpu;
 use std::alloc::{AllocError, Global};
-use trace_effects::shown_words::ShownWord;
+use trace_effects::shown_words::{ShownWord, word_in};
 use trace_effects::{Cause, StoredWords};
 
 /// The words that the instruction at a core's program counter loads, if it loads any, of which LDRB
@@ -34,17 +37,17 @@ pub fn words_at(
     words: StoredWords,
 ) -> Result<Vec<ShownWord>, AllocError>
     requires { words.count ≤ 16 }
+    ensures { IfOk result (λ all. AreListed words all.items) }
 {
     let mut all = Vec::new(alloc);
-    let mut at = words.at;
-    for _words in 0..words.count {
-        let word = memory.load_word(at).unwrap_or(0);
+    for index in 0..words.count {
+        let at = (words.at - words.at % 4).wrapping_add(4 * index);
+        let word = word_in(memory, at);
         all.push(ShownWord {
             at,
             old: word,
             new: word,
         })?;
-        at = at.wrapping_add(4);
     }
     Ok(all)
 }
@@ -54,10 +57,13 @@ pub fn stored_changes(
     alloc: Global,
     olds: &[ShownWord],
     memory: &AddressMap,
-) -> Result<Vec<ShownWord>, AllocError> {
+) -> Result<Vec<ShownWord>, AllocError>
+    ensures { IfOk result
+        (λ changes. changes.items ≡ map (renewed (word_at (byte_at memory.now))) olds.now) }
+{
     let mut changes = Vec::new(alloc);
     for old in olds {
-        let new = memory.load_word(old.at).unwrap_or(0);
+        let new = word_in(memory, old.at - old.at % 4);
         changes.push(ShownWord { new, ..*old })?;
     }
     Ok(changes)
