@@ -1,11 +1,11 @@
 //! Store calls in records: their names, reasons and arguments.
 
-use crate::names::plain_name;
 use address_map::AddressMap;
 use arm_core::Cpu;
 use profile::{AreaReason, HeapReason, ModuleReason, SwiName};
 use std::alloc::AllocError;
 use trace_effects::record_text::{Bracket, RecordText};
+use trace_moments::plain_name;
 
 /// The most characters of a string that a record has.
 const MOST_CHARACTERS: u32 = 256;

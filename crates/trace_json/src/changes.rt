@@ -1,19 +1,18 @@
 //! What differs between a machine as it was and as it is, in records.
 
-use crate::core_fields::{push_registers, push_status};
 use crate::flex::push_changed_flex;
 use crate::heaps::{BlockFate, push_changed_heaps};
 use crate::lists::{push_areas, push_modules};
-use crate::words::push_words;
 use arm_core::Cpu;
 use std::alloc::{AllocError, Global};
 use swi_dispatch::Machine;
-use trace_effects::changes::jump_of;
 use trace_effects::record_text::RecordText;
-use trace_effects::shown_registers::{WrittenRegisters, shown_registers};
+use trace_effects::shown_registers::WrittenRegisters;
 use trace_effects::shown_words::changed_words;
 use trace_effects::store_words::StoreCopy;
-use trace_moments::{ShownAreas, changed_areas, changed_modules, shown_areas};
+use trace_moments::{
+    ShownAreas, changed_areas, changed_modules, push_core_changes, push_words, shown_areas,
+};
 
 /// What is kept of a machine, to show later what differs.
 #[derive(Drop)]
@@ -37,25 +36,6 @@ impl MachineCopy {
             store: StoreCopy::of(alloc, machine)?,
             areas: shown_areas(machine.areas(), machine.memory()),
         })
-    }
-}
-
-/// Writes what a core differs in from one before it, and registers that were written; and under a name
-/// where it goes on, if that isn't the address that was expected.
-pub(crate) fn push_core_changes(
-    text: &mut RecordText,
-    before: &Cpu,
-    after: &Cpu,
-    written: &WrittenRegisters,
-    name: &[u8],
-    expected: u32,
-) -> Result<(), AllocError> {
-    let reported = shown_registers(before, after, written);
-    push_registers(text, reported.as_slice())?;
-    push_status(text, before.psr(), after.psr())?;
-    match jump_of(expected, after) {
-        Some(at) => text.number_field(name, u64::from(at)),
-        None => Ok(()),
     }
 }
 

@@ -1,12 +1,11 @@
 //! Frames of module code in records.
 
-use crate::names::mode_name;
 use arm_core::{Cpu, Mode};
 use instances::Instances;
 use std::alloc::AllocError;
 use swi_dispatch::{CodeKind, FrameKind, Machine};
 use trace_effects::record_text::{Bracket, RecordText};
-use trace_moments::{ShownFrame, changed_frames};
+use trace_moments::{ShownFrame, changed_frames, mode_name};
 use trace_store_text::modules::marks_of;
 
 /// Writes which frames a step has left and which one it entered, where so many were kept open of so

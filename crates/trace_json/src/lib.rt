@@ -6,20 +6,16 @@
 
 mod calls;
 mod changes;
-mod core_fields;
 mod flex;
 mod frames;
 mod heaps;
 mod lists;
-mod names;
 mod skip;
 mod state;
 mod step;
 mod stops;
-mod words;
 
 pub use changes::{MachineCopy, push_changes};
-pub use names::register_name;
 pub use skip::push_skip;
 pub use state::push_state;
 pub use step::{StepBefore, StepKind};

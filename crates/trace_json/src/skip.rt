@@ -1,6 +1,6 @@
 //! Steps that aren't shown one by one, as a record: what they leave together.
 
-use crate::changes::{MachineCopy, push_changed_words, push_core_changes, push_store_changes};
+use crate::changes::{MachineCopy, push_changed_words, push_store_changes};
 use crate::frames::push_frames;
 use crate::heaps::BlockFate;
 use crate::step::push_out;
@@ -10,6 +10,7 @@ use std::alloc::{AllocError, Global};
 use swi_dispatch::Machine;
 use trace_effects::record_text::RecordText;
 use trace_effects::shown_registers::WrittenRegisters;
+use trace_moments::push_core_changes;
 
 /// Writes the fields of steps that aren't shown one by one behind their number: what they left, but for
 /// where images stand.

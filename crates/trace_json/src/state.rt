@@ -1,14 +1,12 @@
 //! A whole machine in a record.
 
-use crate::core_fields::push_core;
 use crate::flex::push_store;
 use crate::heaps::push_all_heaps;
 use crate::lists::{push_areas, push_modules};
-use crate::words::push_memory;
 use std::alloc::AllocError;
 use swi_dispatch::Machine;
 use trace_effects::record_text::RecordText;
-use trace_moments::{flex_range_of, shown_areas};
+use trace_moments::{flex_range_of, push_core, push_memory, shown_areas};
 use trace_store_text::modules::marks_of;
 
 /// Writes all that stands in a machine: its core, its memory, its heaps, areas and modules, and where

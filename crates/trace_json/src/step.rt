@@ -1,11 +1,10 @@
 //! One step as a record: what is done, and what it leaves.
 
 use crate::calls::{push_call, push_load};
-use crate::changes::{MachineCopy, push_changed_words, push_core_changes, push_store_changes};
+use crate::changes::{MachineCopy, push_changed_words, push_store_changes};
 use crate::frames::push_frames;
 use crate::heaps::BlockFate;
 use crate::stops::{push_error, push_stop, stop_reason};
-use crate::words::{push_reads, push_words};
 use arm_core::Cpu;
 use assembler_text::disassemble;
 use profile::text_sink::TextSink;
@@ -19,7 +18,8 @@ use trace_effects::shown_registers::WrittenRegisters;
 use trace_effects::shown_words::ShownWord;
 use trace_effects::{Cause, called_swi, stored_words};
 use trace_moments::{
-    loaded_words, stored_changes, words_at, written_by_call, written_by_instruction,
+    loaded_words, push_core_changes, push_reads, push_words, stored_changes, words_at,
+    written_by_call, written_by_instruction,
 };
 
 /// How a step is made.
