@@ -335,7 +335,7 @@ class MachineTest(unittest.TestCase):
         scripts = [each for each in json.loads(found) if not each["isDebug"]]
         self.assertGreater(len(scripts), 200)
         machine = re.sub(r"^export ", "", (EDITOR / "machine.js").read_text(encoding="utf-8"), flags=re.MULTILINE)
-        self.browser.driver.set_script_timeout(300)
+        self.browser.driver.set_script_timeout(900)
         wrong = self.browser.driver.execute_async_script(machine + LOAD_MODULE + """
             const [scripts, done] = arguments, wrong = [];
             loaded.then((module) => {
@@ -360,7 +360,7 @@ class MachineTest(unittest.TestCase):
         with ThreadPoolExecutor(4) as pool:
             digests = list(pool.map(lambda each: digest_of_records(program, each), scripts))
         machine = re.sub(r"^export ", "", (EDITOR / "machine.js").read_text(encoding="utf-8"), flags=re.MULTILINE)
-        self.browser.driver.set_script_timeout(300)
+        self.browser.driver.set_script_timeout(900)
         wrong = self.browser.driver.execute_async_script(machine + LOAD_MODULE + """
             const [scripts, digests, done] = arguments, wrong = [];
             loaded.then(async (module) => {
