@@ -111,14 +111,15 @@ PARTS += " &9000 &9010 &B00C &2000004 start+4 &180001C"
 QUESTIONS = tuple(f"LAST CHANGE {part}" for part in PARTS.split())
 QUESTIONS += ("LAST CHANGE WORD &9004", "LAST CHANGE WORD R8+8", "LAST CHANGE WORD &7FFC", "LAST CHANGE BYTE &9009")
 QUESTIONS += ("LAST CHANGE BYTE &B010", "LAST CHANGE BYTE R13-4", "LAST CLAIM &B018", "LAST CLAIM &B0E0")
-QUESTIONS += ("LAST FREE &B018", "LAST FREE &B0E0")
+QUESTIONS += ("LAST FREE &B018", "LAST FREE &B0E0", "LAST CHANGE BLOCK &B018", "LAST CHANGE BLOCK &B00C")
 # lines after which the past isn't known
-LOSING = ('POKE &9000 "ab"', "FILL &9000 8 BYTES 1", "PUT p &9100", "GOSUB sub", "FINISH", "ASM q &9000")
+LOSING = ('POKE &9000 "ab"', "FILL &9000 8 BYTES 1", "PUT p &9100", "ASM q &9000")
 LOOKING = ("REGS", "WORDS &9000 4", "WHERE", "EXPECT R0 0", "HEAP &B000", "# a remark", "BREAK nowhere", "HELP BACK")
 LOOKING += ("COUNT ON", "COUNT OFF", "TRACE ON", "TRACE OFF", "BREAK sub", "BREAK &8018", "UNBREAK sub", "WHEN")
-LOOKING += ("STUB 6 R0 1", "FORGET nothing", "ASM p &8000", "ASM wrong &8000")
+LOOKING += ("STUB 6 R0 1", "UNSTUB 6", "FORGET nothing", "ASM p &8000", "ASM wrong &8000")
+LOOKING += ("WATCH &9000", "WATCH &9000", "UNWATCH &9000", "WATCH &900C", "UNWATCH &900C")
 # what the lines above leave set, taken away
-AS_BEFORE = ["COUNT OFF", "TRACE OFF", "UNBREAK sub", "UNBREAK &8018", "UNSTUB 6"]
+AS_BEFORE = ["COUNT OFF", "TRACE OFF", "UNBREAK sub", "UNBREAK &8018", "UNSTUB 6", "UNWATCH &9000", "UNWATCH &900C"]
 
 
 @dataclass
@@ -164,6 +165,8 @@ def stepping(choice: random.Random) -> str:
     text = choice.choice(("STEP 1", "STEP", *("STEP %",) * 4, "RUN", "RUN", "REPEAT 2 STEP %", "CALL &40000"))
     if choice.randrange(8) == 0:
         text = choice.choice(FROM_OUTSIDE)
+    elif choice.randrange(8) == 0:
+        text = choice.choice(("FINISH", "GOSUB sub", "GOSUB sub", "GOSUB start+8", "STEP 0"))
     text = text.replace("%", str(choice.randrange(1, 14)))
     if choice.randrange(7) == 0 and not text.startswith("REPEAT"):
         return choice.choice((f"TRACE {text}", f"TRACE {text}", "TRACE LAST 3", f"TRACE {choice.randrange(1, 5)}"))
@@ -226,7 +229,7 @@ def is_back(text: str) -> bool:
 
 
 def is_question(text: str) -> bool:
-    return text.startswith("LAST")
+    return text.upper().startswith("LAST")
 
 
 def plain(text: str) -> str:
@@ -238,11 +241,15 @@ def plain(text: str) -> str:
 
 
 def takes_steps(text: str) -> bool:
-    return re.match(r"(REPEAT \d+ )?(STEP|RUN|CALL|LOAD)\b", plain(text)) is not None
+    return re.match(r"(REPEAT \d+ )?(STEP|RUN|CALL|LOAD|FINISH|GOSUB)\b", plain(text)) is not None
 
 
 def is_call(text: str) -> bool:
     return plain(text).startswith(("CALL", "LOAD"))
+
+
+def is_routine(text: str) -> bool:
+    return plain(text).startswith("GOSUB")
 
 
 def is_change(text: str) -> bool:

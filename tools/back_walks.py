@@ -22,7 +22,7 @@ PSR = re.compile(r"^PSR (\w{6}) (\w+)$", re.M)
 REGISTER = re.compile(r"(R\d+(?:_\w+)?) +([0-9A-F]{8})")
 LIVE = re.compile(r"^live ([0-9A-F]{8}) (\d+)$", re.M)
 # what an address may stand behind
-PLACED = re.compile(r"(?:BACK UNTIL|LAST (?:CHANGE(?: WORD| BYTE)?|CLAIM|FREE)) (\S+)")
+PLACED = re.compile(r"(?:BACK UNTIL|(?:TRACE )?GOSUB|LAST (?:CHANGE(?: WORD| BYTE| BLOCK)?|CLAIM|FREE)) (\S+)")
 # what LAST CHANGE takes for no address
 NO_ADDRESS = re.compile(r"R\d+(_\w+)?|SP|LR|FLAGS")
 
@@ -35,6 +35,7 @@ class Unit:
     text: str
     count: int
     at: int | None = None
+    is_fault: bool = False
     parts: list[str] = field(default_factory=list)
     registers: dict[str, str] = field(default_factory=dict)
 
@@ -46,6 +47,16 @@ class Unit:
             bits = sum(1 << 31 - place for place, letter in enumerate("NZCVIF") if flags[place] == letter)
             self.registers |= {"mode": mode, "FLAGS": f"{bits + MODES.index(mode):08X}"}
         return self.registers
+
+    @property
+    def is_step(self) -> bool:
+        return self.count > 0 or self.is_fault
+
+    @property
+    def trace(self) -> str:
+        """What TRACE shows of a step: all but the last line, which says how it ended."""
+        lines = self.parts[0].splitlines(keepends=True)
+        return "".join(lines[:-1])
 
     def block(self, address: int) -> str:
         """The live block of the heap at &B000 that has a byte, its length included."""
@@ -71,7 +82,9 @@ class Entry:
     text: str
     number: int
     address: int | None = None
+    before: str = ""
     answer: str = ""
+    steps: int = 0
     when: str = ""
     shown: str = ""
     path: list[Unit] = field(default_factory=list)
@@ -107,7 +120,8 @@ class Singles:
         return self.done(Unit(0, "RESET", 0))
 
     def done(self, unit: Unit) -> Unit:
-        self.lines += [unit.text, MARK, *SHOWN, MARK, *self.read, MARK]
+        text = f"TRACE {unit.text}" if unit.is_step else unit.text
+        self.lines += [text, MARK, *SHOWN, MARK, *self.read, MARK]
         unit.at = self.count
         self.count += 3
         return unit
@@ -132,8 +146,23 @@ def until(path: list[Unit], step: int) -> list[Unit]:
     return kept
 
 
-def units_of(entry: Entry, taken: int) -> list[Unit]:
-    """What a line did that took so many steps."""
+def routine_units(entry: Entry, taken: int, is_faulted: bool) -> list[Unit]:
+    """What GOSUB did: R14 and the place are set, and set as they were where the routine has come back."""
+    number, before = entry.number, dict(REGISTER.findall(entry.before))
+    flags, mode = PSR.findall(entry.before)[0]
+    bits = sum(1 << 31 - place for place, letter in enumerate("NZCVIF") if flags[place] == letter) + MODES.index(mode)
+    units = [Unit(number, f"SET R14 &{bits + 0x3FFFFFC:X}", 0), Unit(number, f"SET PC &{entry.address:X}", 0)]
+    units += [Unit(number, "STEP 1", 1) for _ in range(taken)]
+    if is_faulted:
+        units.append(Unit(number, "STEP 1", 0, is_fault=True))
+    if entry.answer.splitlines()[-1].startswith("returned"):
+        at = int(before["R15"], 16) & 0x3FFFFFC
+        units += [Unit(number, f"SET R14 &{before['R14']}", 0), Unit(number, f"SET PC &{at:X}", 0)]
+    return units
+
+
+def units_of(entry: Entry, taken: int, is_halted: bool) -> list[Unit]:
+    """What a line did that took so many steps, of a machine that a fault had halted or not."""
     number, text = entry.number, entry.text
     if entry.answer.startswith("? line"):
         return []
@@ -143,16 +172,19 @@ def units_of(entry: Entry, taken: int) -> list[Unit]:
         found = re.match(r"REPEAT (\d+) (.*)", text)
         return [Unit(number, found[2] if found else text, 0) for _ in range(int(found[1]) if found else 1)]
     stops = re.findall(r"stop (\w+)", entry.answer)
-    is_faulted = bool(stops) and stops[-1] not in ("Exit", "Budget", "Break")
+    is_faulted = bool(stops) and stops[-1] not in ("Exit", "Budget", "Break", "Watch")
+    if back_scripts.is_routine(text) and (taken or is_faulted) and not is_halted:
+        return routine_units(entry, taken, is_faulted)
     if back_scripts.is_call(text):
-        units = [Unit(number, back_scripts.plain(text), min(taken, 1))] if taken or is_faulted else []
+        first = Unit(number, back_scripts.plain(text), min(taken, 1), is_fault=not taken)
+        units = [first] if taken or is_faulted else []
         rest = taken - 1
         is_faulted = is_faulted and taken > 0
     else:
         # a line that took no step is one that can be undone all the same
         units, rest = [] if taken or is_faulted else [Unit(number, "", 0)], taken
     units += [Unit(number, "STEP 1", 1) for _ in range(rest)]
-    return [*units, Unit(number, "STEP 1", 0)] if is_faulted else units
+    return [*units, Unit(number, "STEP 1", 0, is_fault=True)] if is_faulted else units
 
 
 class Walk:
@@ -180,7 +212,7 @@ class Walk:
         elif text in back_scripts.LOSING:
             # an image that is added where nothing is done, or where all was undone, loses nothing
             is_first = text.startswith("ASM") and len(self.path) == 1
-            if not is_first and (not entry.answer.startswith("refused") or text == "FINISH"):
+            if not is_first and not entry.answer.startswith("refused"):
                 self.is_known = False
         elif text.startswith(("STUB", "UNSTUB")):
             self.has_stub = text.startswith("STUB")
@@ -188,7 +220,7 @@ class Walk:
             return
         elif back_scripts.is_back(text):
             self.go_back(entry, total)
-        elif back_scripts.takes_steps(text) and self.has_stub:
+        elif back_scripts.takes_steps(text) and self.has_stub and self.may_be_stubbed(entry):
             self.is_known = False
         elif back_scripts.takes_steps(text) or back_scripts.is_change(text):
             now = re.fullmatch(r"step (\d+)\n", entry.when)
@@ -196,8 +228,21 @@ class Walk:
             if not now or taken < 0 or taken > 2 * BUDGET:
                 self.wrong.append(f"{text}: WHEN {entry.when!r} behind step {total}")
                 return
-            for unit in units_of(entry, taken):
+            for unit in units_of(entry, taken, self.is_halted):
                 self.add(unit)
+
+    @property
+    def is_halted(self) -> bool:
+        """Whether a fault has halted the machine."""
+        return any(unit.is_fault for unit in self.path)
+
+    def may_be_stubbed(self, entry: Entry) -> bool:
+        """Whether a line took a step, counted or not; of one that is repeated only the last count is known."""
+        if entry.text.startswith("REPEAT"):
+            return entry.when == NO_HISTORY
+        stops = re.findall(r"stop (\w+)", entry.answer)
+        is_faulted = bool(stops) and stops[-1] not in ("Exit", "Budget", "Break", "Watch")
+        return entry.steps > 0 or is_faulted and not self.is_halted
 
     def add(self, unit: Unit) -> None:
         if unit.text:
@@ -223,7 +268,7 @@ class Walk:
 
     def values(self, entry: Entry, what: str, path: list[Unit]) -> list[str]:
         """What was there of a part of the machine, behind each unit."""
-        if what.startswith(("CLAIM", "FREE")):
+        if what.startswith(("CLAIM", "FREE", "CHANGE BLOCK")):
             assert entry.address is not None
             return [unit.block(entry.address) for unit in path]
         if entry.address is not None:
@@ -239,14 +284,19 @@ class Walk:
     def path_shown(self, path: list[Unit]) -> list[Unit]:
         return [unit for unit in path if unit.text]
 
+    def wanted_steps(self, entry: Entry) -> str:
+        """What LAST STEPS has to answer."""
+        traces = [unit.trace for unit in self.path_shown(entry.path) if unit.is_step and unit.trace]
+        return "".join(traces[-int(entry.text.split()[-1]) :]) or NO_HISTORY
+
     def wanted_last(self, entry: Entry) -> str:
         """What LAST CHANGE, CLAIM or FREE has to answer."""
         what = entry.text.removeprefix("LAST ")
         kind, name = what.split()[0], what.split()[-1]
-        if kind == "CHANGE" and entry.address is not None and entry.address & 3 and "BYTE" not in what:
+        if kind == "CHANGE" and entry.address is not None and entry.address & 3 and not re.search("BYTE|BLOCK", what):
             return "? line"
         spelt = f"{spelt_register(name)}=" if entry.address is None else f"[{entry.address:08X}]="
-        spelt = "block " if kind != "CHANGE" else spelt
+        spelt = "block " if kind != "CHANGE" or what.startswith("CHANGE BLOCK") else spelt
         path, found, step = self.path_shown(entry.path), f"no {kind.lower()} since step 0\n", 0
         total = steps_of(path)
         values = self.values(entry, what, path)
@@ -287,7 +337,9 @@ class Walk:
     def differences(self) -> list[str]:
         for entry in self.entries:
             wanted = None
-            if back_scripts.is_question(entry.text):
+            if entry.text.upper().startswith("LAST STEPS"):
+                wanted = self.wanted_steps(entry)
+            elif back_scripts.is_question(entry.text):
                 wanted = self.wanted_last(entry)
             elif back_scripts.is_back(entry.text):
                 wanted = self.wanted_back(entry)

@@ -128,7 +128,7 @@ pub record IsUnderWay (s now : ScriptState) (count left : ℕ) : Type 0 where
 pub way_begins : (s : ScriptState) (count : ℕ) → IsUnderWay s s count count
 way_begins s count = record { beside = beside_itself s; moment = refl }
 
-fresh_gone : (b : Bool) (n k : ℕ) → 0 < n → ((b && (n == 0)) && (k == 0)) ≡ (b && (n == 0))
+pub fresh_gone : (b : Bool) (n k : ℕ) → 0 < n → ((b && (n == 0)) && (k == 0)) ≡ (b && (n == 0))
 fresh_gone b n k some = grind (arith, nat_tests, some)
 
 way_on : (s now next : ScriptState) (count left taken : ℕ) (before after : Option (List ℕ)) (x : Stop) → IsUnderWay s now count left

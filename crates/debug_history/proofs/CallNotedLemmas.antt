@@ -1,5 +1,6 @@
 -- What is kept of calls from outside is what was done.
 use Rattle.std.proofs.Common.{◌≡◌, ◌≢◌, ◌<◌, ◌≤◌, ℕ, Bool, true, false, zero, suc, ◌+◌, ◌-◌, ◌&&◌, ◌==◌, Option, Some, None, Result, Ok, Err, List, [], ◌∷◌, length, refl, sym, ◌∙◌, ap, subst, arith, if◌then◌else◌}
+use Rattle.std.specs.Prelude.{nat_lt}
 use Rattle.std.proofs.lemmas.Bool.Decides.{nat_tests}
 use Rattle.image_loader.specs.Entries.{Entry}
 use Rattle.profile.specs.declared.stop.Stop.{Stop}
@@ -25,7 +26,7 @@ use Rattle.command_shell.proofs.CallLemmas.{can_step}
 use Rattle.debug_history.proofs.NotedLemmas.{LedTo, deed_noted, fault_halts, led_by, led_more, led_nowhere, led_on, nothing_noted, steps_noted}
 
 -- what the rest of a call leaves
-record IsCalled (s final : ScriptState) : Type 0 where
+pub record IsCalled (s final : ScriptState) : Type 0 where
   pub images : final.images ≡ s.images
   pub sizes : final.sizes ≡ s.sizes
   pub fresh : final.is_fresh ≡ s.is_fresh
@@ -33,10 +34,10 @@ record IsCalled (s final : ScriptState) : Type 0 where
   pub led : LedTo s.images s.machine (s.left - final.left) final.machine
 
 -- it ends here
-none_taken : (n : ℕ) → 0 ≡ n - n
+pub none_taken : (n : ℕ) → 0 ≡ n - n
 none_taken n = omega arith
 
-called_end : (s : ScriptState) (e : CallEnd) → IsCalled s (end_answer s e).state
+pub called_end : (s : ScriptState) (e : CallEnd) → IsCalled s (end_answer s e).state
 called_end s end.Returned = record {
   images = refl;
   sizes = refl;
@@ -61,7 +62,7 @@ step_count None = omega arith
 step_count (Some halt.Exit) = omega arith
 step_count (Some (halt.Fault f)) = omega arith
 
-called_on : (s final : ScriptState) (o : Option Halt) → s.is_fresh ≡ false → 0 < s.left
+pub called_on : (s final : ScriptState) (o : Option Halt) → s.is_fresh ≡ false → 0 < s.left
     → (machine_step s.images s.machine).now.halt ≡ o → IsCalled (step_made s (machine_step s.images s.machine)) final
     → ((h : Halt) → o ≡ Some h → final ≡ script_with_last (step_made s (machine_step s.images s.machine)) (stop_of h))
     → IsCalled s final
@@ -139,9 +140,9 @@ pub record IsCallOf (s : ScriptState) (a : StepOutcome) (call : Bool → PastDee
   pub halted : (h : Halt) → s.machine.halt ≡ Some h → a.now ≡ s.machine
 
 -- no step could be taken
-refused_by : (s : ScriptState) (p : PastState) (line : ℕ) (a : StepOutcome) (call : Bool → PastDeed) (x : Stop) (b : Bool)
+pub refused_by : (s : ScriptState) (p : PastState) (line : ℕ) (a : StepOutcome) (call : Bool → PastDeed) (x : Stop) (b : Bool)
     → is_faulted s.machine.halt ≡ b → (s.is_fresh ≡ true → s.machine.halt ≡ None) → IsPastOf s p → IsCallOf s a call
-    → IsPastOf (script_with_last s x) (past_with_call p line call 0 b)
+    → IsPastOf (script_with_last s x) (past_with_call p line (call false) 0 b)
 refused_by s p line a call x false is up was made = nothing_noted s (script_with_last s x) p refl refl refl was
 refused_by s p line a call x true is up was made =
     let f = fault_halts s.machine.halt is in
@@ -169,41 +170,51 @@ counted_call s final p line a call was made is =
     steps_noted t final (past_with_deed p line (call true)) line (t.left - final.left) is.images is.sizes
     (deed_noted s t p line (call true) refl refl was (sym (made.deed true))) is.led (λ e. fresh) (λ e. fresh)
 
-done_by : (s final : ScriptState) (p : PastState) (line : ℕ) (a : StepOutcome) (call : Bool → PastDeed) (o : Option Halt) → a.now.halt ≡ o
+-- a call of which some steps were counted
+some_more : (k : ℕ) → true ≡ nat_lt 0 (suc k)
+some_more k = grind (arith, nat_tests)
+
+counted_noted : (final : ScriptState) (p : PastState) (line k : ℕ) (call : Bool → PastDeed) (b : Bool)
+    → IsPastOf final (past_with_steps (past_with_deed p line (call true)) line k b)
+    → IsPastOf final (past_with_call p line (call (nat_lt 0 (suc k))) (suc k) b)
+counted_noted final p line k call b is =
+    subst (λ (c : Bool). IsPastOf final (past_with_call p line (call c) (suc k) b)) (some_more k) is
+
+pub done_by : (s final : ScriptState) (p : PastState) (line : ℕ) (a : StepOutcome) (call : Bool → PastDeed) (o : Option Halt) → a.now.halt ≡ o
     → 0 < s.left → IsPastOf s p → IsCallOf s a call → IsCalled (step_made s a) final
     → ((h : Halt) → o ≡ Some h → final ≡ script_with_last (step_made s a) (stop_of h))
-    → IsPastOf final (past_with_call p line call (s.left - final.left) (is_faulted final.machine.halt))
+    → IsPastOf final (past_with_call p line (call (nat_lt 0 (s.left - final.left))) (s.left - final.left) (is_faulted final.machine.halt))
 done_by s final p line a call (Some (halt.Fault f)) is some was made called ends =
     let e = ends (halt.Fault f) refl in
     let left : final.left ≡ s.left - 0 = ap (λ (t : ScriptState). t.left) e ∙ ap (λ (o : Option Halt). s.left - count_after o) is in
     let count : 0 ≡ s.left - final.left = omega (arith, left) in
     let faulted : true ≡ is_faulted final.machine.halt = sym (ap (λ (t : ScriptState). is_faulted t.machine.halt) e ∙ ap is_faulted is) in
-    subst (λ (n : ℕ). IsPastOf final (past_with_call p line call n (is_faulted final.machine.halt))) count
-    (subst (λ (b : Bool). IsPastOf final (past_with_call p line call 0 b)) faulted
+    subst (λ (n : ℕ). IsPastOf final (past_with_call p line (call (nat_lt 0 n)) n (is_faulted final.machine.halt))) count
+    (subst (λ (b : Bool). IsPastOf final (past_with_call p line (call false) 0 b)) faulted
     (faulted_call s final p line a call (stop_of (halt.Fault f)) e was made))
 done_by s final p line a call (Some halt.Exit) is some was made called ends =
     let t : ScriptState = step_made s a in
     let left : t.left ≡ s.left - 1 = ap (λ (o : Option Halt). s.left - count_after o) is in
     let less = called.less in
     let count : suc (t.left - final.left) ≡ s.left - final.left = omega (arith, left, less, some) in
-    subst (λ (n : ℕ). IsPastOf final (past_with_call p line call n (is_faulted final.machine.halt))) count
-    (counted_call s final p line a call was made called)
+    subst (λ (n : ℕ). IsPastOf final (past_with_call p line (call (nat_lt 0 n)) n (is_faulted final.machine.halt))) count
+    (counted_noted final p line (t.left - final.left) call (is_faulted final.machine.halt) (counted_call s final p line a call was made called))
 done_by s final p line a call None is some was made called ends =
     let t : ScriptState = step_made s a in
     let left : t.left ≡ s.left - 1 = ap (λ (o : Option Halt). s.left - count_after o) is in
     let less = called.less in
     let count : suc (t.left - final.left) ≡ s.left - final.left = omega (arith, left, less, some) in
-    subst (λ (n : ℕ). IsPastOf final (past_with_call p line call n (is_faulted final.machine.halt))) count
-    (counted_call s final p line a call was made called)
+    subst (λ (n : ℕ). IsPastOf final (past_with_call p line (call (nat_lt 0 n)) n (is_faulted final.machine.halt))) count
+    (counted_noted final p line (t.left - final.left) call (is_faulted final.machine.halt) (counted_call s final p line a call was made called))
 
 made_by : (s : ScriptState) (p : PastState) (line : ℕ) (a : StepOutcome) (call : Bool → PastDeed) (o : Option Stop) → stop_before_step s ≡ o
     → (s.is_fresh ≡ true → s.machine.halt ≡ None) → IsPastOf s p → IsCallOf s a call
     → (let now = (call_made s a).state in
-    IsPastOf now (past_with_call p line call (s.left - now.left) (is_faulted now.machine.halt)))
+    IsPastOf now (past_with_call p line (call (nat_lt 0 (s.left - now.left))) (s.left - now.left) (is_faulted now.machine.halt)))
 made_by s p line a call (Some x) is up was made =
-    let noted = subst (λ (n : ℕ). IsPastOf (script_with_last s x) (past_with_call p line call n (is_faulted s.machine.halt)))
+    let noted = subst (λ (n : ℕ). IsPastOf (script_with_last s x) (past_with_call p line (call (nat_lt 0 n)) n (is_faulted s.machine.halt)))
     (none_taken s.left) (refused_by s p line a call x (is_faulted s.machine.halt) refl up was made) in
-    subst (λ (t : ScriptState). IsPastOf t (past_with_call p line call (s.left - t.left) (is_faulted t.machine.halt)))
+    subst (λ (t : ScriptState). IsPastOf t (past_with_call p line (call (nat_lt 0 (s.left - t.left))) (s.left - t.left) (is_faulted t.machine.halt)))
     (sym (ap (λ t. t.state) (call_refused s a x is))) noted
 made_by s p line a call None is up was made =
     let t : ScriptState = step_made s a in
@@ -211,11 +222,11 @@ made_by s p line a call None is up was made =
     let final : ScriptState = (answer_after_steps frames t.left t).state in
     let noted = done_by s final p line a call a.now.halt refl (can_step s.machine.halt s.left is) was made
     (after_called frames t.left t refl) (λ h e. halted_final frames t.left t h e) in
-    subst (λ (u : ScriptState). IsPastOf u (past_with_call p line call (s.left - u.left) (is_faulted u.machine.halt)))
+    subst (λ (u : ScriptState). IsPastOf u (past_with_call p line (call (nat_lt 0 (s.left - u.left))) (s.left - u.left) (is_faulted u.machine.halt)))
     (sym (ap (λ t. t.state) (call_allowed s a is))) noted
 
 pub call_noted : (s : ScriptState) (p : PastState) (line : ℕ) (a : StepOutcome) (call : Bool → PastDeed)
     → (s.is_fresh ≡ true → s.machine.halt ≡ None) → IsPastOf s p → IsCallOf s a call
     → (let now = (call_made s a).state in
-    IsPastOf now (past_with_call p line call (s.left - now.left) (is_faulted now.machine.halt)))
+    IsPastOf now (past_with_call p line (call (nat_lt 0 (s.left - now.left))) (s.left - now.left) (is_faulted now.machine.halt)))
 call_noted s p line a call up was made = made_by s p line a call (stop_before_step s) refl up was made

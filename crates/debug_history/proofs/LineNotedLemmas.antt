@@ -48,10 +48,10 @@ loaded_halted : (images : List Entry) (s : MachineState) (text : List ℕ) (h : 
 unfolding module_loaded
 loaded_halted images s text h e = rw e refl
 
-is_call : (s : ScriptState) (number : ℕ) → IsCallOf s (store_called s.images s.machine number) (deed.Call number)
+pub is_call : (s : ScriptState) (number : ℕ) → IsCallOf s (store_called s.images s.machine number) (deed.Call number)
 is_call s number = record { deed = λ b. refl; halted = λ h e. called_halted s.images s.machine number h e }
 
-is_load : (s : ScriptState) (text : List ℕ) → IsCallOf s (module_loaded s.images s.machine text) (deed.Load text)
+pub is_load : (s : ScriptState) (text : List ℕ) → IsCallOf s (module_loaded s.images s.machine text) (deed.Load text)
 is_load s text = record { deed = λ b. refl; halted = λ h e. loaded_halted s.images s.machine text h e }
 
 -- lines that only look
@@ -240,7 +240,7 @@ boot_noted s p line name (Some program) there was =
     boot_noted_by s p line name program (machine_after_boot s.sizes s.is_fresh s.machine program) there refl was
 
 -- EACH LINE
-most_left : (count left : ℕ) → min count left ≤ left
+pub most_left : (count left : ℕ) → min count left ≤ left
 most_left count left = omega arith
 
 all_left : (left : ℕ) → left ≤ left

@@ -1,6 +1,7 @@
 -- What is kept of lines is what was done.
 use Rattle.std.proofs.Common.{◌≡◌, ◌≢◌, ◌<◌, ◌≤◌, ℕ, Bool, true, false, zero, suc, ◌+◌, ◌-◌, ◌^◌, ◌&&◌, ◌==◌, Option, Some, None, Result, Ok, Err, List, [], ◌∷◌, ◌++◌, length, refl, sym, ◌∙◌, ap, subst, arith, if◌then◌else◌}
-use Rattle.std.specs.Prelude.{min, nat_lt}
+use Rattle.std.specs.Prelude.{is_some, min, nat_lt}
+use Rattle.std.specs.Option.{option_map}
 use Rattle.std.proofs.lemmas.Bool.Decides.{nat_tests}
 use Rattle.image_loader.specs.Entries.{Entry}
 use Rattle.profile.specs.Sizes.{Sizes}
@@ -23,6 +24,11 @@ use Rattle.debug_history.specs.declared.act.PastDeed.{PastDeed}
 use Rattle.debug_history.specs.declared.act.PastDeed.TheVariants as deed
 use Rattle.debug_history.proofs.ActLemmas.{acts_joined}
 use Rattle.debug_history.proofs.StepLemmas.{never_none, step_halted, steps_halted}
+
+-- a machine is halted where it has a stop
+pub some_stop : (o : Option Halt) → is_some (option_map stop_of o) ≡ is_some o
+some_stop None = refl
+some_stop (Some h) = refl
 
 -- ONE DEED MORE
 

@@ -229,8 +229,11 @@ unit_count line (deed.Call number b) = steps_of_one (record { line = line; deed 
 unit_count line (deed.Load text b) = steps_of_one (record { line = line; deed = deed.Load text b })
 unit_count line (deed.Register number value) = steps_of_one (record { line = line; deed = deed.Register number value })
 unit_count line (deed.Word address value) = steps_of_one (record { line = line; deed = deed.Word address value })
+unit_count line (deed.Banked mode number value) = steps_of_one (record { line = line; deed = deed.Banked mode number value })
 unit_count line (deed.Place address) = steps_of_one (record { line = line; deed = deed.Place address })
+unit_count line (deed.Routine address link) = steps_of_one (record { line = line; deed = deed.Routine address link })
 unit_count line (deed.Status status) = steps_of_one (record { line = line; deed = deed.Status status })
+unit_count line deed.Woken = steps_of_one (record { line = line; deed = deed.Woken })
 
 pub units_count : (acts : List Act) → steps_of_acts (units acts) ≡ steps_of_acts acts
 unfolding steps_of_acts
@@ -289,8 +292,11 @@ units_other line (deed.Call number b) other = refl
 units_other line (deed.Load text b) other = refl
 units_other line (deed.Register number value) other = refl
 units_other line (deed.Word address value) other = refl
+units_other line (deed.Banked mode number value) other = refl
 units_other line (deed.Place address) other = refl
+units_other line (deed.Routine address link) other = refl
 units_other line (deed.Status status) other = refl
+units_other line deed.Woken other = refl
 
 pub deed_scanned : (x : Sought) (s now : ScriptState) (u : Act) (scan next : Scan) (steps : ℕ) (machine : MachineState)
     → scan.seen ≡ value_in x s.machine

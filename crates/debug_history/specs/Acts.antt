@@ -1,5 +1,5 @@
 -- What is done to a machine: steps, calls, and changes from outside.
-use Rattle.std.specs.Prelude.{ℕ, Bool, true, false, ◌&&◌, ◌+◌, ◌==◌, List, [], ◌∷◌, Option, Some, None, Result, Ok, Err, if◌then◌else◌}
+use Rattle.std.specs.Prelude.{ℕ, zero, Bool, true, false, ◌&&◌, ◌+◌, ◌-◌, ◌==◌, nat_lt, List, [], ◌∷◌, Option, Some, None, Result, Ok, Err, if◌then◌else◌}
 use Rattle.image_loader.specs.Entries.{Entry, bytes_of_image}
 use Rattle.profile.specs.Sizes.{Sizes}
 use Rattle.profile.specs.declared.fault.Fault.{Fault}
@@ -7,12 +7,15 @@ use Rattle.swi_dispatch.specs.Boot.{machine_after_boot}
 use Rattle.swi_dispatch.specs.declared.boot_error.BootError.{BootError}
 use Rattle.swi_dispatch_guest.specs.MachineState.{MachineState, machine_start}
 use Rattle.swi_dispatch_guest.specs.Step.{machine_step, module_loaded, store_called}
-use Rattle.swi_dispatch_guest.specs.Writes.{machine_after_poke, machine_at, machine_with_register, machine_with_status}
+use Rattle.swi_dispatch_guest.specs.Writes.{machine_after_poke, machine_at, machine_unhalted, machine_with_bank_register, machine_with_register, machine_with_status}
 use Rattle.command_shell.specs.State.{ScriptState}
+use Rattle.debug_lines.specs.SteppingRequests.{SteppingRequest, Run, stepping_request_of}
+use Rattle.debug_lines.specs.SteppingRequests as asked
+use Rattle.debug_lines.specs.declared.stepping.SteppingCommand.{SteppingCommand}
 use Rattle.debug_history.specs.Steps.{steps_after}
 use Rattle.debug_history.specs.declared.act.Act.{Act}
 use Rattle.debug_history.specs.declared.act.PastDeed.{PastDeed}
-use Rattle.debug_history.specs.declared.act.PastDeed.TheVariants.{Steps, FaultingStep, Boot, Call, Load, Register, Word, Place, Status}
+use Rattle.debug_history.specs.declared.act.PastDeed.TheVariants.{Steps, FaultingStep, Boot, Call, Load, Register, Word, Banked, Place, Routine, Status, Woken}
 
 -- a machine, and whether it still stands as it was made
 pub record PastMoment : Type 0 where
@@ -63,8 +66,13 @@ moment_after_deed images sizes (Register number value) m =
     changed_moment (machine_with_register m.machine number value)
 moment_after_deed images sizes (Word address value) m =
     moment_after_word m (machine_after_poke m.machine address value)
+moment_after_deed images sizes (Banked mode number value) m =
+    changed_moment (machine_with_bank_register m.machine mode number value)
 moment_after_deed images sizes (Place address) m = changed_moment (machine_at m.machine address)
+moment_after_deed images sizes (Routine address link) m =
+    changed_moment (machine_at (machine_with_register m.machine 14 link) address)
 moment_after_deed images sizes (Status status) m = changed_moment (machine_with_status m.machine status)
+moment_after_deed images sizes Woken m = changed_moment (machine_unhalted m.machine)
 
 -- one act after another
 unfoldable pub moment_after_acts : List Entry → Sizes → List Act → PastMoment → PastMoment
@@ -90,3 +98,15 @@ steps_of_acts (act ∷ rest) = steps_of_deed act.deed + steps_of_acts rest
 -- so many steps, by a line
 abbrev pub steps_act : ℕ → ℕ → Act
 steps_act line count = record { line = line; deed = Steps count }
+
+-- the line that takes the steps of a deed behind so many, and how many those are; a step that isn't counted
+-- comes behind none
+abbrev pub steps_behind : ℕ → PastDeed → Option (SteppingRequest × ℕ)
+steps_behind skipped (Steps count) = if nat_lt skipped count then Some (Run, count - skipped) else None
+steps_behind zero FaultingStep = Some (Run, 1)
+steps_behind zero (Call number is_counted) = Some (asked.Call number, 1)
+steps_behind zero (Load text is_counted) = Some (asked.Load text, 1)
+steps_behind skipped deed = None
+
+abbrev pub taken_steps : (SteppingCommand × ℕ) → SteppingRequest × ℕ
+taken_steps taken = (stepping_request_of taken.0, taken.1)

@@ -1,4 +1,8 @@
 -- The past of a machine: what was done to it, and how it stood. Begin with Past.
+pub use Rattle.command_shell.specs.Calls as ShellCalls
+pub use Rattle.command_shell.specs.declared.calls.CallEnd
+pub use Rattle.swi_dispatch_guest.specs.Run as MachineRun
+pub use Rattle.swi_dispatch_guest.specs.Step as MachineSteps
 pub use Rattle.swi_dispatch_guest.specs.declared.halt.Halt
 pub mod Acts
 pub mod Again

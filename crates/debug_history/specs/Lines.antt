@@ -1,5 +1,5 @@
 -- The lines of a debugging script that go back, or look into the past.
-use Rattle.std.specs.Prelude.{ℕ, ◌&&◌, ◌^◌, ◌-◌, ◌∷◌, List, [], codes, Option, Some, None, if◌then◌else◌}
+use Rattle.std.specs.Prelude.{ℕ, ◌&&◌, ◌^◌, ◌-◌, ◌∷◌, drop, take, List, [], codes, Option, Some, None, if◌then◌else◌}
 use Rattle.std.specs.Option.{option_map}
 use Rattle.arm_core.specs.declared.psr.Mode.{Mode}
 use Rattle.command_shell_lines.specs.Numbers.{script_number}
@@ -56,12 +56,13 @@ past_line_of_three mode word second third =
     if is_same_word word (codes "LAST") then option_map Last (sought_by mode second third) else
     None))
 
--- `WORD a`, `BYTE a`
+-- `WORD a`, `BYTE a`, `BLOCK a`
 abbrev pub sought_sized : List ℕ → List ℕ → Option Sought
 sought_sized size address =
     if is_same_word size (codes "WORD") then option_map sought.Word (word_address address) else (
-    if is_same_word size (codes "BYTE") then option_map sought.Byte (script_number address) else
-    None)
+    if is_same_word size (codes "BYTE") then option_map sought.Byte (script_number address) else (
+    if is_same_word size (codes "BLOCK") then option_map sought.Block (script_number address) else
+    None))
 
 abbrev pub past_line_of_four : List ℕ → List ℕ → List ℕ → List ℕ → Option PastCommand
 past_line_of_four word second third fourth =
@@ -78,3 +79,8 @@ past_line_of mode _ = None
 -- what a tidy line asks for, where the machine is in a mode
 abbrev pub past_line : Mode → List ℕ → Option PastCommand
 past_line mode line = past_line_of mode (words line)
+
+-- how many steps a line asks for that shows the last ones: `LAST STEPS n`
+abbrev pub last_steps_asked : List ℕ → Option ℕ
+last_steps_asked line = if is_same_word (take 11 line) (codes "LAST STEPS ") then count_up_to 1000 (drop 11 line)
+    else None

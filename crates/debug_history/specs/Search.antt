@@ -47,6 +47,7 @@ value_in (sought.Register mode number) s = Some (register_in mode s.cpu number)
 value_in sought.Status s = Some (psr_bits s.cpu.psr)
 value_in (sought.Banked mode number) s = Some (register_in mode s.cpu number)
 value_in (sought.Stood address) s = Some s.cpu.pc
+value_in (sought.Block address) s = block_round s.store address
 value_in (sought.Claimed address) s = block_round s.store address
 value_in (sought.Freed address) s = block_round s.store address
 

@@ -38,6 +38,7 @@ undone_text line steps =
 abbrev pub value_text : Sought → Option ℕ → List ℕ
 value_text (sought.Byte address) (Some value) = drop 6 (hex_word value)
 value_text (sought.Byte address) None = codes "--"
+value_text (sought.Block address) None = codes "none"
 value_text (sought.Claimed address) None = codes "none"
 value_text (sought.Freed address) None = codes "none"
 value_text x (Some value) = hex_word value
@@ -58,6 +59,7 @@ looked_text (sought.Register mode number) = codes "R" ++ (decimal number ++ code
 looked_text (sought.Banked mode number) = codes "R" ++ (decimal number ++ bank_text mode)
 looked_text sought.Status = codes "FLAGS="
 looked_text (sought.Stood address) = codes "PC="
+looked_text (sought.Block address) = codes "block "
 looked_text (sought.Claimed address) = codes "block "
 looked_text (sought.Freed address) = codes "block "
 

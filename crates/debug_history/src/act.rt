@@ -1,10 +1,11 @@
 //! What is done to a machine.
 
-ghost use Rattle.std.specs.Prelude.{◌≡◌, IfOk};
-ghost use Rattle.debug_history.specs.Acts.{steps_of_deed};
+ghost use Rattle.std.specs.Prelude.{◌≡◌, ◌<◌, ◌%◌, ◌^◌, IfOk, option_map};
+ghost use Rattle.debug_history.specs.Acts.{steps_behind, steps_of_deed, taken_steps};
 
-use arm_core::Psr;
+use arm_core::{Mode, Psr};
 use command_shell_lines::{Origin, RegisterNumber, WordAddress};
+use debug_lines::SteppingCommand;
 use std::alloc::{AllocError, Global};
 use std::marker::Model;
 
@@ -42,6 +43,43 @@ impl KeptText {
     }
 }
 
+/// An address at which an instruction may stand: a multiple of 4 below 2^26.
+#[derive(Clone, Copy, Debug)]
+pub struct CodeAddress {
+    address: u32,
+}
+
+impl Model for CodeAddress {
+    ghost use Rattle.std.specs.Prelude.{◌≡◌, ◌<◌, ◌%◌, ◌^◌, ℕ};
+
+    ghost Value = { ℕ };
+
+    ghost view = { λ c. c.address };
+
+    ghost invariant = { λ c. (c.address % 4 ≡ 0) × (c.address < 2 ^ 26) };
+
+    ghost inverse = { λ n. record { address = n } };
+}
+
+impl CodeAddress {
+    /// The address of that number.
+    pub fn new(address: u32) -> CodeAddress
+        requires aligned { address % 4 ≡ 0 }
+        requires inside { address < 2 ^ 26 }
+        ensures { result ≡ address }
+    {
+        CodeAddress { address }
+    }
+
+    pub(crate) fn number(self) -> u32
+        ensures value { result ≡ self }
+        ensures aligned { result % 4 ≡ 0 }
+        ensures inside { result < 2 ^ 26 }
+    {
+        self.address
+    }
+}
+
 /// What is done to a machine, by itself or from outside.
 #[derive(Drop)]
 pub enum PastDeed {
@@ -59,10 +97,16 @@ pub enum PastDeed {
     Register(RegisterNumber, u32),
     /// A word is stored as a guest's store would, if it can be.
     Word(WordAddress, u32),
+    /// One of R0 to R14 of a mode is set, whatever the present one.
+    Banked(Mode, RegisterNumber, u32),
     /// The program counter is set.
-    Place(Origin),
+    Place(CodeAddress),
+    /// A routine is called: R14 of the present mode is set, and the program counter.
+    Routine(Origin, u32),
     /// The status is set.
     Status(Psr),
+    /// A machine that is halted can take steps again.
+    Woken,
 }
 
 /// What a line of a script did, by the line's number.
@@ -76,13 +120,30 @@ pub struct Act {
 
 impl PastDeed {
     /// How many steps it counts.
-    pub(crate) fn steps(&self) -> u64
+    pub fn steps(&self) -> u64
         ensures { result ≡ steps_of_deed self.now }
     {
         match self {
             PastDeed::Steps(count) => *count,
             PastDeed::Call(_, is_counted) | PastDeed::Load(_, is_counted) => u64::from(*is_counted),
             _ => 0,
+        }
+    }
+
+    /// The line that takes its steps behind so many, and how many those are, if there are any.
+    pub fn steps_behind(&self, skipped: u64) -> Option<(SteppingCommand<'_>, u64)>
+        ensures { option_map taken_steps result ≡ steps_behind skipped self.now }
+    {
+        match self {
+            PastDeed::Steps(count) if *count > skipped => {
+                Some((SteppingCommand::Run, *count - skipped))
+            }
+            PastDeed::FaultingStep if skipped == 0 => Some((SteppingCommand::Run, 1)),
+            PastDeed::Call(number, _) if skipped == 0 => Some((SteppingCommand::Call(*number), 1)),
+            PastDeed::Load(text, _) if skipped == 0 => {
+                Some((SteppingCommand::Load(text.bytes()), 1))
+            }
+            _ => None,
         }
     }
 }

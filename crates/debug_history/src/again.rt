@@ -59,7 +59,11 @@ fn call_again(session: &mut Session, images: &Images, call: OutsideCall) -> Resu
 }
 
 /// Does one thing again.
-pub(crate) fn deed_again(
+///
+/// # Errors
+///
+/// `Memory` where a program can't be booted for lack of it.
+pub fn deed_again(
     session: &mut Session,
     images: &mut Images,
     deed: &PastDeed,
@@ -87,11 +91,20 @@ pub(crate) fn deed_again(
             let at = address.address();
             let _ = session.store_word(at, *value);
         }
+        PastDeed::Banked(mode, register, value) => {
+            let number = register.number();
+            session.set_register_in(*mode, number, *value);
+        }
         PastDeed::Place(address) => {
-            let pc = address.address();
+            let pc = address.number();
             session.set_pc(pc);
         }
+        PastDeed::Routine(address, link) => {
+            session.set_register(14, *link);
+            session.set_pc(address.address());
+        }
         PastDeed::Status(status) => session.set_psr(*status),
+        PastDeed::Woken => session.wake(),
     }
     Ok(())
 }

@@ -129,11 +129,9 @@ impl Past {
         labels: &LabelTable,
         step: u64,
     ) -> Result<Vec<u8>, RunError>
-        ensures script { let a = past_gone_back labels.now setting.config setting.budget
-            (script_state session.old images.old) self.old step in
-            OnOk result (script_state session.new images.new ≡ a.script) }
-        ensures past { let a = past_gone_back labels.now setting.config setting.budget
-            (script_state session.old images.old) self.old step in OnOk result (self.new ≡ a.past) }
+        ensures state { let a = past_gone_back labels.now setting.config setting.budget
+            (script_state session.old images.old) self.old step in OnOk result
+            ((script_state session.new images.new ≡ a.script) × (self.new ≡ a.past)) }
         ensures text { let a = past_gone_back labels.now setting.config setting.budget
             (script_state session.old images.old) self.old step in
             IfOk result (λ text. text.items ≡ a.text) }
@@ -154,13 +152,10 @@ impl Past {
         labels: &LabelTable,
         address: u32,
     ) -> Result<Vec<u8>, RunError>
-        ensures script { let s = script_state session.old images.old in
+        ensures state { let s = script_state session.old images.old in
             let a = back_until labels.now setting.config setting.budget s self.old
-            (last_in_past setting.config s self.old (Stood address)) in
-            OnOk result (script_state session.new images.new ≡ a.script) }
-        ensures past { let s = script_state session.old images.old in
-            let a = back_until labels.now setting.config setting.budget s self.old
-            (last_in_past setting.config s self.old (Stood address)) in OnOk result (self.new ≡ a.past) }
+            (last_in_past setting.config s self.old (Stood address)) in OnOk result
+            ((script_state session.new images.new ≡ a.script) × (self.new ≡ a.past)) }
         ensures text { let s = script_state session.old images.old in
             let a = back_until labels.now setting.config setting.budget s self.old
             (last_in_past setting.config s self.old (Stood address)) in
@@ -185,12 +180,9 @@ impl Past {
         session: &mut Session,
         images: &mut Images,
     ) -> Result<Vec<u8>, RunError>
-        ensures script { let a = undone setting.config setting.budget
-            (script_state session.old images.old) self.old (line_of_last_act self.old.acts) in
-            OnOk result (script_state session.new images.new ≡ a.script) }
-        ensures past { let a = undone setting.config setting.budget
-            (script_state session.old images.old) self.old (line_of_last_act self.old.acts) in
-            OnOk result (self.new ≡ a.past) }
+        ensures state { let a = undone setting.config setting.budget
+            (script_state session.old images.old) self.old (line_of_last_act self.old.acts) in OnOk result
+            ((script_state session.new images.new ≡ a.script) × (self.new ≡ a.past)) }
         ensures text { let a = undone setting.config setting.budget
             (script_state session.old images.old) self.old (line_of_last_act self.old.acts) in
             IfOk result (λ text. text.items ≡ a.text) }

@@ -17,10 +17,11 @@ mod scan;
 mod search;
 mod texts;
 
-pub use act::{Act, KeptText, PastDeed};
+pub use act::{Act, CodeAddress, KeptText, PastDeed};
+pub use again::deed_again;
 pub use answering::PastSetting;
 pub use line_kinds::{asks_nothing, is_named_image, is_refused_block, takes_steps};
-pub use lines::{PastCommand, past_line};
-pub use noting::is_faulted;
+pub use lines::{PastCommand, last_steps_asked, past_line};
+pub use noting::{SteppingNote, StepsBefore, has_returned, is_faulted};
 pub use past::Past;
 pub use search::{PastFound, Sought};

@@ -2,7 +2,7 @@
 
 ghost use Rattle.std.specs.Prelude.{◌≡◌, ◌∷◌};
 ghost use Rattle.command_shell_lines.specs.Requests.{words};
-ghost use Rattle.debug_history.specs.Lines.{past_line, past_line_of, past_line_of_four, past_line_of_three, past_line_of_two, past_line_of_word, sought_by, sought_in, sought_named, sought_place, sought_sized};
+ghost use Rattle.debug_history.specs.Lines.{past_line, past_line_of, past_line_of_four, past_line_of_three, past_line_of_two, past_line_of_word, sought_by, sought_in, sought_named, sought_place, sought_sized, last_steps_asked};
 
 use crate::search::Sought;
 use arm_core::Mode;
@@ -178,7 +178,21 @@ fn sized(size: &[u8], address: &[u8]) -> Option<Sought>
         WordAddress::spelled(address).map(Sought::Word)
     } else if size.eq_ignore_ascii_case(b"BYTE") {
         number_of(address).map(Sought::Byte)
+    } else if size.eq_ignore_ascii_case(b"BLOCK") {
+        number_of(address).map(Sought::Block)
     } else {
         None
+    }
+}
+
+/// How many steps a tidy line asks for that shows the last ones: `LAST STEPS n`, 1 to 1000.
+pub fn last_steps_asked(line: &[u8]) -> Option<u32>
+    ensures { result ≡ last_steps_asked line.now }
+{
+    match (line.get(..11), line.get(11..)) {
+        (Some(words), Some(count)) if words.eq_ignore_ascii_case(b"LAST STEPS ") => {
+            count_up_to(1000, count)
+        }
+        _ => None,
     }
 }

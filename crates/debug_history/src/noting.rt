@@ -4,17 +4,65 @@ ghost use Rattle.std.specs.Prelude.{◌≡◌, List, OnOk};
 ghost use Rattle.command_shell.specs.Session.{script_state};
 ghost use Rattle.command_shell_lines.specs.Requests.{request_of_command};
 ghost use Rattle.debug_lines.specs.SteppingRequests.{stepping_request_of};
-ghost use Rattle.debug_history.specs.Noted.{is_faulted, past_after_request, past_after_stepping, past_with_call, past_with_deed, past_with_steps};
-ghost use Rattle.debug_history.specs.declared.act.PastDeed.TheVariants as deed;
+ghost use Rattle.debug_history.specs.Noted.{has_returned, is_faulted, past_after_request, past_after_stepping, past_with_call, past_with_deed, past_with_gosub, past_with_steps, steps_before};
 ghost use Rattle.image_loader.specs.Entries.{Entry};
 
-use crate::act::{Act, KeptText, PastDeed};
+use crate::act::{Act, CodeAddress, KeptText, PastDeed};
 use crate::past::Past;
+use arm_core::Psr;
 use command_shell::Session;
-use command_shell_lines::ScriptCommand;
+use command_shell_lines::{Origin, RegisterNumber, ScriptCommand};
 use debug_lines::SteppingCommand;
 use profile::Stop;
+use profile::memory_map::ADDRESS_LIMIT;
 use std::alloc::{AllocError, Global};
+
+/// Where a routine goes back to that a line calls.
+const ROUTINE_RETURN: u32 = ADDRESS_LIMIT - 4;
+
+/// How a machine stands before a line that takes steps.
+#[derive(Clone, Copy, Debug)]
+pub struct StepsBefore {
+    /// Whether it is halted.
+    pub is_halted: bool,
+    /// Its status.
+    pub status: Psr,
+    /// R14 of its mode.
+    pub link: u32,
+    /// Its program counter.
+    pub place: CodeAddress,
+}
+
+impl StepsBefore {
+    /// How the session's machine stands.
+    pub fn of(session: &Session) -> StepsBefore
+        ensures { (images : List Entry) → result ≡ steps_before (script_state session.now images).machine }
+    {
+        let machine = session.machine();
+        let cpu = machine.cpu();
+        StepsBefore {
+            is_halted: machine.stop().is_some(),
+            status: cpu.psr(),
+            link: cpu.register(14),
+            place: CodeAddress::new(cpu.pc()),
+        }
+    }
+}
+
+/// What is known of a line that took steps in modes.
+#[derive(Clone, Copy, Debug)]
+pub struct SteppingNote {
+    /// How the machine stood before it.
+    pub before: StepsBefore,
+    /// Whether stubs answered SWIs.
+    pub is_stubbed: bool,
+    /// How many steps were counted.
+    pub taken: u64,
+    /// Whether the machine is halted by a fault after it.
+    pub has_faulted: bool,
+    /// Whether a routine that it called has come back.
+    pub has_returned: bool,
+}
 
 impl Past {
     /// A line of a script was answered, by which so many steps were counted, and after which the machine is
@@ -44,8 +92,14 @@ impl Past {
             ScriptCommand::Run | ScriptCommand::Step(_) => {
                 self.put_steps(line, taken, has_faulted)
             }
-            ScriptCommand::Call(number) => self.put_call(line, number, taken, has_faulted),
-            ScriptCommand::Load(text) => { self.put_load(alloc, line, text, taken, has_faulted) }
+            ScriptCommand::Call(number) => {
+                let call = PastDeed::Call(number, taken > 0);
+                self.put_call(line, call, taken, has_faulted)
+            }
+            ScriptCommand::Load(text) => {
+                let call = PastDeed::Load(KeptText::of(alloc, text)?, taken > 0);
+                self.put_call(line, call, taken, has_faulted)
+            }
             ScriptCommand::Hex(_) | ScriptCommand::Asm(_, _) => {
                 self.change_images();
                 Ok(())
@@ -54,8 +108,7 @@ impl Past {
         }
     }
 
-    /// A line took steps in modes, plain or not, of which so many were counted, and after which the machine
-    /// is halted by a fault or not.
+    /// A line took steps in modes.
     ///
     /// # Errors
     ///
@@ -64,28 +117,30 @@ impl Past {
         &mut self,
         alloc: Global,
         line: u64,
-        is_plain: bool,
         command: &SteppingCommand<'_>,
-        taken: u64,
-        has_faulted: bool,
+        note: SteppingNote,
     ) -> Result<(), AllocError>
-        ensures { OnOk result (self.new ≡ past_after_stepping self.old line is_plain
-            (stepping_request_of command.now) taken has_faulted) }
+        ensures { OnOk result (self.new ≡ past_after_stepping self.old line note
+            (stepping_request_of command.now)) }
     {
-        if !is_plain {
+        let taken = note.taken;
+        let has_faulted = note.has_faulted;
+        let is_idle = note.before.is_halted || (taken == 0 && !has_faulted);
+        if note.is_stubbed && !is_idle {
             self.lose();
             return Ok(());
         }
         match *command {
-            SteppingCommand::Run | SteppingCommand::Step(_) | SteppingCommand::RunLast(_) => {
-                self.put_steps(line, taken, has_faulted)
+            SteppingCommand::Call(number) => {
+                let call = PastDeed::Call(number, taken > 0);
+                self.put_call(line, call, taken, has_faulted)
             }
-            SteppingCommand::Call(number) => self.put_call(line, number, taken, has_faulted),
-            SteppingCommand::Load(text) => self.put_load(alloc, line, text, taken, has_faulted),
-            SteppingCommand::Finish | SteppingCommand::Gosub(_) => {
-                self.lose();
-                Ok(())
+            SteppingCommand::Load(text) => {
+                let call = PastDeed::Load(KeptText::of(alloc, text)?, taken > 0);
+                self.put_call(line, call, taken, has_faulted)
             }
+            SteppingCommand::Gosub(address) if !is_idle => { self.put_gosub(line, address, note) }
+            _ => self.put_steps(line, taken, has_faulted),
         }
     }
 
@@ -116,48 +171,46 @@ impl Past {
         Ok(())
     }
 
-    // A line called a SWI, if it could.
+    // A line made a call from outside, if it could.
     fn put_call(
         &mut self,
         line: u64,
-        number: u32,
+        call: PastDeed,
         taken: u64,
         has_faulted: bool,
     ) -> Result<(), AllocError>
-        ensures { OnOk result (self.new
-            ≡ past_with_call self.old line (deed.Call number) taken has_faulted) }
+        ensures { OnOk result (self.new ≡ past_with_call self.old line call taken has_faulted) }
     {
         if taken > 0 {
-            self.put(line, PastDeed::Call(number, true))?;
+            self.put(line, call)?;
             self.put_steps(line, taken - 1, has_faulted)
         } else if has_faulted {
-            self.put(line, PastDeed::Call(number, false))
+            self.put(line, call)
         } else {
             Ok(())
         }
     }
 
-    // A line loaded a module, if it could.
-    fn put_load(
+    // A line called a routine.
+    fn put_gosub(
         &mut self,
-        alloc: Global,
         line: u64,
-        text: &[u8],
-        taken: u64,
-        has_faulted: bool,
+        address: Origin,
+        note: SteppingNote,
     ) -> Result<(), AllocError>
-        ensures { OnOk result (self.new
-            ≡ past_with_call self.old line (deed.Load text.now) taken has_faulted) }
+        ensures { OnOk result (self.new ≡ past_with_gosub self.old line address note) }
     {
-        let text = KeptText::of(alloc, text)?;
-        if taken > 0 {
-            self.put(line, PastDeed::Load(text, true))?;
-            self.put_steps(line, taken - 1, has_faulted)
-        } else if has_faulted {
-            self.put(line, PastDeed::Load(text, false))
-        } else {
-            Ok(())
+        let before = note.before;
+        let back = before.status.bits() + ROUTINE_RETURN;
+        self.put(line, PastDeed::Routine(address, back))?;
+        self.put_steps(line, note.taken, note.has_faulted)?;
+        if note.has_returned {
+            let mode = before.status.mode;
+            let link = RegisterNumber::new(14);
+            self.put(line, PastDeed::Banked(mode, link, before.link))?;
+            self.put(line, PastDeed::Place(before.place))?;
         }
+        Ok(())
     }
 }
 
@@ -166,4 +219,11 @@ pub fn is_faulted(session: &Session) -> bool
     ensures { (images : List Entry) → result ≡ is_faulted (script_state session.now images).machine.halt }
 {
     matches!(session.machine().stop(), Some(Stop::Fault(_)))
+}
+
+/// Whether a routine has come back, by how the steps of the line ended that called it.
+pub fn has_returned(ending: &[u8]) -> bool
+    ensures { result ≡ has_returned ending.now }
+{
+    matches!(ending, [b'r', ..])
 }

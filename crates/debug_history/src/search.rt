@@ -28,6 +28,8 @@ pub enum Sought {
     Status,
     /// A step from an address.
     Stood(u32),
+    /// Another live block of a heap round an address than before, or none.
+    Block(u32),
     /// Another live block of a heap round an address than before, if there was one.
     Claimed(u32),
     /// Another live block of a heap round an address than before, or none any more.
@@ -62,7 +64,9 @@ impl Sought {
             ),
             Sought::Status => Some(machine.cpu().psr().bits()),
             Sought::Stood(_) => Some(machine.cpu().pc()),
-            Sought::Claimed(address) | Sought::Freed(address) => block_round(machine, *address),
+            Sought::Block(address) | Sought::Claimed(address) | Sought::Freed(address) => {
+                block_round(machine, *address)
+            }
         }
     }
 

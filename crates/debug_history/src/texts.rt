@@ -117,7 +117,9 @@ fn push_looked(text: &mut Vec<u8>, sought: &Sought) -> Result<(), AllocError>
         Sought::Banked(mode, number) => push_register(text, number.number(), bank_text(*mode)),
         Sought::Status => text.extend_from_slice(b"FLAGS="),
         Sought::Stood(_) => text.extend_from_slice(b"PC="),
-        Sought::Claimed(_) | Sought::Freed(_) => text.extend_from_slice(b"block "),
+        Sought::Block(_) | Sought::Claimed(_) | Sought::Freed(_) => {
+            text.extend_from_slice(b"block ")
+        }
     }
 }
 
@@ -180,7 +182,7 @@ fn nothing_text(sought: &Sought) -> &'static [u8]
 {
     match sought {
         Sought::Byte(_) => b"--",
-        Sought::Claimed(_) | Sought::Freed(_) => b"none",
+        Sought::Block(_) | Sought::Claimed(_) | Sought::Freed(_) => b"none",
         _ => b"--------",
     }
 }

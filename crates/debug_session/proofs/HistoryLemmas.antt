@@ -1,10 +1,8 @@
 -- The past of a debugging session is that of its machine, and changes no answer of other lines.
 use Rattle.std.proofs.Common.{◌≡◌, ℕ, ◌-◌, Bool, true, false, List, [], Option, Some, None, Result, Ok, Err, refl, sym, ◌∙◌, ap, subst, if◌then◌else◌}
-use Rattle.std.specs.Prelude.{IsSome}
 use Rattle.std.specs.Option.{option_map}
 use Rattle.image_loader.specs.Entries.{bytes_of_image}
 use Rattle.profile.specs.declared.fault.Fault.{Fault}
-use Rattle.debug_history.specs.Halt.{Halt}
 use Rattle.command_shell_lines.specs.Requests.{Request, Areas, Asm, Boot, Break, Call, Code, Flex, Heap, Hex, Load, Mem, Modules, Nothing, Poke, Regs, Run, Set, Step, Unbreak, Unknown}
 use Rattle.debug_tables.specs.run_meter.Memory.{script_at, script_started_anew, script_with_budget, script_with_status}
 use Rattle.debug_tables.specs.run_meter.Script.{request_answer}
@@ -17,7 +15,7 @@ use Rattle.debug_lines.specs.SteppingRequests as stepping
 use Rattle.debug_history.specs.Answers.{PastAnswered, back_until, last_in_past, past_answered, past_asked, past_command, past_gone_back, past_shown, undone}
 use Rattle.debug_history.specs.Laws.{IsPastOf}
 use Rattle.debug_history.specs.LineKinds.{asks_nothing, is_refused_block}
-use Rattle.debug_history.specs.Noted.{is_faulted, past_after_request, past_after_stepping}
+use Rattle.debug_history.specs.Noted.{is_faulted, past_after_request}
 use Rattle.debug_history.specs.Acts.{moment_after_acts}
 use Rattle.debug_history.specs.Past.{PastState, line_of_last_act, past_from_start, unknown_past}
 use Rattle.debug_history.specs.Texts.{no_history_text}
@@ -32,16 +30,12 @@ use Rattle.debug_modes.specs.Modes.{answer_of_line}
 use Rattle.debug_modes.specs.expectations.Checks.{check_answer, status_after_pattern}
 use Rattle.debug_modes.specs.expectations.Halted.{halting_fault}
 use Rattle.debug_modes.specs.expectations.reports.Reports.{report_of_refusal, with_refusal}
-use Rattle.debug_runs.specs.Lines.{stepping_answer}
-use Rattle.debug_runs.proofs.PlainLemmas.{lines_are}
-use Rattle.debug_runs.proofs.TracedLemmas.{last_is_run, same_line}
 use Rattle.debug_session.specs.DebugScript.{answer_or_refused, checked_answer, plain_line_answer, past_line_by, put_done, put_found, script_line_answer_in, seen_of, set_pc_by, state_after_line, state_with_answer, stepping_line_answer, stepping_now, write_done}
 use Rattle.debug_session.specs.DebugState.{DebugAnswered, DebugState}
 use Rattle.debug_session.specs.History.{HistoryChangesNoAnswer, IsSameButPast, IsUnhaltedWhereFresh, PastIsOfTheMachine}
 use Rattle.debug_session.specs.declared.session.DebugSettings.{DebugSettings}
-use Rattle.debug_tables.specs.Modes.{are_plain}
+use Rattle.debug_session.proofs.SteppingPastLemmas.{steps_kept}
 use Rattle.debug_tables.specs.byte_writes.Put.{script_after_put}
-use Rattle.debug_tables.specs.declared.modes.StepModes.{StepModes}
 
 -- the past of a state is that of its machine
 abbrev IsKept : DebugState → Type 0
@@ -112,60 +106,10 @@ plain_kept c d number r block up was =
 
 -- LINES THAT TAKE STEPS IN MODES
 
-none_some : (o : Option Halt) → o ≡ None → IsSome o → (b : Bool) → b ≡ false
-none_some None is some b = absurd (cc)
-none_some (Some h) is some b = absurd (cc)
-
-fresh_by : (o : Option Halt) (b : Bool) → (b ≡ true → o ≡ None) → IsSome o → b ≡ false
-fresh_by o false up some = refl
-fresh_by o true up some = none_some o (up refl) some true
-
-as_script_line : (s t : ScriptState) (p : PastState) (number : ℕ) (q : Request) → IsUnhaltedWhereFresh s → IsPastOf s p
-    → t ≡ (request_answer s 0 q []).state
-    → IsPastOf t (past_after_request p number q (s.left - t.left) (is_faulted t.machine.halt))
-as_script_line s t p number q up was is =
-    subst (λ (u : ScriptState). IsPastOf u (past_after_request p number q (s.left - u.left) (is_faulted u.machine.halt))) (sym is)
-    (noted_is_done s p number 0 q [] up was)
-
-untraced : (m : StepModes) (labels : List ImageLabels) (o : Option ℕ) (s : ScriptState) (r : stepping.SteppingRequest)
-    → (stepping_answer m labels o s r).now ≡ (stepping_answer m labels None s r).now
-untraced m labels o s r = (same_line m labels o None s r).now
-
-steps_kept : (m : StepModes) (labels : List ImageLabels) (o : Option ℕ) (s : ScriptState) (p : PastState) (number : ℕ)
-    (r : stepping.SteppingRequest) → are_plain m ≡ true → IsUnhaltedWhereFresh s → IsPastOf s p
-    → (let t = (stepping_answer m labels o s r).now in
-    IsPastOf t (past_after_stepping p number true r (s.left - t.left) (is_faulted t.machine.halt)))
-steps_kept m labels o s p number stepping.Run plain up was =
-    as_script_line s _ p number Run up was
-    (untraced m labels o s stepping.Run ∙ (lines_are m labels s 0 [] plain (fresh_by s.machine.halt s.is_fresh up)).run.state)
-steps_kept m labels o s p number (stepping.Step count) plain up was =
-    as_script_line s _ p number (Step count) up was (untraced m labels o s (stepping.Step count)
-    ∙ ((lines_are m labels s 0 [] plain (fresh_by s.machine.halt s.is_fresh up)).step count).state)
-steps_kept m labels o s p number (stepping.Call called) plain up was =
-    as_script_line s _ p number (Call called) up was (untraced m labels o s (stepping.Call called)
-    ∙ ((lines_are m labels s 0 [] plain (fresh_by s.machine.halt s.is_fresh up)).call called).state)
-steps_kept m labels o s p number (stepping.Load text) plain up was =
-    as_script_line s _ p number (Load text) up was (untraced m labels o s (stepping.Load text)
-    ∙ ((lines_are m labels s 0 [] plain (fresh_by s.machine.halt s.is_fresh up)).load text).state)
-steps_kept m labels o s p number stepping.Finish plain up was = unknown_kept (stepping_answer m labels o s stepping.Finish).now
-steps_kept m labels o s p number (stepping.Gosub address) plain up was =
-    unknown_kept (stepping_answer m labels o s (stepping.Gosub address)).now
-steps_kept m labels o s p number (stepping.RunLast count) plain up was =
-    as_script_line s _ p number Run up was ((last_is_run m labels o count s).now
-    ∙ (lines_are m labels s 0 [] plain (fresh_by s.machine.halt s.is_fresh up)).run.state)
-
-stepping_by : (m : StepModes) (labels : List ImageLabels) (o : Option ℕ) (s : ScriptState) (p : PastState) (number : ℕ)
-    (r : stepping.SteppingRequest) (b : Bool) → are_plain m ≡ b → IsUnhaltedWhereFresh s → IsPastOf s p
-    → (let t = (stepping_answer m labels o s r).now in
-    IsPastOf t (past_after_stepping p number b r (s.left - t.left) (is_faulted t.machine.halt)))
-stepping_by m labels o s p number r true plain up was = steps_kept m labels o s p number r plain up was
-stepping_by m labels o s p number r false plain up was = unknown_kept (stepping_answer m labels o s r).now
-
 stepping_kept : (c : DebugSettings) (d : DebugState) (number : ℕ) (is_traced : Bool) (r : stepping.SteppingRequest)
     → IsUnhaltedWhereFresh d.script → IsKept d → IsKept (stepping_line_answer c d number is_traced r).state
 stepping_kept c d number is_traced r up was =
-    stepping_by d.modes.steps d.labels (answer_of_line d.modes is_traced) (script_with_budget d.script c.budget) d.past number r
-    (are_plain d.modes.steps) refl up was
+    steps_kept d.modes d.labels (answer_of_line d.modes is_traced) (script_with_budget d.script c.budget) d.past number r up was
 
 line_kept : (c : DebugSettings) (d : DebugState) (number : ℕ) (r : Request) (block : List (List ℕ)) (o : Option stepping.SteppingRequest)
     → IsUnhaltedWhereFresh d.script → IsKept d → IsKept (script_line_answer_in o c d number r block).state

@@ -10,5 +10,7 @@ pub mod OwnLemmas
 pub mod PastLineLemmas
 pub mod RefusalLemmas
 pub mod RepeatLemmas
+pub mod RunPastLemmas
 pub mod SteppingLemmas
+pub mod SteppingPastLemmas
 pub mod UnreadLemmas

@@ -25,11 +25,11 @@ use Rattle.debug_lines.specs.SteppingRequests.{SteppingRequest, stepping_in}
 use Rattle.debug_modes.specs.Changes.{ModeAnswer, mode_answer}
 use Rattle.debug_modes.specs.Counting.{counts_text}
 use Rattle.debug_modes.specs.Modes.{takes_over}
-use Rattle.debug_session.specs.Stepping.{modes_after, stepping_in_modes}
+use Rattle.debug_session.specs.Stepping.{modes_after, note_of, stepping_in_modes}
 use Rattle.debug_lines.specs.Tidy.{tidied_line}
 use Rattle.debug_history.specs.Answers.{PastAnswered, past_line_answered}
 use Rattle.debug_history.specs.LineKinds.{asks_nothing, is_refused_block, takes_steps}
-use Rattle.debug_history.specs.Noted.{is_faulted, past_after_request, past_after_stepping, past_with_deed}
+use Rattle.debug_history.specs.Noted.{is_faulted, past_after_request, past_after_stepping, past_with_deed, steps_before}
 use Rattle.debug_history.specs.Past.{PastState, past_from_start, past_with_images, unknown_past}
 use Rattle.debug_history.specs.declared.act.PastDeed.{PastDeed}
 use Rattle.debug_history.specs.declared.act.PastDeed.TheVariants.{Place, Status}
@@ -48,7 +48,6 @@ use Rattle.debug_modes.specs.OwnAnswers.{forget_text, put_text, reasoned_text}
 use Rattle.debug_labels.specs.Reasons.{refusal_reason}
 use Rattle.debug_modes.specs.declared.help.TheConstants.{HELP}
 use Rattle.debug_session.specs.declared.session.DebugSettings.{DebugSettings}
-use Rattle.debug_tables.specs.Modes.{are_plain}
 use Rattle.debug_lines.specs.declared.status.StatusPattern.{StatusPattern}
 use Rattle.debug_modes.specs.expectations.reports.Reports.{answer_in, fail_text, pass_text, report_of_refusal, summary_text, with_fail, with_pass, with_refusal}
 
@@ -130,8 +129,8 @@ stepping_line_answer c d number is_traced request =
     let reported = stepping_in_modes d.modes d.labels is_traced s request in
     let after = record d {
       modes = modes_after d.modes s request;
-      past = past_after_stepping d.past number (are_plain d.modes.steps) request (c.budget - reported.now.left)
-          (is_faulted reported.now.machine.halt);
+      past = past_after_stepping d.past number (note_of (steps_before s.machine) d.modes
+          (c.budget - reported.now.left) reported.now.machine reported.ending) request;
     } in
     stepping_answer_by c after reported.now reported.text reported.printed reported.ending
 

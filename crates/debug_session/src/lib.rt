@@ -12,10 +12,9 @@ mod recording;
 mod refusing;
 mod script_lines;
 mod session;
-mod stepping;
 mod stepping_lines;
 
-pub use debug_history::{PastDeed, PastFound, Sought, is_faulted};
+pub use debug_history::{CodeAddress, PastDeed, PastFound, Sought, is_faulted};
 pub use debug_modes::expectations::begins_ending;
 pub use debug_modes::expectations::reports::{CheckTally, ReportForm, push_missing_end};
 pub use debug_tables::Stub;

@@ -10,7 +10,7 @@ ghost use Rattle.profile.specs.Output.{Writes};
 use crate::session::DebugSession;
 use command_shell_lines::Origin;
 use command_shell_lines::debug_words::bytes_written;
-use debug_history::PastDeed;
+use debug_history::{CodeAddress, PastDeed};
 use debug_labels::place_views::{names_on, show_frames, show_stack, show_where};
 use debug_lines::{DebugView, Expectation, StatusPattern};
 use debug_modes::expectations::reports::{push_answer, push_fail, push_pass};
@@ -258,8 +258,10 @@ impl DebugSession {
             (script_at (debug_state self.old images).script address)).state) }
         ensures setting { self.new.setting ≡ self.old.setting }
     {
-        self.past.put(number as u64, PastDeed::Place(address))?;
-        self.session.set_pc(address.address());
+        let pc = address.address();
+        let at = CodeAddress::new(pc);
+        self.past.put(number as u64, PastDeed::Place(at))?;
+        self.session.set_pc(pc);
         self.answer = Vec::new(self.alloc);
         Ok(())
     }

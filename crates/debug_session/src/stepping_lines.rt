@@ -1,20 +1,20 @@
 //! Lines that take steps in the modes that are set, and lines that change these.
 
 ghost use Rattle.std.specs.Prelude.{◌≡◌, ◌+◌, ◌-◌, true, List, option_map, OnOk, OnErr};
-ghost use Rattle.debug_history.specs.Noted.{is_faulted, past_after_stepping};
+ghost use Rattle.debug_history.specs.Noted.{past_after_stepping};
 ghost use Rattle.debug_session.specs.Failing.{EndsAtOnce};
-ghost use Rattle.debug_tables.specs.Modes.{are_plain};
+ghost use Rattle.debug_session.specs.Stepping.{note_of};
 ghost use Rattle.command_shell_lines.specs.Blocks.{block_lines, lines_after, lines_taken};
 ghost use Rattle.command_shell_lines.specs.Requests.{opens_block, request_of_command};
 ghost use Rattle.debug_lines.specs.ModeRequests.{mode_request_of};
 ghost use Rattle.debug_lines.specs.SteppingRequests.{stepping_request_of};
 
 use crate::session::DebugSession;
-use crate::stepping::answer_in_modes;
 use command_shell_lines::ScriptCommand;
-use debug_history::is_faulted;
+use debug_history::{SteppingNote, StepsBefore, has_returned, is_faulted};
 use debug_lines::{ModeCommand, SteppingCommand, stepping_in};
 use debug_modes::expectations::reports::push_answer;
+use debug_runs::answer_stepping;
 use debug_tables::run_meter::RunError;
 use image_loader::Images;
 use profile::text_lines::Lines;
@@ -82,43 +82,50 @@ impl DebugSession {
         ensures ends { EndsAtOnce W.has_failed sink.old sink.new result }
     {
         self.session.set_budget(self.setting.budget);
-        let reported = answer_in_modes(
+        let before = StepsBefore::of(&self.session);
+        let shown = self.modes.reported(is_traced);
+        let reported = answer_stepping(
             self.alloc,
             &mut self.session,
             images,
+            &self.modes.steps,
+            &mut self.modes.counts,
             &self.labels,
-            &mut self.modes,
-            is_traced,
             command,
+            shown,
         )?;
-        self.note_stepping(number, command)?;
+        let ending = reported.ending.as_slice();
+        self.note_stepping(number, command, before, ending)?;
         Ok(self.print_steps(sink, reported.text, reported.printed, reported.ending)?)
     }
 
-    // Keeps what a line that took steps did to the machine.
+    // Keeps what a line did to the machine that took steps, which ended so.
     fn note_stepping(
         &mut self,
         number: usize,
         command: &SteppingCommand<'_>,
+        before: StepsBefore,
+        ending: &[u8],
     ) -> Result<(), AllocError>
         ensures past { (images : List Entry) → OnOk result (self.new.past ≡ past_after_stepping self.old.past
-            number (are_plain self.old.modes.steps) (stepping_request_of command.now)
-            (self.old.setting.budget - self.old.session.left)
-            (is_faulted (script_state self.old.session images).machine.halt)) }
+            number (note_of before self.old.modes (self.old.setting.budget - self.old.session.left)
+            (script_state self.old.session images).machine ending.now) (stepping_request_of command.now)) }
         ensures rest { OnOk result (self.new ≡ record self.old { past = self.new.past }) }
         ensures setting { self.new.setting ≡ self.old.setting }
     {
-        let has_faulted = is_faulted(&self.session);
-        let is_plain = self.modes.steps.is_plain();
+        let is_bare = self.modes.steps.stubs.is_empty();
         let taken = self.steps_taken();
-        self.past.note_stepping(
-            self.alloc,
-            number as u64,
-            is_plain,
-            command,
+        let has_faulted = is_faulted(&self.session);
+        let is_back = has_returned(ending);
+        let note = SteppingNote {
+            before,
+            is_stubbed: !is_bare,
             taken,
             has_faulted,
-        )
+            has_returned: is_back,
+        };
+        self.past
+            .note_stepping(self.alloc, number as u64, command, note)
     }
 
     // Writes what a line that took steps left to write, and keeps it for the lines that expect

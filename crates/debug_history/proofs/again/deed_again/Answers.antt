@@ -1,5 +1,6 @@
-use Rattle.std.proofs.Common.{◌≡◌, ℕ, subst, sym}
-use Rattle.swi_dispatch_guest.specs.Writes.{machine_after_poke, machine_at, machine_with_register, machine_with_status}
+use Rattle.std.proofs.Common.{◌≡◌, ◌∙◌, ℕ, subst, sym}
+use Rattle.swi_dispatch_guest.specs.Writes.{machine_after_poke, machine_at, machine_unhalted, machine_with_bank_register, machine_with_register, machine_with_status}
+use Rattle.command_shell.specs.Memory.{script_at}
 use Rattle.command_shell.specs.Session.{script_state}
 use Rattle.debug_history.specs.Acts.{changed_moment, moment_after_deed, moment_after_word, moment_of_script}
 use Rattle.debug_history.specs.Again.{IsAtMoment}
@@ -33,8 +34,8 @@ returns-in-Place-clause-moment c =
     let now = script_state c.set_pc.new.self c.args.images.now in
     subst (λ (d : PastDeed). IsAtMoment s now (moment_after_deed s.images s.sizes d (moment_of_script s))) (sym c.in-Place.is)
     (subst (λ (pc : ℕ). IsAtMoment s now (changed_moment (machine_at s.machine pc)))
-    c.address-pc.ensures.value
-    (with_machine_at s now (machine_at s.machine c.address-pc.result) (c.set_pc.ensures c.args.images.now)))
+    c.number-pc.ensures.value
+    (with_machine_at s now (machine_at s.machine c.number-pc.result) (c.set_pc.ensures c.args.images.now)))
 
 pub returns-in-Status-clause-moment : goal.returns-in-Status-clause-moment
 returns-in-Status-clause-moment c =
@@ -42,3 +43,31 @@ returns-in-Status-clause-moment c =
     let now = script_state c.set_psr.new.self c.args.images.now in
     subst (λ (d : PastDeed). IsAtMoment s now (moment_after_deed s.images s.sizes d (moment_of_script s))) (sym c.in-Status.is)
     (with_machine_at s now (machine_with_status s.machine c.in-Status.status) (c.set_psr.ensures c.args.images.now))
+
+pub returns-in-Banked-clause-moment : goal.returns-in-Banked-clause-moment
+returns-in-Banked-clause-moment c =
+    let s = script_state c.args.session.now c.args.images.now in
+    let now = script_state c.set_register_in.new.self c.args.images.now in
+    subst (λ (d : PastDeed). IsAtMoment s now (moment_after_deed s.images s.sizes d (moment_of_script s))) (sym c.in-Banked.is)
+    (subst (λ (number : ℕ). IsAtMoment s now
+    (changed_moment (machine_with_bank_register s.machine c.in-Banked.mode number c.in-Banked.value)))
+    c.number-number-in-Banked.ensures.value
+    (with_machine_at s now (machine_with_bank_register s.machine c.in-Banked.mode c.number-number-in-Banked.result c.in-Banked.value)
+    (c.set_register_in.ensures c.args.images.now)))
+
+pub returns-in-Woken-clause-moment : goal.returns-in-Woken-clause-moment
+returns-in-Woken-clause-moment c =
+    let s = script_state c.args.session.now c.args.images.now in
+    let now = script_state c.wake.new.self c.args.images.now in
+    subst (λ (d : PastDeed). IsAtMoment s now (moment_after_deed s.images s.sizes d (moment_of_script s))) (sym c.in-Woken.is)
+    (with_machine_at s now (machine_unhalted s.machine) (c.wake.ensures c.args.images.now))
+
+pub returns-in-Routine-clause-moment : goal.returns-in-Routine-clause-moment
+returns-in-Routine-clause-moment c =
+    let s = script_state c.args.session.now c.args.images.now in
+    let now = script_state c.set_pc-in-Routine.new.self c.args.images.now in
+    let first = c.set_register-in-Routine.ensures c.args.images.now in
+    subst (λ (d : PastDeed). IsAtMoment s now (moment_after_deed s.images s.sizes d (moment_of_script s))) (sym c.in-Routine.is)
+    (with_machine_at s now (machine_at (machine_with_register s.machine 14 c.in-Routine.link) c.in-Routine.address)
+    (c.set_pc-in-Routine.ensures c.args.images.now
+    ∙ (λ i. script_at (first i) (c.address.ensures.value i))))
