@@ -5,4 +5,6 @@ pub mod CallLemmas
 pub mod FrontLemmas
 pub mod ImageLemmas
 pub mod ScriptLemmas
+pub mod TextLemmas
 pub mod ViewLemmas
+pub mod WatchLemmas

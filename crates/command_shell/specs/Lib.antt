@@ -21,3 +21,4 @@ pub mod State
 pub mod Stepping
 pub mod Views
 pub mod Whole
+pub mod WordWatches

@@ -16,6 +16,7 @@ mod script;
 mod session;
 mod stepping;
 mod views;
+pub mod watches;
 
 pub use answers::{print_stepped, print_stop, print_unknown};
 pub use calls::{CallEnd, OutsideCall};

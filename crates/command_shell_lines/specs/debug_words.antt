@@ -4,5 +4,6 @@ pub mod ErrorNumbers
 pub mod Forms
 pub mod NamedBytes
 pub mod Spelling
+pub mod StubLines
 pub mod Texts
 pub mod Values

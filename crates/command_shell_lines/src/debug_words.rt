@@ -6,6 +6,7 @@ mod error_names;
 mod forms;
 mod named_bytes;
 mod spelling;
+mod stubs;
 mod texts;
 mod values;
 
@@ -14,5 +15,8 @@ pub use error_names::error_shown;
 pub use forms::{form_of_line, form_of_word};
 pub use named_bytes::{bytes_named, bytes_written, names_bytes};
 pub use spelling::{is_spelt, is_well_spelt};
+pub use stubs::{
+    MOST_STUB_REGISTERS, MOST_STUB_WORDS, Stub, StubFlags, StubRegister, stub_of_line,
+};
 pub use texts::{between_quotes, byte_value, cut_at_quote, text_behind};
 pub use values::{swi_shown, value_shown};

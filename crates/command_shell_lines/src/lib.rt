@@ -6,6 +6,7 @@
 mod blocks;
 pub mod debug_words;
 mod error;
+mod failed_blocks;
 mod hex_pairs;
 mod numbers;
 mod operands;
@@ -14,6 +15,7 @@ mod requests;
 
 pub use blocks::{Block, read_block, skip_block};
 pub use error::ReadingError;
+pub use failed_blocks::FailedBlocks;
 pub use hex_pairs::hex_pair;
 pub use numbers::number_of;
 pub use operands::{Origin, RegisterNumber, WordAddress, count_up_to};

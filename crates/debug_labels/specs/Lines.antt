@@ -49,12 +49,19 @@ kept_by_size (third ∷ others) =
     if is_same_name third (codes "WORD") || is_same_name third (codes "BYTE") then 3 else 2
 kept_by_size [] = 2
 
+-- a stub names a SWI, and behind AT a place
+abbrev pub kept_by_at : List (List ℕ) → Option ℕ
+kept_by_at (third ∷ others) = if is_same_name third (codes "AT") then Some 3 else None
+kept_by_at [] = None
+
 -- how many words stand as they are before those that may name places, if any may
 abbrev pub kept_untraced : List (List ℕ) → Option ℕ
 kept_untraced (word ∷ second ∷ others) =
     if is_place_word word then Some 1 else (
     if has_places_behind word second then Some 2 else (
-    if looks_back word second then Some (kept_by_size others) else None))
+    if looks_back word second then Some (kept_by_size others) else (
+    if is_same_name word (codes "STUB") then kept_by_at others else
+    None)))
 kept_untraced _ = None
 
 -- the same where TRACE may stand before the line

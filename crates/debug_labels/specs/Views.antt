@@ -1,7 +1,7 @@
 -- Labels and places as text.
-use Rattle.std.specs.Prelude.{ℕ, ◌+◌, ◌-◌, ◌%◌, ◌^◌, ◌==◌, min, List, [], ◌∷◌, ◌++◌, length, take, drop, codes, Option, Some, None, if◌then◌else◌}
+use Rattle.std.specs.Prelude.{ℕ, Bool, ◌+◌, ◌-◌, ◌%◌, ◌^◌, ◌==◌, min, nat_lt, List, [], ◌∷◌, ◌++◌, length, take, drop, codes, Option, Some, None, if◌then◌else◌}
 use Rattle.std.specs.Fmt.{decimal}
-use Rattle.std.specs.List.{flat_map}
+use Rattle.std.specs.List.{flat_map, list_any}
 use Rattle.profile.specs.Digits.{hex_number, hex_word}
 use Rattle.assembler_text.specs.naming.Labels.{Entries}
 use Rattle.instances_table.specs.Modules.{Module}
@@ -55,13 +55,17 @@ first_names_of i = flat_map spaced_name (take (min (length i.labels) 8) i.labels
 abbrev pub last_two : List ImageLabels → List ImageLabels
 last_two images = drop (length images - min (length images) 2) images
 
+abbrev pub has_labels : ImageLabels → Bool
+has_labels i = nat_lt 0 (length i.labels)
+
 -- the names of some images' labels, and which line lists all
 abbrev pub hinted_text : List ImageLabels → List ℕ
 hinted_text images =
     codes " (labels:" ++ (flat_map first_names_of images ++ codes "; LABELS lists all)")
 
 abbrev pub last_names_text : List ImageLabels → List ℕ
-last_names_text images = hinted_text (last_two images)
+last_names_text images = if list_any has_labels (last_two images) then hinted_text (last_two images)
+    else codes " (the last blocks have none; LABELS lists all)"
 
 -- labels that there are, of the two images at most that were assembled last
 abbrev pub label_hint : List ImageLabels → List ℕ

@@ -23,7 +23,7 @@ impl PlaceNames<'_> {
     /// a place, in the lines that have places: behind BREAK, UNBREAK, MEM, CODE, HEAP, POKE, STEP,
     /// WORDS, GOSUB, WATCH, UNWATCH, DUMP, FILL and FIND, and behind one word more after PUT, SET and
     /// EXPECT, but behind SET PSR and where EXPECT compares text, and after BACK UNTIL, LAST CHANGE,
-    /// LAST CLAIM and LAST FREE. Behind CALL, STUB and UNSTUB one word is
+    /// LAST CLAIM and LAST FREE, and behind STUB, one word and AT. Behind CALL, STUB and UNSTUB one word is
     /// the number of the SWI that a loaded module's table in memory names so. TRACE may stand before these.
     ///
     /// # Errors
@@ -171,6 +171,9 @@ fn kept_untraced(line: &[u8]) -> Option<usize>
             Some(others) => Some(kept_by_size(others)),
             None => Some(2),
         }
+    } else if is_name(word, b"STUB") {
+        let (third, _) = cut(others?, b' ');
+        if is_name(third, b"AT") { Some(3) } else { None }
     } else {
         None
     }

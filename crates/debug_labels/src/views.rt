@@ -4,7 +4,7 @@ ghost use Rattle.std.specs.Prelude.{◌≡◌, Some};
 ghost use Rattle.std.specs.List.{flat_map};
 ghost use Rattle.profile.specs.Output.{Writes};
 ghost use Rattle.debug_labels.specs.Places.{place_of, shown_of_place_label};
-ghost use Rattle.debug_labels.specs.Views.{label_line, labels_text, first_names_of, hinted_text, label_hint, last_names_text, last_two, labels_text_from, labels_text_of, no_label_text, place_line, spaced_name, spaced_place_text};
+ghost use Rattle.debug_labels.specs.Views.{label_line, labels_text, first_names_of, has_labels, hinted_text, label_hint, last_names_text, labels_text_from, labels_text_of, no_label_text, place_line, spaced_name, spaced_place_text};
 
 use crate::labels::{Label, LabelledImage};
 use crate::places::PlaceLabel;
@@ -77,13 +77,12 @@ fn push_hint<W: Sink>(images: &[LabelledImage], sink: &mut W) -> Result<(), Writ
 fn push_last_names<W: Sink>(images: &[LabelledImage], sink: &mut W) -> Result<(), WriteFault>
     ensures { Writes W.contents W.has_failed sink.old sink.new result (last_names_text images.now) }
 {
-    push_hinted(last_images(images), sink)
-}
-
-fn last_images(images: &[LabelledImage]) -> &[LabelledImage]
-    ensures { result.now ≡ last_two images.now }
-{
-    &images[images.len() - images.len().min(HINTED_IMAGES)..]
+    let last = &images[images.len() - images.len().min(HINTED_IMAGES)..];
+    if last.iter().any(|image| image.has_labels()) {
+        push_hinted(last, sink)
+    } else {
+        push_all(sink, b" (the last blocks have none; LABELS lists all)")
+    }
 }
 
 // Labels of some images, and which line lists all.
@@ -131,6 +130,12 @@ fn show_images<W: Sink>(
 }
 
 impl LabelledImage {
+    fn has_labels(&self) -> bool
+        ensures { result ≡ has_labels self.now }
+    {
+        self.labels.len() > 0
+    }
+
     fn push_first_names<W: Sink>(&self, sink: &mut W) -> Result<(), WriteFault>
         ensures { Writes W.contents W.has_failed sink.old sink.new result (first_names_of self.now) }
     {

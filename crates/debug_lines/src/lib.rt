@@ -23,7 +23,7 @@ mod whole_requests;
 
 pub use block_ends::missing_ends;
 pub use expectations::Expectation;
-pub use modes::{MOST_STUB_SETTINGS, ModeCommand, StubSetting};
+pub use modes::ModeCommand;
 pub use openers::opens_block;
 pub use registers::{banked_register_named, register_of_name};
 pub use repeats::{RepeatedLine, is_known_line, is_repeatable_line, repeated_line, repeated_text};

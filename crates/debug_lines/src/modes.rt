@@ -1,36 +1,13 @@
 //! What a line asks for that changes how later lines are answered.
 
 ghost use Rattle.std.specs.Prelude.{◌≡◌, option_map};
-ghost use Rattle.command_shell_lines.specs.Numbers.{script_number};
-ghost use Rattle.command_shell_lines.specs.Operands.{cpu_register_named, origin_of};
-ghost use Rattle.command_shell_lines.specs.Requests.{words};
-ghost use Rattle.debug_lines.specs.ModeRequests.{mode_of_two, mode_request_of, settings_in_limit, stub_request, stub_setting, stub_settings, is_on_word};
+ghost use Rattle.command_shell_lines.specs.Operands.{origin_of};
+ghost use Rattle.debug_lines.specs.ModeRequests.{mode_of_two, mode_request_of, stub_request, is_on_word};
 
 use crate::few_words::has_letters;
-use arrayvec::ArrayVec;
-use command_shell_lines::debug_words::swi_shown;
-use command_shell_lines::{RegisterNumber, WordAddress, number_of};
+use command_shell_lines::WordAddress;
+use command_shell_lines::debug_words::{Stub, stub_of_line, swi_shown};
 use profile::memory_map::ADDRESS_LIMIT;
-use profile::text_lines::cut;
-
-/// How many registers a stub sets at most.
-pub const MOST_STUB_SETTINGS: usize = 8;
-
-/// A register that a stub sets.
-#[derive(Clone, Copy, Debug)]
-pub struct StubSetting {
-    pub register: RegisterNumber,
-    pub value: u32,
-}
-
-impl Default for StubSetting {
-    fn default() -> StubSetting {
-        StubSetting {
-            register: RegisterNumber::new(0),
-            value: 0,
-        }
-    }
-}
 
 /// What a line asks for that changes how later lines are answered.
 #[derive(Drop)]
@@ -39,8 +16,8 @@ pub enum ModeCommand {
     Trace(bool),
     /// `TRACE LIMIT n`.
     TraceLimit(u32),
-    /// `STUB n R v ..`: a SWI's number, and the registers that are set, one after another.
-    Stub(u32, ArrayVec<StubSetting, MOST_STUB_SETTINGS>),
+    /// `STUB n ..`: what a SWI does that the machine doesn't have.
+    Stub(Stub),
     /// `UNSTUB n`.
     Unstub(u32),
     /// `WATCH a`, with a multiple of 4 below 2^26.
@@ -97,38 +74,5 @@ fn watch_address(word: &[u8]) -> Option<WordAddress>
 pub(crate) fn stub_command(text: &[u8]) -> Option<ModeCommand>
     ensures { option_map mode_request_of result ≡ stub_request text.now }
 {
-    let (number, rest) = cut(text, b' ');
-    let number = swi_shown(number)?;
-    let settings = match rest {
-        Some(rest) => stub_settings(rest)?,
-        None => ArrayVec::new(),
-    };
-    Some(ModeCommand::Stub(number, settings))
-}
-
-// The registers of a stub and their values, which are 8 pairs of words at most.
-fn stub_settings(text: &[u8]) -> Option<ArrayVec<StubSetting, MOST_STUB_SETTINGS>>
-    ensures { option_map (λ settings. settings.items) result
-        ≡ settings_in_limit (stub_settings (words text.now)) }
-{
-    let mut settings = ArrayVec::new();
-    let mut left = text;
-    for _pair in 0..MOST_STUB_SETTINGS {
-        let (register, behind) = cut(left, b' ');
-        let (value, rest) = cut(behind?, b' ');
-        settings.push(stub_setting(register, value)?);
-        match rest {
-            Some(rest) => left = rest,
-            None => return Some(settings),
-        }
-    }
-    None
-}
-
-fn stub_setting(register: &[u8], value: &[u8]) -> Option<StubSetting>
-    ensures { result ≡ stub_setting (cpu_register_named register.now) (script_number value.now) }
-{
-    let register = RegisterNumber::named(register)?;
-    let value = number_of(value)?;
-    Some(StubSetting { register, value })
+    Some(ModeCommand::Stub(stub_of_line(text)?))
 }

@@ -7,9 +7,9 @@ use Rattle.debug_modes.specs.Changes.{IsModeAnswer, stubs_answer, watches_answer
 use Rattle.debug_modes.specs.declared.modes.DebugModes.{DebugModes}
 use Rattle.debug_tables.specs.StubNames.{stub_error_name}
 use Rattle.debug_tables.specs.WordWatches.{watch_error_name}
-use Rattle.debug_tables.specs.declared.stubs.Stub.{Stub}
+use Rattle.command_shell_lines.specs.declared.debug_words.stubs.Stub.{Stub}
 use Rattle.debug_tables.specs.declared.stubs.StubError.{StubError}
-use Rattle.debug_tables.specs.declared.watches.WordWatchError.{WordWatchError}
+use Rattle.command_shell.specs.declared.watches.WordWatchError.{WordWatchError}
 
 -- whatever a call answers
 pub on_err : {T E P : Type 0} (r : Result T E) → P → OnErr r P

@@ -1,20 +1,18 @@
 -- The lines that change modes: what they leave, and how they are answered. A refusal leaves all modes
 -- as they were.
-use Rattle.std.specs.Prelude.{◌≡◌, ℕ, Bool, true, false, ◌%◌, ◌^◌, ◌++◌, List, map, codes, Result, Ok, Err}
+use Rattle.std.specs.Prelude.{◌≡◌, ℕ, Bool, true, false, ◌%◌, ◌^◌, ◌++◌, List, codes, Result, Ok, Err}
 use Rattle.std.specs.Fmt.{decimal}
 use Rattle.command_shell.specs.Answers.{at_address_text, refused_text}
 use Rattle.debug_lines.specs.ModeRequests.{ModeRequest, Count, Trace, TraceLimit, Unstub, Unwatch}
 use Rattle.debug_lines.specs.ModeRequests as request
-use Rattle.debug_lines.specs.declared.modes.StubSetting.{StubSetting}
 use Rattle.debug_modes.specs.declared.modes.DebugModes.{DebugModes}
 use Rattle.debug_tables.specs.counts.Counts.{counts_begun, counts_stopped}
 use Rattle.debug_tables.specs.StubNames.{stub_error_name}
 use Rattle.debug_tables.specs.Stubs.{with_stub, without_stub}
 use Rattle.debug_tables.specs.WordWatches.{watch_error_name, with_word_watch, without_word_watch}
-use Rattle.debug_tables.specs.declared.stubs.Stub.{Stub}
+use Rattle.command_shell_lines.specs.declared.debug_words.stubs.Stub.{Stub}
 use Rattle.debug_tables.specs.declared.stubs.StubError.{StubError}
-use Rattle.debug_tables.specs.declared.stubs.StubRegister.{StubRegister}
-use Rattle.debug_tables.specs.declared.watches.WordWatchError.{WordWatchError}
+use Rattle.command_shell.specs.declared.watches.WordWatchError.{WordWatchError}
 use Rattle.command_shell.specs.MachineState.{MachineState}
 use Rattle.command_shell.specs.Step.{without_x}
 
@@ -55,21 +53,17 @@ abbrev pub stub_number : ℕ → ℕ
 stub_number number = without_x (number % 2 ^ 24)
 
 -- STUB
-abbrev pub stub_register_of : StubSetting → StubRegister
-stub_register_of setting = record { register = setting.register; value = setting.value }
-
-abbrev pub stub_with : ℕ → List StubSetting → Stub
-stub_with number settings =
-    record { number = number; registers = record { items = map stub_register_of settings } }
+abbrev pub with_stub_number : Stub → Stub
+with_stub_number stub = record stub { number = stub_number stub.number }
 
 abbrev pub stubs_answer : DebugModes → List ℕ → Result (List Stub) StubError → ModeAnswer
 stubs_answer m text (Ok stubs) =
     record { modes = record m { steps = record m.steps { stubs = stubs } }; text = text }
 stubs_answer m text (Err e) = refused_in m (stub_error_name e)
 
-abbrev pub stub_line_answer : MachineState → DebugModes → ℕ → List StubSetting → ModeAnswer
-stub_line_answer s m number settings = stubs_answer m (change_text (codes "stub") (stub_number number))
-    (with_stub s m.steps.stubs (stub_with (stub_number number) settings))
+abbrev pub stub_line_answer : MachineState → DebugModes → Stub → ModeAnswer
+stub_line_answer s m stub = stubs_answer m (change_text (codes "stub") (stub_number stub.number))
+    (with_stub s m.steps.stubs (with_stub_number stub))
 
 -- UNSTUB
 abbrev pub unstub_line_answer : DebugModes → ℕ → ModeAnswer
@@ -105,7 +99,7 @@ counting_line_answer m false =
 abbrev pub mode_answer : MachineState → DebugModes → ModeRequest → ModeAnswer
 mode_answer s m (Trace is_on) = trace_line_answer m is_on
 mode_answer s m (TraceLimit limit) = limit_line_answer m limit
-mode_answer s m (request.Stub number settings) = stub_line_answer s m number settings
+mode_answer s m (request.Stub stub) = stub_line_answer s m stub
 mode_answer s m (Unstub number) = unstub_line_answer m number
 mode_answer s m (request.Watch address) = watch_line_answer m address
 mode_answer s m (Unwatch address) = unwatch_line_answer m address

@@ -1,16 +1,17 @@
 //! The lines that change modes.
 
-ghost use Rattle.std.specs.Prelude.{◌≡◌, ◌≤◌, true, false, IfOk, OnErr, length};
+ghost use Rattle.std.specs.Prelude.{◌≡◌, true, false, IfOk, OnErr};
 ghost use Rattle.debug_lines.specs.ModeRequests.{mode_request_of};
 ghost use Rattle.debug_modes.specs.Changes.{IsModeAnswer, counting_line_answer, limit_line_answer, mode_answer, stub_line_answer, trace_line_answer, unstub_line_answer, unwatch_line_answer, watch_line_answer};
 ghost use Rattle.command_shell.specs.GuestState.{state_of};
 
 use crate::answers::{at_line, limit_line, refused_line};
 use crate::modes::DebugModes;
-use crate::stub_lines::{stub_number, stub_with};
+use crate::stub_lines::{stub_number, with_stub_number};
 use command_shell::Machine;
 use command_shell_lines::WordAddress;
-use debug_lines::{ModeCommand, StubSetting};
+use command_shell_lines::debug_words::Stub;
+use debug_lines::ModeCommand;
 use std::alloc::{AllocError, Global};
 
 impl DebugModes {
@@ -18,7 +19,7 @@ impl DebugModes {
     /// modes stay:
     ///
     /// - `refused Known`: the machine has the call of a stub, of its own or of a module's.
-    /// - `refused StubTableFull`: there are 16 other stubs.
+    /// - `refused StubTableFull`: there are 64 other stubs.
     /// - `refused NoStub`: there is no stub of that number.
     /// - `refused WatchTableFull`: 4 other words are watched.
     /// - `refused NoWatch`: the word is not watched.
@@ -32,22 +33,20 @@ impl DebugModes {
         &mut self,
         alloc: Global,
         machine: &Machine,
-        command: &ModeCommand,
+        command: ModeCommand,
     ) -> Result<Vec<u8>, AllocError>
         ensures reported { IfOk result (λ text. IsModeAnswer
-            (mode_answer (state_of machine.now.guest) self.old (mode_request_of command.now))
+            (mode_answer (state_of machine.now.guest) self.old (mode_request_of command))
             self.new text.items) }
         ensures same { OnErr result (self.new ≡ self.old) }
     {
         match command {
-            ModeCommand::Trace(is_on) => self.trace(alloc, *is_on),
-            ModeCommand::TraceLimit(limit) => self.set_limit(alloc, *limit),
-            ModeCommand::Stub(number, settings) => {
-                self.add_stub(alloc, machine, *number, settings.as_slice())
-            }
-            ModeCommand::Unstub(number) => self.remove_stub(alloc, *number),
-            ModeCommand::Watch(address) => self.add_watch(alloc, *address),
-            ModeCommand::Unwatch(address) => self.remove_watch(alloc, *address),
+            ModeCommand::Trace(is_on) => self.trace(alloc, is_on),
+            ModeCommand::TraceLimit(limit) => self.set_limit(alloc, limit),
+            ModeCommand::Stub(stub) => self.add_stub(alloc, machine, stub),
+            ModeCommand::Unstub(number) => self.remove_stub(alloc, number),
+            ModeCommand::Watch(address) => self.add_watch(alloc, address),
+            ModeCommand::Unwatch(address) => self.remove_watch(alloc, address),
             ModeCommand::Count(true) => self.begin_counts(alloc),
             ModeCommand::Count(false) => self.stop_counts(alloc),
         }
@@ -98,18 +97,15 @@ impl DebugModes {
         &mut self,
         alloc: Global,
         machine: &Machine,
-        number: u32,
-        settings: &[StubSetting],
+        stub: Stub,
     ) -> Result<Vec<u8>, AllocError>
-        requires { length settings.now ≤ 8 }
         ensures reported { IfOk result (λ text. IsModeAnswer
-            (stub_line_answer (state_of machine.now.guest) self.old number settings.now) self.new
-            text.items) }
+            (stub_line_answer (state_of machine.now.guest) self.old stub) self.new text.items) }
         ensures same { OnErr result (self.new ≡ self.old) }
     {
-        let number = stub_number(number);
-        let text = at_line(alloc, b"stub", number)?;
-        match self.steps.stubs.add(machine, stub_with(number, settings)) {
+        let stub = with_stub_number(stub);
+        let text = at_line(alloc, b"stub", stub.number)?;
+        match self.steps.stubs.add(machine, stub) {
             Ok(()) => Ok(text),
             Err(error) => refused_line(alloc, error.name()),
         }

@@ -8,7 +8,7 @@ use crate::recorder::Twin;
 use crate::records::{head_of, push_record, skip_head};
 use command_shell::{OutsideCall, RunError, Session};
 use debug_lines::SteppingCommand;
-use debug_session::{DebugSession, Stub};
+use debug_session::{DebugSession, StubDeed};
 use image_loader::Images;
 use profile::memory_map::ADDRESS_LIMIT;
 use profile::text_sink::TextSink;
@@ -202,19 +202,17 @@ fn outside_call<'a>(command: &Option<SteppingCommand<'a>>, index: u64) -> Option
     }
 }
 
-// The registers that the stub sets which the next step meets, if it meets one.
+// The registers that a stub sets in place of the next step, if one does something then.
 fn stub_ahead(twin: &DebugSession) -> Option<WrittenRegisters> {
-    let stub = twin.stubs().ahead(twin.machine())?;
-    Some(written_by_stub(twin, stub))
+    let deed = twin.stubs().ahead(twin.machine())?;
+    Some(written_by_stub(&deed))
 }
 
-fn written_by_stub(twin: &DebugSession, stub: &Stub) -> WrittenRegisters {
-    let mode = twin.machine().cpu().psr().mode;
+fn written_by_stub(deed: &StubDeed) -> WrittenRegisters {
     let mut written = WrittenRegisters::new();
-    for setting in &stub.registers {
-        written.add(mode, setting.register.number());
+    for setting in deed.settings() {
+        written.add(setting.mode, setting.register.number());
     }
-    written.add_link();
     written
 }
 

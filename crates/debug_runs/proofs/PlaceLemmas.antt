@@ -19,7 +19,7 @@ use Rattle.debug_runs.specs.declared.running.RunGoal.TheVariants as goal
 use Rattle.debug_tables.specs.declared.modes.StepModes.{StepModes}
 
 -- the places of a run, by why it goes no further after its first step, if it does not
-unfoldable places_by : StepModes → RunGoal → ℕ → ScriptState → ScriptState → Option RunEnd → List ℕ
+unfoldable pub places_by : StepModes → RunGoal → ℕ → ScriptState → ScriptState → Option RunEnd → List ℕ
 places_by modes g n s next o = s.machine.cpu.pc ∷ places_unless o (places_of_run modes g n next)
 
 first_place : (modes : StepModes) (g : RunGoal) (n : ℕ) (s : ScriptState) → let next = step_made s (next_step modes s) in
@@ -27,7 +27,7 @@ first_place : (modes : StepModes) (g : RunGoal) (n : ℕ) (s : ScriptState) → 
 unfolding places_of_run places_by
 first_place modes g n s = refl
 
-first_of_left : (modes : StepModes) (g : RunGoal) (left : ℕ) (s next : ScriptState) → 0 < left → next ≡ step_made s (next_step modes s)
+pub first_of_left : (modes : StepModes) (g : RunGoal) (left : ℕ) (s next : ScriptState) → 0 < left → next ≡ step_made s (next_step modes s)
     → places_of_run modes g left s ≡ places_by modes g (left - 1) s next (end_after modes.watches g s next)
 first_of_left modes g left s next some made =
     let split : left ≡ suc (left - 1) = omega (arith, some) in

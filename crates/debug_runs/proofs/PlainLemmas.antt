@@ -28,7 +28,6 @@ use Rattle.debug_lines.specs.SteppingRequests as asked
 use Rattle.debug_runs.specs.Lines as line
 use Rattle.debug_tables.specs.Modes.{are_plain}
 use Rattle.debug_runs.specs.Runs.{SteppingRun, call_run, end_after, run_end_by, next_step, run_behind, run_ended, run_step, run_unless, steps_run}
-use Rattle.debug_tables.specs.Stubs.{is_known_swi, stub_numbered, stub_of_swi, swi_ahead}
 use Rattle.debug_runs.specs.TraceWriter.{call_text_behind}
 use Rattle.debug_runs.specs.declared.endings.EndKind.TheVariants as kind
 use Rattle.debug_tables.specs.declared.modes.StepModes.{StepModes}
@@ -53,7 +52,7 @@ plain_modes modes is =
     λ i. record { stubs = stubs i; watches = watches i }
 
 pub plain_step : (s : ScriptState) → next_step no_modes s ≡ machine_step s.images s.machine
-plain_step s = real_steps [] s.images s.machine (no_stub s.machine (swi_ahead s.machine))
+plain_step s = real_steps [] s.images s.machine (no_stub s.machine)
 
 -- RUN AND STEP
 

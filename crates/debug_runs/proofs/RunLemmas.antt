@@ -24,7 +24,7 @@ use Rattle.debug_runs.specs.declared.running.RunEnd.{RunEnd}
 use Rattle.debug_runs.specs.declared.running.RunEnd.TheVariants as end
 use Rattle.debug_runs.specs.declared.running.RunGoal.{RunGoal}
 use Rattle.debug_runs.specs.declared.writer.TraceWriter.{TraceWriter}
-use Rattle.debug_tables.specs.declared.watches.WatchHit.{WatchHit}
+use Rattle.command_shell.specs.declared.watches.WatchHit.{WatchHit}
 
 -- a step after which a run ends, and one after which it goes on
 pub step_over : (watches : List ℕ) (g : RunGoal) (s next : ScriptState) (o : StepOutcome) (text : List ℕ) (f : ScriptState → SteppingRun) (e : RunEnd)

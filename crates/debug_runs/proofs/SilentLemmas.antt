@@ -40,12 +40,12 @@ use Rattle.debug_runs.proofs.TraceWriterLemmas.{untold_none}
 -- STEPS OF WHICH NOTHING IS Shown
 
 -- how many are shown after it
-stays_untold : (reported : Option ℕ) → is_step_shown reported ≡ false → one_answer reported ≡ reported
+pub stays_untold : (reported : Option ℕ) → is_step_shown reported ≡ false → one_answer reported ≡ reported
 stays_untold None is = refl
 stays_untold (Some zero) is = let none : zero - 1 ≡ zero = omega arith in ap (λ (n : ℕ). Some n) none
 stays_untold (Some (suc limit)) is = absurd (grind (arith, nat_tests, is))
 
-silent_step : (reported : Option ℕ) (whole printed : List ℕ) → is_step_shown reported ≡ false → printed ≡ []
+pub silent_step : (reported : Option ℕ) (whole printed : List ℕ) → is_step_shown reported ≡ false → printed ≡ []
     → answer_of_step reported whole printed ≡ []
 silent_step reported whole printed untold unprinted =
     (λ i. if untold i then whole else untold_text reported (unprinted i)) ∙ untold_none reported
@@ -53,13 +53,13 @@ silent_step reported whole printed untold unprinted =
 -- THE MACHINE'S OWN RUN
 
 -- a run that printed nothing, of which each step counts
-record IsSilent (q : Run) (now : MachineState) (n : ℕ) (x : Stop) : Type 0 where
-  machine : q.now ≡ now
-  printed : q.printed ≡ []
-  taken : q.taken ≡ n
-  stop : q.stop ≡ x
+pub record IsSilent (q : Run) (now : MachineState) (n : ℕ) (x : Stop) : Type 0 where
+  pub machine : q.now ≡ now
+  pub printed : q.printed ≡ []
+  pub taken : q.taken ≡ n
+  pub stop : q.stop ≡ x
 
-is_silent : (now : MachineState) (n : ℕ) (x : Stop) → IsSilent (silent_run now n x) now n x
+pub is_silent : (now : MachineState) (n : ℕ) (x : Stop) → IsSilent (silent_run now n x) now n x
 is_silent now zero x = record { machine = refl; printed = refl; taken = refl; stop = refl }
 is_silent now (suc n) x = record { machine = refl; printed = refl; taken = refl; stop = refl }
 
@@ -68,10 +68,10 @@ nothing_in [] ys is = (refl, is)
 nothing_in (x ∷ xs) ys is = absurd (cc)
 
 -- its first step is the last, or else leads to none of the stops, and such a run goes on from there
-record FirstSilent (images : List Entry) (stops : List ℕ) (o : StepOutcome) (k : ℕ) (now : MachineState) (x : Stop) : Type 0 where
-  unhalted : o.now.halt ≡ None
-  unprinted : o.printed ≡ []
-  next : ((k ≡ 0) × (o.now ≡ now)) ⊎ ((is_among stops o.now.cpu.pc ≡ false) × IsSilent (ran images stops k o.now) now k x)
+pub record FirstSilent (images : List Entry) (stops : List ℕ) (o : StepOutcome) (k : ℕ) (now : MachineState) (x : Stop) : Type 0 where
+  pub unhalted : o.now.halt ≡ None
+  pub unprinted : o.printed ≡ []
+  pub next : ((k ≡ 0) × (o.now ≡ now)) ⊎ ((is_among stops o.now.cpu.pc ≡ false) × IsSilent (ran images stops k o.now) now k x)
 
 first_at : (images : List Entry) (stops : List ℕ) (o : StepOutcome) (k : ℕ) (now : MachineState) (x : Stop) (among : Bool) → o.now.halt ≡ None
     → is_among stops o.now.cpu.pc ≡ among
@@ -100,7 +100,7 @@ first_by images stops o k now x (Some h) still halted is =
 first_by images stops o k now x None still unhalted is =
     first_at images stops o k now x (is_among stops o.now.cpu.pc) unhalted refl is
 
-first_silent : (images : List Entry) (stops : List ℕ) (k : ℕ) (m now : MachineState) (x : Stop) → m.halt ≡ None → now.halt ≡ None
+pub first_silent : (images : List Entry) (stops : List ℕ) (k : ℕ) (m now : MachineState) (x : Stop) → m.halt ≡ None → now.halt ≡ None
     → IsSilent (ran images stops (suc k) m) now (suc k) x → FirstSilent images stops (machine_step images m) k now x
 first_silent images stops k m now x unhalted still is =
     let o = machine_step images m in
@@ -108,7 +108,7 @@ first_silent images stops k m now x unhalted still is =
     (subst (λ (q : Run). IsSilent q now (suc k) x) (ran_first images stops k m unhalted) is)
 
 -- no step is left
-rested : (images : List Entry) (stops : List ℕ) (m now : MachineState) (x : Stop) → m.halt ≡ None → IsSilent (ran images stops 0 m) now 0 x → m ≡ now
+pub rested : (images : List Entry) (stops : List ℕ) (m now : MachineState) (x : Stop) → m.halt ≡ None → IsSilent (ran images stops 0 m) now 0 x → m ≡ now
 rested images stops m now x unhalted is =
     let none : IsSilent (resting m stop.Budget) now 0 x =
     subst (λ (q : Run). IsSilent q now 0 x) (ran-none images stops m unhalted) is in none.machine
@@ -148,7 +148,7 @@ step_silent stubs labels g reported most s untold some real unprinted =
     ∙ (λ i. run_behind (text i) (unprinted i) (silent_behind g s o (rest_of stubs labels g (same i) (most - 1))))
 
 -- the states
-made_one : (s : ScriptState) (o : StepOutcome) (now : MachineState) (k : ℕ) → o.now.halt ≡ None
+pub made_one : (s : ScriptState) (o : StepOutcome) (now : MachineState) (k : ℕ) → o.now.halt ≡ None
     → script_after_silent (step_made s o) now k ≡ script_after_silent s now (suc k)
 made_one s o now k unhalted =
     let one = ap count_after unhalted in
@@ -156,7 +156,7 @@ made_one s o now k unhalted =
     let left : (s.left - count_after o.now.halt) - k ≡ s.left - suc k = omega (arith, one) in
     λ i. record s { machine = now; is_fresh = fresh i; left = left i }
 
-made_last : (s : ScriptState) (o : StepOutcome) → o.now.halt ≡ None → step_made s o ≡ script_after_silent s o.now 1
+pub made_last : (s : ScriptState) (o : StepOutcome) → o.now.halt ≡ None → step_made s o ≡ script_after_silent s o.now 1
 made_last s o unhalted =
     let one = ap count_after unhalted in
     let fresh : false ≡ (s.is_fresh && (1 == 0)) = stale s.is_fresh 0 in
@@ -180,7 +180,7 @@ goes_by s after g None reached among unhalted short clear is at =
     ap (λ (b : Bool). if b then Some end.Reached else (if is_among after.breaks after.machine.cpu.pc then Some (end.Stopped (stop.Break after.machine.cpu.pc)) else None)) (is ∙ short)
     ∙ ap (λ (b : Bool). if b then Some (end.Stopped (stop.Break after.machine.cpu.pc)) else None) (at ∙ clear)
 
-no_end : (s after : ScriptState) (g : RunGoal) → after.machine.halt ≡ None → is_reached g after.machine ≡ false
+pub no_end : (s after : ScriptState) (g : RunGoal) → after.machine.halt ≡ None → is_reached g after.machine ≡ false
     → is_among after.breaks after.machine.cpu.pc ≡ false → end_after [] g s after ≡ None
 unfolding end_after
 no_end s after g unhalted short clear =
@@ -193,7 +193,7 @@ abbrev StaysShort : List Entry → List ℕ → RunGoal → (MachineState → Ty
 StaysShort images stops g P = (m : MachineState) → P m → is_among stops (machine_step images m).now.cpu.pc ≡ false
     → P (machine_step images m).now × (is_reached g (machine_step images m).now ≡ false)
 
-abbrev Covers : List ℕ → List ℕ → Type 0
+abbrev pub Covers : List ℕ → List ℕ → Type 0
 Covers breaks stops = (at : ℕ) → is_among stops at ≡ false → is_among breaks at ≡ false
 
 silent_last_step : (stubs : List Stub) (labels : List ImageLabels) (g : RunGoal) (reported : Option ℕ) (most : ℕ) (s : ScriptState) (now : MachineState)
@@ -245,7 +245,7 @@ silent_on stubs labels g reported stops P (suc k) most s now x untold few unhalt
 
 -- A RUN AT WHOSE STEPS NOTHING LOOKS
 
-untold_by : (b : Bool) → not b ≡ true → b ≡ false
+pub untold_by : (b : Bool) → not b ≡ true → b ≡ false
 untold_by true is = absurd (cc)
 untold_by false is = refl
 
@@ -294,7 +294,7 @@ nowhere_run modes labels reported most n s now x unseen few unhalted after =
     (λ at clear. clear) (λ m holds clear. (tt, refl)) tt after.steps after.run after.state
 
 -- until a routine has come back, where the run stops at the address to which it goes back
-elsewhere : (stops : List ℕ) (address at : ℕ) → is_among stops address ≡ true → is_among stops at ≡ false → (at ≡ address → ⊥)
+pub elsewhere : (stops : List ℕ) (address at : ℕ) → is_among stops address ≡ true → is_among stops at ≡ false → (at ≡ address → ⊥)
 elsewhere stops address at ahead clear here =
     let no : true ≡ false = sym ahead ∙ (ap (is_among stops) (sym here) ∙ clear) in absurd (cc)
 

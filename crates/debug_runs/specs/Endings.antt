@@ -12,7 +12,7 @@ use Rattle.debug_runs.specs.declared.endings.EndKind.{EndKind}
 use Rattle.debug_runs.specs.declared.endings.EndKind.TheVariants as kind
 use Rattle.debug_runs.specs.declared.running.RunEnd.{RunEnd}
 use Rattle.debug_runs.specs.declared.running.RunEnd.TheVariants as end
-use Rattle.debug_tables.specs.declared.watches.WatchHit.{WatchHit}
+use Rattle.command_shell.specs.declared.watches.WatchHit.{WatchHit}
 
 -- STEP: where the machine stands, if all steps could be taken and were, else the stop line
 abbrev pub answer_of_steps : Bool → ScriptState → Stop → Answered

@@ -9,11 +9,11 @@ pub use Rattle.debug_tables.specs.StubNames
 pub use Rattle.debug_tables.specs.Stubs
 pub use Rattle.debug_tables.specs.WordWatches
 pub use Rattle.debug_tables.specs.counts
-pub use Rattle.debug_tables.specs.declared.stubs.Stub
+pub use Rattle.command_shell_lines.specs.declared.debug_words.stubs.Stub
 pub use Rattle.debug_tables.specs.declared.stubs.StubError
-pub use Rattle.debug_tables.specs.declared.stubs.StubRegister
-pub use Rattle.debug_tables.specs.declared.watches.WordWatchError
+pub use Rattle.command_shell.specs.declared.watches.WordWatchError
 pub mod Calls
+pub mod Courses
 pub mod Endings
 pub mod LastSteps
 pub mod Laws

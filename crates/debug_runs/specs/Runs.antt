@@ -18,7 +18,7 @@ use Rattle.debug_runs.specs.declared.running.RunEnd.{RunEnd}
 use Rattle.debug_runs.specs.declared.running.RunEnd.TheVariants as end
 use Rattle.debug_runs.specs.declared.running.RunGoal.{RunGoal}
 use Rattle.debug_runs.specs.declared.running.RunGoal.TheVariants as goal
-use Rattle.debug_tables.specs.declared.watches.WatchHit.{WatchHit}
+use Rattle.command_shell.specs.declared.watches.WatchHit.{WatchHit}
 
 -- a run without a goal ends where it is stopped
 abbrev pub is_reached : RunGoal → MachineState → Bool

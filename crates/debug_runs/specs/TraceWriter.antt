@@ -1,7 +1,8 @@
 -- What is shown of the steps of a line. Of an untraced line it is what they print. Of a traced line so
 -- many steps are shown at most, and of the others what they print alone.
-use Rattle.std.specs.Prelude.{ℕ, Bool, false, ◌-◌, ◌==◌, nat_lt, List, [], ◌++◌, codes, Option, Some, None, option_and_then, option_map, if◌then◌else◌}
+use Rattle.std.specs.Prelude.{ℕ, Bool, false, ◌-◌, ◌/◌, ◌==◌, nat_lt, length, List, [], ◌++◌, codes, Option, Some, None, option_and_then, option_map, if◌then◌else◌}
 use Rattle.std.specs.Fmt.{decimal}
+use Rattle.address_map.specs.Bytes.{Bytes}
 use Rattle.arm_core.specs.State.{State}
 use Rattle.debug_labels.specs.Labels.{ImageLabels}
 use Rattle.debug_labels.specs.Places.{LabelledPlace, place_of}
@@ -15,8 +16,9 @@ use Rattle.trace_text.specs.Columns.{below_text, columns_text}
 use Rattle.trace_text.specs.Core.{core_words}
 use Rattle.trace_text.specs.Instruction.{branch_destination, front_text, what_text}
 use Rattle.trace_text.specs.Step.{known_outside, step_end_text, step_text}
-use Rattle.debug_tables.specs.Stubs.{stub_ahead}
-use Rattle.debug_tables.specs.declared.stubs.Stub.{Stub}
+use Rattle.command_shell_lines.specs.declared.debug_words.stubs.Stub.{Stub}
+use Rattle.debug_tables.specs.Stubs.{StubDeedState, deed_ahead}
+use Rattle.trace_effects.specs.word_text.Stored.{stored_below, stored_here, word_values_from}
 
 -- `image:label:`, before a step at whose address a label stands
 abbrev pub step_label_line : Option LabelledPlace → List ℕ
@@ -42,21 +44,24 @@ label_ahead labels s =
 abbrev pub stub_words : State → State → List ℕ
 stub_words before after = codes " stub" ++ core_words (following_word before) before after
 
-abbrev pub stub_line : State → Cause → State → List ℕ
-stub_line before cause after =
-    columns_text (front_text before.pc cause) (what_text before.pc cause) (stub_words before after)
+-- and in words of memory, by what stood in them
+abbrev pub stub_line : State → Cause → State → Bytes → ℕ → List ℕ → List ℕ
+stub_line before cause after b at olds =
+    columns_text (front_text before.pc cause) (what_text before.pc cause)
+    (stub_words before after ++ stored_here b at olds) ++ stored_below b at olds
 
-abbrev pub stub_step_text : MachineState → MachineState → List ℕ
-stub_step_text s now = stub_line s.cpu (cause_of s.cpu s.store.bytes) now.cpu
+abbrev pub stub_step_text : StubDeedState → MachineState → MachineState → List ℕ
+stub_step_text deed s now = stub_line s.cpu (cause_of s.cpu s.store.bytes) now.cpu now.store.bytes deed.at
+    (word_values_from s.store.bytes deed.at (length deed.bytes / 4))
 
 -- all that can be shown of a step
-abbrev pub text_by_stub : List ImageLabels → MachineState → StepOutcome → Option Stub → List ℕ
-text_by_stub labels s o (Some stub) = stub_step_text s o.now
+abbrev pub text_by_stub : List ImageLabels → MachineState → StepOutcome → Option StubDeedState → List ℕ
+text_by_stub labels s o (Some deed) = stub_step_text deed s o.now
 text_by_stub labels s o None = step_text (label_ahead labels s) s o
 
 abbrev pub whole_step_text : List Stub → List ImageLabels → MachineState → StepOutcome → List ℕ
 whole_step_text stubs labels s o =
-    label_line_in labels s ++ text_by_stub labels s o (stub_ahead stubs s)
+    label_line_in labels s ++ text_by_stub labels s o (deed_ahead stubs s)
 
 -- a call from outside, before it is made, and behind it
 abbrev pub call_text_behind : List ℕ → MachineState → StepOutcome → List ℕ

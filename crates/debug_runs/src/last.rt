@@ -1,7 +1,6 @@
 //! A run whose last steps are shown, once it has ended.
 
-ghost use Rattle.std.specs.Prelude.{◌≡◌, ◌≤◌, ◌<◌, ◌+◌, ◌^◌, ◌++◌, None, List, IfOk, OnOk};
-ghost use Rattle.image_loader.specs.Entries.{Entry};
+ghost use Rattle.std.specs.Prelude.{◌≡◌, ◌≤◌, ◌<◌, ◌+◌, ◌^◌, ◌++◌, None, IfOk, OnOk};
 ghost use Rattle.command_shell.specs.Calls.{step_made};
 ghost use Rattle.command_shell.specs.Session.{script_state};
 ghost use Rattle.debug_tables.specs.counts.Counts.{steps_counted};
@@ -13,9 +12,8 @@ ghost use Rattle.debug_runs.specs.declared.running.RunGoal.TheVariants.{Nowhere}
 ghost use Rattle.profile.specs.text_sink.TextSink.{sink_text_of};
 
 use crate::context::StepContext;
-use crate::counted::{count_at, place_of};
 use crate::last_steps::{KeptStep, LastSteps};
-use crate::running::{RunEnd, RunGoal, end_after};
+use crate::running::{RunEnd, RunGoal, count_at, end_after};
 use crate::writer::TraceWriter;
 use command_shell::Session;
 use debug_tables::counts::StepCounts;
@@ -75,7 +73,7 @@ fn take_last(
     let mut left = most;
     while left > 0 {
         let words = context.modes.watches.words(session.machine().memory());
-        let place = place_of(session);
+        let place = session.machine().cpu().pc();
         take_one(alloc, printed, session, context, last)?;
         count_at(counts, place)?;
         left -= 1;

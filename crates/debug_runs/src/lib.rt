@@ -5,7 +5,7 @@
 #![tactic(auto)]
 
 mod context;
-mod counted;
+mod courses;
 mod endings;
 mod labelling;
 mod last;
@@ -18,6 +18,6 @@ mod stub_lines;
 mod writer;
 
 pub use debug_labels::{ImagePlace, LabelTable, PlaceNames};
+pub use debug_tables::StepModes;
 pub use debug_tables::counts::StepCounts;
-pub use debug_tables::{MOST_STUB_REGISTERS, StepModes, Stub, StubRegister};
 pub use lines::{LineAnswer, answer_stepping};

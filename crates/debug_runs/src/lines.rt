@@ -15,10 +15,9 @@ ghost use Rattle.debug_runs.specs.TraceWriter.{more_text};
 ghost use Rattle.debug_runs.specs.Reported.{HasAnswer, IsSteppingAnswer};
 
 use crate::context::StepContext;
-use crate::counted::run_steps;
 use crate::endings::{EndKind, print_line_end, print_refused};
 use crate::last::run_last;
-use crate::running::{RunEnd, RunGoal, take_call};
+use crate::running::{RunEnd, RunGoal, run_steps, take_call};
 use crate::writer::TraceWriter;
 use command_shell::{OutsideCall, Session};
 use debug_labels::LabelTable;
@@ -111,17 +110,16 @@ fn print_line(
         (stepping_request_of line.now)) counts.old) }
 {
     let left = session.left();
+    let goal = RunGoal::Nowhere;
     match *line {
         SteppingCommand::Run => {
             let kind = EndKind::Steps(false);
-            let goal = RunGoal::Nowhere;
             print_steps(writer, ending, session, context, counts, kind, goal, left)
         }
         SteppingCommand::Step(count) => {
             let count = u64::from(count);
             let kind = EndKind::Steps(count <= left);
             let most = count.min(left);
-            let goal = RunGoal::Nowhere;
             print_steps(writer, ending, session, context, counts, kind, goal, most)
         }
         SteppingCommand::Call(number) => {

@@ -2,26 +2,26 @@
 
 ghost use Rattle.std.specs.Prelude.{◌≡◌, ◌≤◌, ◌<◌, ◌-◌, ℕ, List, None, IfOk, OnOk};
 ghost use Rattle.image_loader.specs.Entries.{Entry};
-ghost use Rattle.address_map.specs.Memory.{bytes_of};
 ghost use Rattle.command_shell.specs.Calls.{first_step};
 ghost use Rattle.command_shell.specs.Session.{script_state};
 ghost use Rattle.command_shell.specs.State.{ScriptState};
-ghost use Rattle.debug_runs.specs.Runs.{are_unseen, call_run, end_after, end_of_unseen, is_reached, run_unless, steps_run, watched_end};
+ghost use Rattle.debug_runs.specs.Runs.{call_run, end_after, end_of_unseen, is_reached, steps_run, watched_end};
 ghost use Rattle.debug_runs.specs.Calls.{outside_text};
-ghost use Rattle.debug_runs.specs.Places.{places_of_call};
+ghost use Rattle.debug_runs.specs.Courses.{GoesOnBehind};
+ghost use Rattle.debug_runs.specs.Places.{places_of_call, places_of_run};
 ghost use Rattle.debug_runs.specs.Reported.{IsAfterStepping};
-ghost use Rattle.debug_tables.specs.counts.Counts.{steps_counted};
+ghost use Rattle.debug_tables.specs.counts.Counts.{step_counted, steps_counted};
 ghost use Rattle.debug_tables.specs.WordWatches.{watched_words};
 ghost use Rattle.swi_dispatch_guest.specs.GuestState.{state_of};
 
 use crate::context::StepContext;
-use crate::counted::run_steps;
+use crate::courses::take_courses;
 use crate::silent::take_silently;
 use crate::writer::{TraceWriter, is_step_shown};
 use command_shell::{Machine, OutsideCall, Session};
 use debug_tables::counts::StepCounts;
 use debug_tables::routines::ROUTINE_END;
-use debug_tables::{StepModes, WatchHit, WatchedWord, first_change};
+use debug_tables::{WatchHit, WatchedWord, first_change};
 use profile::{Stop, WriteFault};
 
 /// What a run is for.
@@ -46,29 +46,36 @@ pub enum RunEnd {
     Stopped(Stop),
 }
 
-/// Takes so many steps at most, until the goal is reached or the run is stopped, and counts none.
-pub(crate) fn take_steps(
+/// Takes so many steps at most, until the goal is reached or the run is stopped, and counts them
+/// where steps are counted.
+pub(crate) fn run_steps(
     writer: &mut TraceWriter,
     session: &mut Session,
     context: &StepContext<'_>,
+    counts: &mut StepCounts,
     goal: RunGoal,
     most: u64,
 ) -> Result<RunEnd, WriteFault>
     requires { most ≤ (script_state session.old context.now.images.now).left }
-    ensures { let images = context.now.images.now in
+    ensures ran { let images = context.now.images.now in
         IfOk result (λ end. IsAfterStepping
         (steps_run context.now.modes.now context.now.labels.now goal most writer.old.reported
         (script_state session.old images)) (script_state session.new images) writer.old writer.new end) }
+    ensures counted { OnOk result (counts.new ≡ steps_counted
+        (places_of_run context.now.modes.now goal most (script_state session.old context.now.images.now))
+        counts.old) }
 {
     let mut left = most;
     while left > 0 {
         let words = context.modes.watches.words(session.machine().memory());
+        let place = session.machine().cpu().pc();
         writer.step(session, context)?;
+        count_at(counts, place)?;
         left -= 1;
         if let Some(end) = end_after(session, goal, words.as_slice()) {
             return Ok(end);
         }
-        let (taken, end) = take_unseen(writer, session, context, goal, left);
+        let (taken, end) = take_unseen(writer, session, context, counts, goal, left)?;
         left -= taken;
         if let Some(end) = end {
             return Ok(end);
@@ -78,44 +85,34 @@ pub(crate) fn take_steps(
 }
 
 // Takes those of so many steps that come next and print nothing, as the machine's own run does, where
-// nothing looks at them. Answers how many, and why the run ends with them, if it does.
+// none is shown: as far as it goes where nothing looks at them, else by courses, and counts them. Answers
+// how many, and why the run ends with them, if it does.
 fn take_unseen(
     writer: &TraceWriter,
     session: &mut Session,
     context: &StepContext<'_>,
+    counts: &mut StepCounts,
     goal: RunGoal,
     most: u64,
-) -> (u64, Option<RunEnd>)
+) -> Result<(u64, Option<RunEnd>), WriteFault>
     requires enough { most ≤ (script_state session.old context.now.images.now).left }
     requires unhalted { (script_state session.old context.now.images.now).machine.halt ≡ None }
-    ensures rest { let modes = context.now.modes.now in let labels = context.now.labels.now in
-        let reported = writer.now.reported in
-        let now = script_state session.new context.now.images.now in
-        steps_run modes labels goal most reported (script_state session.old context.now.images.now)
-        ≡ run_unless now result.1 (steps_run modes labels goal (most - result.0) reported now) }
-    ensures count { result.0 ≤ most }
-    ensures enough { most - result.0 ≤ (script_state session.new context.now.images.now).left }
+    ensures { let images = context.now.images.now in let modes = context.now.modes.now in
+        IfOk result (λ t. GoesOnBehind modes context.now.labels.now goal writer.now.reported most
+        (script_state session.old images) counts.old t.0 t.1 (script_state session.new images) counts.new) }
 {
-    if most == 0 {
-        return (0, None);
+    if most == 0 || is_step_shown(writer.reported) {
+        return Ok((0, None));
     }
-    if !are_unseen(writer.reported, context.modes) {
-        return (0, None);
+    if counts.is_on() || !context.modes.watches.is_empty() {
+        return take_courses(session, context.modes, counts, goal, most);
     }
     let taken = take_silently(session, goal, most);
-    (taken, end_of_unseen(session, goal, taken))
+    Ok((taken, end_of_unseen(session, goal, taken)))
 }
 
-// Whether nothing looks at the instructions of a run of which so many steps are shown. A stub looks at
-// software interrupts alone, which the machine's own run doesn't take by itself.
-fn are_unseen(reported: Option<u64>, modes: &StepModes) -> bool
-    ensures { result ≡ are_unseen modes.now reported }
-{
-    !is_step_shown(reported) && modes.watches.is_empty()
-}
-
-// Why a run ends with so many steps at which nothing looked, if it does.
-fn end_of_unseen(session: &Session, goal: RunGoal, taken: u64) -> Option<RunEnd>
+/// Why a run ends with so many steps at which nothing looked, if it does.
+pub(crate) fn end_of_unseen(session: &Session, goal: RunGoal, taken: u64) -> Option<RunEnd>
     ensures { (images : List Entry)
         → result ≡ end_of_unseen goal (script_state session.now images) taken }
 {
@@ -124,6 +121,13 @@ fn end_of_unseen(session: &Session, goal: RunGoal, taken: u64) -> Option<RunEnd>
     } else {
         end_after(session, goal, &[])
     }
+}
+
+/// Counts a step at an address, where steps are counted.
+pub(crate) fn count_at(counts: &mut StepCounts, place: u32) -> Result<(), WriteFault>
+    ensures { OnOk result (counts.new ≡ step_counted counts.old place) }
+{
+    counts.count(place).or(Err(WriteFault))
 }
 
 /// Takes so many steps at most, the first of which is a call from outside, and counts the others

@@ -58,9 +58,9 @@ fn stay_open(session: &Session, count: usize) -> bool
     count < machine.frames()
 }
 
-// Takes such steps, of which none but the last comes to a break or to an address; none where the
-// table of breaks is full.
-fn take_up_to(session: &mut Session, address: u32, most: u64) -> u64
+/// Takes such steps, of which none but the last comes to a break or to an address; none where the
+/// table of breaks is full.
+pub(crate) fn take_up_to(session: &mut Session, address: u32, most: u64) -> u64
     requires some { 0 < most }
     requires enough { most ≤ session.old.left }
     requires unhalted { (state_of session.old.machine.guest).halt ≡ None }

@@ -6,33 +6,41 @@ ghost use Rattle.profile.specs.Output.{Writes};
 ghost use Rattle.trace_text.specs.Instruction.{front_text};
 ghost use Rattle.debug_runs.specs.TraceWriter.{stub_line, stub_words};
 ghost use Rattle.profile.specs.text_sink.TextSink.{sink_text_of};
+ghost use Rattle.swi_dispatch_guest.specs.GuestState.{state_of};
 
 use arm_core::Cpu;
+use command_shell::Machine;
 use profile::text_sink::TextSink;
 use profile::{Sink, WriteFault, push_all};
 use std::alloc::Global;
 use trace_effects::Cause;
 use trace_effects::changes::following_word;
+use trace_effects::word_text::{push_stored_below, push_stored_here};
 use trace_text::columns::push_line;
 use trace_text::core_text::push_core;
 use trace_text::instruction::{push_front, text_of};
 
-/// Writes the line of a step that a stub answered, by the core before it and after it, and what
-/// stood at the program counter.
+/// Writes the line of a step in whose place a stub did something, by the core before it and the machine
+/// after it, what stood at the program counter, and what stood in the words that were stored.
 pub(crate) fn push_stub_line<W: Sink>(
     alloc: Global,
     before: &Cpu,
     cause: Cause,
-    after: &Cpu,
+    after: &Machine,
+    at: u32,
+    old: &[u32],
     sink: &mut W,
 ) -> Result<(), WriteFault>
     ensures { OnOk result (Appends (W.contents sink.old) (W.contents sink.new)
-        (stub_line before.now cause after.now)) }
+        (stub_line before.now cause (state_of after.now.guest).cpu (state_of after.now.guest).store.bytes at
+        old.now)) }
 {
     let front = front_of(alloc, before.pc(), cause)?;
     let text = text_of(alloc, before.pc(), cause)?;
-    let words = stub_words(alloc, before, after)?;
-    push_line(sink, front.bytes(), text.bytes(), words.bytes())
+    let mut words = stub_words(alloc, before, after.cpu())?;
+    push_stored_here(&mut words, after.memory(), at, old)?;
+    push_line(sink, front.bytes(), text.bytes(), words.bytes())?;
+    push_stored_below(sink, after.memory(), at, old)
 }
 
 fn front_of(alloc: Global, pc: u32, cause: Cause) -> Result<TextSink, WriteFault>

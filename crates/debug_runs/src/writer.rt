@@ -8,7 +8,7 @@ ghost use Rattle.trace_text.specs.Start.{known_in};
 ghost use Rattle.trace_text.specs.Step.{known_outside};
 ghost use Rattle.image_loader.specs.Entries.{Entry};
 ghost use Rattle.profile.specs.Output.{Writes};
-ghost use Rattle.debug_runs.specs.Calls.{outside_start_text};
+ghost use Rattle.debug_runs.specs.Calls.{outside_start_text, outside_text};
 ghost use Rattle.debug_runs.specs.TraceWriter.{is_step_shown, more_text, one_answer, untold_text};
 ghost use Rattle.profile.specs.text_sink.TextSink.{sink_text_of};
 
@@ -16,13 +16,14 @@ use crate::context::StepContext;
 use crate::labelling::{label_ahead, push_label_line};
 use crate::stub_lines::push_stub_line;
 use command_shell::{Machine, OutsideCall, Session};
-use debug_tables::Stub;
+use debug_tables::StubDeed;
 use image_loader::Images;
 use itoa::Buffer;
 use profile::text_sink::TextSink;
 use profile::{Sink, WriteFault, push_all, push_parts};
 use std::alloc::Global;
-use trace_effects::Cause;
+use trace_effects::word_text::old_words;
+use trace_effects::{Cause, StoredWords};
 use trace_text::{StepStart, StoreCopy, push_prints_line};
 
 /// What is shown of the steps of a line, and what the guest prints in them.
@@ -41,9 +42,8 @@ impl TraceWriter {
     ghost use Rattle.command_shell.specs.Calls.{first_step, step_made};
     ghost use Rattle.swi_dispatch_guest.specs.Step.{machine_step};
     ghost use Rattle.trace_text.specs.Step.{step_text};
-    ghost use Rattle.debug_runs.specs.Calls.{outside_text};
     ghost use Rattle.debug_runs.specs.Runs.{next_step, text_of_next};
-    ghost use Rattle.debug_tables.specs.Stubs.{script_after_stub};
+    ghost use Rattle.debug_tables.specs.Stubs.{script_after_deed};
     ghost use Rattle.debug_runs.specs.TraceWriter.{answer_of_step, label_ahead, stub_step_text, whole_step_text};
     ghost use Rattle.debug_runs.specs.Reported.{IsAnswerOn};
 
@@ -165,7 +165,7 @@ impl TraceWriter {
     {
         push_label_line(context.labels, session.machine(), &mut self.text)?;
         match context.modes.stubs.ahead(session.machine()) {
-            Some(stub) => self.take_stubbed(session, stub),
+            Some(deed) => self.take_stubbed(session, &deed),
             None => self.take_stepped(session, context),
         }
     }
@@ -207,24 +207,31 @@ impl TraceWriter {
         push_all(&mut self.printed, printed.bytes())
     }
 
-    // A step that is shown, and that a stub answers.
-    fn take_stubbed(&mut self, session: &mut Session, stub: &Stub) -> Result<(), WriteFault>
+    // A step that is shown, and in whose place a stub does something.
+    fn take_stubbed(&mut self, session: &mut Session, deed: &StubDeed) -> Result<(), WriteFault>
         requires left { (images : List Entry) → 0 < (script_state session.old images).left }
         ensures state { (images : List Entry) → script_state session.new images
-            ≡ script_after_stub stub.now (script_state session.old images) }
+            ≡ script_after_deed deed.now (script_state session.old images) }
         ensures reported { (images : List Entry) → let s = (script_state session.old images).machine in
             OnOk result (IsAnswerOn self.old self.new
-            (stub_step_text s (script_state session.new images).machine) []) }
+            (stub_step_text deed.now s (script_state session.new images).machine) []) }
         ensures same { self.new.reported ≡ self.old.reported }
     {
         let core = *session.machine().cpu();
         let cause = Cause::of(session.machine().cpu(), session.machine().memory());
-        stub.act(session);
+        let words = StoredWords {
+            at: deed.stored_at(),
+            count: deed.stored_words(),
+        };
+        let old = old_words(session.machine().memory(), words);
+        deed.act(session);
         push_stub_line(
             self.alloc,
             &core,
             cause,
-            session.machine().cpu(),
+            session.machine(),
+            words.at,
+            old.as_slice(),
             &mut self.text,
         )
     }
@@ -245,10 +252,8 @@ impl TraceWriter {
         ensures same { self.new.reported ≡ self.old.reported }
     {
         let mut printed = TextSink::new(self.alloc);
-        context
-            .modes
-            .stubs
-            .take_step(session, context.images, &mut printed)?;
+        let stubs = &context.modes.stubs;
+        stubs.take_step(session, context.images, &mut printed)?;
         self.push_untold(printed.bytes())
     }
 
@@ -312,8 +317,7 @@ impl TraceWriter {
         push_all(&mut self.printed, printed)
     }
 
-    /// Says how many steps more were taken than shown, where so many were to be shown and so many
-    /// were taken.
+    /// Says how many steps more were taken than shown, of so many, where so many were to be shown.
     pub(crate) fn push_more(&mut self, reported: Option<u64>, taken: u64) -> Result<(), WriteFault>
         ensures { OnOk result (IsAnswerOn self.old self.new (more_text reported taken) []) }
     {

@@ -10,7 +10,8 @@ use Rattle.debug_lines.specs.DebugRequests.{DebugRequest, Script, Stepping, Mode
 use Rattle.debug_lines.specs.Repeats.{repeated_text}
 use Rattle.debug_lines.specs.SteppingRequests.{SteppingRequest}
 use Rattle.debug_lines.specs.Tidy.{tidied_line}
-use Rattle.debug_session.specs.DebugScript.{debug_line_answer, line_opens, plain_line_answer, repeated_answer, script_line_answer, script_line_answer_in, simple_line_answer, simple_request_answer, stepping_now, tidy_line_answer, tidy_line_answer_by, unless_quit}
+use Rattle.command_shell_lines.specs.FailedBlocks.{block_reason}
+use Rattle.debug_session.specs.DebugScript.{debug_line_answer, line_opens, plain_line_answer, repeated_answer, script_line_answer, script_line_answer_in, simple_line_answer, simple_request_answer, stepping_now, tidy_line_answer, tidy_line_answer_by, unless_quit, with_block_noted, with_line_below}
 use Rattle.debug_session.specs.DebugState.{DebugAnswered, DebugState, then_debugged}
 use Rattle.debug_session.specs.Naming.{if_repeatable, meant_request, naming_of, numbered_line, repeated_with_places, unless_alone}
 use Rattle.debug_session.specs.declared.session.DebugSettings.{DebugSettings}
@@ -48,9 +49,36 @@ script_alone_in : (o : Option SteppingRequest) (c : DebugSettings) (d : DebugSta
 script_alone_in (Some stepping) c d number r block other alone = refl
 script_alone_in None c d number r block other alone = plain_alone c d number r block other alone
 
+-- no block is noted
+noted_alone : (d : DebugState) (number : ℕ) (r : Request) (block other : List (List ℕ)) → opens_block r ≡ false
+    → with_block_noted d number r block ≡ with_block_noted d number r other
+noted_alone d number Nothing block other alone = refl
+noted_alone d number (Hex name) block other alone = refl
+noted_alone d number (Asm name origin) block other alone = absurd (cc)
+noted_alone d number (Boot name) block other alone = refl
+noted_alone d number Run block other alone = refl
+noted_alone d number Regs block other alone = refl
+noted_alone d number (Set register value) block other alone = refl
+noted_alone d number (Poke address value) block other alone = refl
+noted_alone d number (Call called) block other alone = refl
+noted_alone d number (Load text) block other alone = refl
+noted_alone d number (Step count) block other alone = refl
+noted_alone d number (Break address) block other alone = refl
+noted_alone d number (Unbreak address) block other alone = refl
+noted_alone d number (Mem address count) block other alone = refl
+noted_alone d number (Code address count) block other alone = refl
+noted_alone d number (Heap address) block other alone = refl
+noted_alone d number Areas block other alone = refl
+noted_alone d number Modules block other alone = refl
+noted_alone d number Flex block other alone = refl
+noted_alone d number Unknown block other alone = refl
+
 script_alone : (c : DebugSettings) (d : DebugState) (number : ℕ) (r : Request) (block other : List (List ℕ)) → opens_block r ≡ false
     → script_line_answer c d number r block ≡ script_line_answer c d number r other
-script_alone c d number r block other alone = script_alone_in (stepping_now d r) c d number r block other alone
+script_alone c d number r block other alone =
+    ap (λ (x : DebugAnswered). with_line_below c (block_reason d.failed d.script.images r) x)
+    (ap (λ (e : DebugState). script_line_answer_in (stepping_now d r) c e number r block) (noted_alone d number r block other alone)
+    ∙ script_alone_in (stepping_now d r) c (with_block_noted d number r other) number r block other alone)
 
 -- A TIDY LINE
 

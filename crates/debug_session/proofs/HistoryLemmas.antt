@@ -1,5 +1,6 @@
 -- The past of a debugging session is that of its machine, and changes no answer of other lines.
-use Rattle.std.proofs.Common.{◌≡◌, ℕ, ◌-◌, Bool, true, false, List, [], Option, Some, None, Result, Ok, Err, refl, sym, ◌∙◌, ap, subst, if◌then◌else◌}
+use Rattle.std.proofs.Common.{◌≡◌, ℕ, ◌-◌, Bool, true, false, List, [], Option, Some, None, Result, Ok, Err, refl, sym, ◌∙◌, ap, subst, if◌then◌else◌, ◌++◌}
+use Rattle.std.specs.Prelude.{IsSome}
 use Rattle.std.specs.Option.{option_map}
 use Rattle.image_loader.specs.Entries.{bytes_of_image}
 use Rattle.profile.specs.declared.fault.Fault.{Fault}
@@ -26,11 +27,15 @@ use Rattle.debug_history.specs.declared.search.PastFound.{PastFound}
 use Rattle.debug_history.specs.declared.search.Sought.TheVariants.{Stood}
 use Rattle.debug_history.proofs.LineNotedLemmas.{image_forgotten, noted_is_done, refused_block}
 use Rattle.debug_history.proofs.NotedLemmas.{deed_noted}
+use Rattle.command_shell_lines.specs.FailedBlocks.{block_reason}
 use Rattle.debug_modes.specs.Modes.{answer_of_line}
 use Rattle.debug_modes.specs.expectations.Checks.{check_answer, status_after_pattern}
 use Rattle.debug_modes.specs.expectations.Halted.{halting_fault}
-use Rattle.debug_modes.specs.expectations.reports.Reports.{report_of_refusal, with_refusal}
-use Rattle.debug_session.specs.DebugScript.{answer_or_refused, checked_answer, plain_line_answer, past_line_by, put_done, put_found, script_line_answer_in, seen_of, set_pc_by, state_after_line, state_with_answer, stepping_line_answer, stepping_now, write_done}
+use Rattle.debug_modes.specs.expectations.reports.Reports.{report_of_refusal, with_refusal, answer_in}
+use Rattle.debug_session.specs.DebugScript.{answer_or_refused, checked_answer, plain_line_answer, past_line_by, put_done, put_found, script_line_answer_in, seen_of, set_pc_by, state_after_line, state_with_answer, stepping_line_answer, stepping_now, write_done, with_block_noted}
+use Rattle.debug_runs.specs.Lines.{stepping_answer}
+use Rattle.debug_runs.proofs.PlainLemmas.{lines_are}
+use Rattle.debug_runs.proofs.TracedLemmas.{last_is_run, same_line}
 use Rattle.debug_session.specs.DebugState.{DebugAnswered, DebugState}
 use Rattle.debug_session.specs.History.{HistoryChangesNoAnswer, IsSameButPast, IsUnhaltedWhereFresh, PastIsOfTheMachine}
 use Rattle.debug_session.specs.declared.session.DebugSettings.{DebugSettings}
@@ -194,7 +199,7 @@ past_kept c d number words (Some command) was =
 
 pub past_is_of_the_machine : PastIsOfTheMachine
 past_is_of_the_machine c d number words block (own.Script r) up was =
-    line_kept c d number r block (stepping_now d r) up was
+    line_kept c (with_block_noted d number r block) number r block (stepping_now d r) up was
 past_is_of_the_machine c d number words block (own.Stepping is_traced r) up was = stepping_kept c d number is_traced r up was
 past_is_of_the_machine c d number words block (own.Mode r) up was = was
 past_is_of_the_machine c d number words block own.Remark up was = was
@@ -285,7 +290,13 @@ unknown_same c d p number words None none = record { text = refl; state = refl }
 unknown_same c d p number words (Some command) none = absurd (cc)
 
 pub history_changes_no_answer : HistoryChangesNoAnswer
-history_changes_no_answer c d p number words block (own.Script r) none = line_same c d p number r block (stepping_now d r)
+history_changes_no_answer c d p number words block (own.Script r) none =
+    let noted : DebugState = with_block_noted d number r block in
+    let same : Same p (script_line_answer_in (stepping_now d r) c (record noted { past = p }) number r block)
+    (script_line_answer_in (stepping_now d r) c noted number r block) = line_same c noted p number r block (stepping_now d r) in record {
+      text = ap (λ (xs : List ℕ). xs ++ answer_in c.form (block_reason d.failed d.script.images r)) same.text;
+      state = same.state;
+    }
 history_changes_no_answer c d p number words block (own.Stepping is_traced r) none = record { text = refl; state = refl }
 history_changes_no_answer c d p number words block (own.Mode r) none = record { text = refl; state = refl }
 history_changes_no_answer c d p number words block own.Remark none = record { text = refl; state = refl }

@@ -1,8 +1,8 @@
 -- What calls leave of a debugging session, by what those that they make leave.
-use Rattle.std.proofs.Common.{◌≡◌, ℕ, ◌-◌, Bool, true, false, List, [], Option, Some, Result, ap, refl, subst, sym, ◌∙◌}
+use Rattle.std.proofs.Common.{◌≡◌, ℕ, ◌-◌, Bool, true, false, List, [], ◌++◌, Option, Some, Result, ap, refl, subst, sym, ◌∙◌}
 use Rattle.std.specs.Prelude.{◌&&◌, ◌||◌, not, if◌then◌else◌, OnOk}
 use Rattle.std.specs.Io.KnownBytes.{Appends}
-use Rattle.profile.proofs.OutputLemmas.{Appends-nothing}
+use Rattle.profile.proofs.OutputLemmas.{Appends-join, Appends-nothing}
 use Rattle.debug_lines.specs.DebugRequests.{DebugRequest}
 use Rattle.profile.specs.declared.stop.Stop.{Stop}
 use Rattle.profile.specs.Status.{status_after}
@@ -11,11 +11,12 @@ use Rattle.debug_tables.specs.run_meter.Script.{request_answer}
 use Rattle.debug_tables.specs.run_meter.State.{Answered, IsAnswered, ScriptState}
 use Rattle.debug_tables.specs.run_meter.Memory.{script_with_budget}
 use Rattle.command_shell_lines.specs.Requests.{Request, Nothing, Hex, Asm, Boot, Run, Regs, Set, Poke, Call, Load, Step, Break, Unbreak, Mem, Code, Heap, Areas, Modules, Flex, Unknown, opens_block}
+use Rattle.command_shell_lines.specs.FailedBlocks.{FailedBlockPlace, block_reason}
 use Rattle.debug_modes.specs.expectations.Endings.{ending_of, output_of}
 use Rattle.debug_labels.specs.Labels.{ImageLabels}
 use Rattle.debug_modes.specs.declared.modes.DebugModes.{DebugModes}
 use Rattle.debug_session.specs.Naming.{labels_with_block}
-use Rattle.debug_session.specs.DebugScript.{machine_change_answer, checked_answer, labels_after, past_after_line, simple_request_answer, state_after_line, state_with_answer, script_line_answer_by, answer_or_refused, view_answer}
+use Rattle.debug_session.specs.DebugScript.{machine_change_answer, checked_answer, labels_after, past_after_line, simple_request_answer, state_after_line, state_with_answer, script_line_answer, script_line_answer_by, answer_or_refused, line_in_modes_answer, view_answer, with_block_noted}
 use Rattle.debug_history.specs.LineKinds.{asks_nothing, is_named_image, is_refused_block, takes_steps}
 use Rattle.debug_history.specs.Noted.{is_faulted, past_after_request}
 use Rattle.debug_history.specs.Past.{PastState}
@@ -94,10 +95,11 @@ answer_with before after now at_print c e line number refused text setting at re
     (subst (λ (n : ℕ). IsDebugged before after now (answer_or_refused c at_print n refused at_print text)) at reported)
 
 -- a state by its parts
-made : ScriptState → List ImageLabels → DebugModes → List ℕ → List ℕ → ℕ → CheckTally → Bool → PastState → DebugState
-made script labels modes answer output steps tally quit past = record {
+made : ScriptState → List ImageLabels → List FailedBlockPlace → DebugModes → List ℕ → List ℕ → ℕ → CheckTally → Bool → PastState → DebugState
+made script labels failed modes answer output steps tally quit past = record {
   script = script;
   labels = labels;
+  failed = failed;
   modes = modes;
   answer = answer;
   output = output;
@@ -107,10 +109,10 @@ made script labels modes answer output steps tally quit past = record {
   past = past;
 }
 
-made_same : (s s' : ScriptState) (l l' : List ImageLabels) (m m' : DebugModes) (a a' o o' : List ℕ) (n n' : ℕ) (t t' : CheckTally) (q q' : Bool) (p p' : PastState)
-    → s ≡ s' → l ≡ l' → m ≡ m' → a ≡ a' → o ≡ o' → n ≡ n' → t ≡ t' → q ≡ q' → p ≡ p'
-    → made s l m a o n t q p ≡ made s' l' m' a' o' n' t' q' p'
-made_same s s' l l' m m' a a' o o' n n' t t' q q' p p' script labels modes answer output steps tally quit past = cc
+made_same : (s s' : ScriptState) (l l' : List ImageLabels) (f f' : List FailedBlockPlace) (m m' : DebugModes) (a a' o o' : List ℕ) (n n' : ℕ) (t t' : CheckTally) (q q' : Bool) (p p' : PastState)
+    → s ≡ s' → l ≡ l' → f ≡ f' → m ≡ m' → a ≡ a' → o ≡ o' → n ≡ n' → t ≡ t' → q ≡ q' → p ≡ p'
+    → made s l f m a o n t q p ≡ made s' l' f' m' a' o' n' t' q' p'
+made_same s s' l l' f f' m m' a a' o o' n n' t t' q q' p p' script labels failed modes answer output steps tally quit past = cc
 
 by_takes : {A : Type 0} (takes other : Bool) (x x' y y' : A) → takes ≡ other → x ≡ x' → y ≡ y'
     → (if takes then x else y) ≡ (if other then x' else y')
@@ -138,11 +140,11 @@ pub session_noted : (old mid new : DebugSession) (images after : List Entry) (an
 unfolding made noted_state
 session_noted old mid new images after answer takes r reported first next kept printed counted is state text =
     ap (λ (s : DebugSession). debug_state s after) next
-    ∙ made_same (script_state mid.session after) reported.state mid.labels old.labels mid.modes old.modes new.answer.items
+    ∙ made_same (script_state mid.session after) reported.state mid.labels old.labels mid.failed old.failed mid.modes old.modes new.answer.items
     (if takes_steps r then ending_of reported.text else reported.text) new.output.items
     (if takes_steps r then output_of reported.text else old.output.items) new.steps
     (if takes_steps r then old.setting.budget - reported.state.left else old.steps) mid.tally old.tally mid.has_quit old.has_quit mid.past old.past
-    state (ap (λ (s : DebugSession). s.labels) first) (ap (λ (s : DebugSession). s.modes) first)
+    state (ap (λ (s : DebugSession). s.labels) first) (ap (λ (s : DebugSession). s.failed) first) (ap (λ (s : DebugSession). s.modes) first)
     (kept ∙ by_takes takes (takes_steps r) (ending_of answer) (ending_of reported.text) answer reported.text is (ap ending_of text) text)
     (printed ∙ by_takes takes (takes_steps r) (output_of answer) (output_of reported.text) mid.output.items old.output.items is
     (ap output_of text) (ap (λ (s : DebugSession). s.output.items) first))
@@ -337,3 +339,19 @@ view_after before after now d e c f text shown setting state same reported =
     subst (λ (x : DebugSettings). IsDebugged before after now (view_answer x e shown)) setting
     (subst (λ (x : DebugState). IsDebugged before after now (view_answer c x shown)) state
     (view_of_text before after now d c text shown same reported))
+
+-- an answer to a line of a script, and what stands below it
+pub line_below : (before mid after : Option (List ℕ)) (c e : DebugSettings) (d n now : DebugState) (number : ℕ) (r : Request)
+    (block : List (List ℕ)) (below : List ℕ) → e ≡ c → n ≡ with_block_noted d number r block
+    → below ≡ block_reason d.failed d.script.images r
+    → IsDebugged before mid now (line_in_modes_answer e n number r block) → Appends mid after (answer_in c.form below)
+    → IsDebugged before after now (script_line_answer c d number r block)
+line_below before mid after c e d n now number r block below setting noted is reported shown =
+    let under : ReportForm → List ℕ → DebugAnswered → DebugAnswered = λ form xs x. debug_answer x.state (x.text ++ answer_in form xs) in
+    let first : DebugAnswered = line_in_modes_answer e n number r block in
+    subst (λ (x : DebugAnswered). IsDebugged before after now x)
+    (λ i. under c.form (is i) (line_in_modes_answer (setting i) (noted i) number r block))
+    (record {
+      text = Appends-join before mid after first.text (answer_in c.form below) reported.text shown;
+      state = reported.state;
+    })

@@ -31,12 +31,12 @@ stepping_lines (suc more) [] = 0
 stepping_lines (suc more) (line ∷ rest) = (if takes_steps (request_of line) then 1 else 0)
     + stepping_lines more (lines_after (opens_block (request_of line)) rest)
 
--- Where no modes are set, as when a session begins, the answers to lines of a script alone, of which
+-- Where no modes are set, and no block had errors, as when a session begins, the answers to lines of a script alone, of which
 -- one at most takes steps and whose ASM blocks have programs, are the script's. (Each line may take the
 -- whole budget, where all lines of a script have one budget together.)
 abbrev pub ScriptAsBefore : Type 0
 ScriptAsBefore = (c : DebugSettings) (number : ℕ) (d : DebugState) (left : List (List ℕ))
-    → c.form ≡ Answers → d.has_quit ≡ false → takes_over d.modes ≡ false → d.script.left ≡ c.budget
+    → c.form ≡ Answers → d.has_quit ≡ false → takes_over d.modes ≡ false → d.failed ≡ [] → d.script.left ≡ c.budget
     → are_script_lines (length left) left ≡ true → stepping_lines (length left) left ≤ 1
     → (debug_lines_answer c number d left).text ≡ (lines_answer number d.script None left).text
 

@@ -1,6 +1,6 @@
 -- What a debugging script does and what it is answered, line by line, over the written machine. A
 -- line of a script is answered as in a script, but that each line may take the whole budget.
-use Rattle.std.specs.Prelude.{ℕ, zero, suc, ◌+◌, ◌-◌, ◌&&◌, ◌||◌, Bool, true, false, not, List, [], ◌∷◌, ◌++◌, length, codes, Option, Some, None, Result, Ok, Err, is_some, option_map, if◌then◌else◌}
+use Rattle.std.specs.Prelude.{ℕ, zero, suc, ◌+◌, ◌-◌, ◌&&◌, ◌||◌, Bool, true, false, not, List, [], ◌∷◌, ◌++◌, length, codes, Option, Some, None, Result, Ok, Err, is_some, nat_lt, option_map, if◌then◌else◌}
 use Rattle.std.specs.Str.Lines.{lines}
 use Rattle.image_loader.specs.Entries.{Entry, bytes_of_image, without_entry}
 use Rattle.debug_tables.specs.byte_writes.Find.{find_text}
@@ -9,12 +9,13 @@ use Rattle.command_shell_lines.specs.debug_words.NamedBytes.{bytes_written, name
 use Rattle.profile.specs.FaultNames.{fault_name}
 use Rattle.profile.specs.declared.fault.Fault.{Fault}
 use Rattle.debug_tables.specs.BlockErrorTexts.{text_with_errors}
+use Rattle.debug_tables.specs.BlockErrors.{block_errors}
 use Rattle.debug_tables.specs.run_meter.Answers.{refused_text, unknown_text}
 use Rattle.debug_tables.specs.run_meter.Memory.{script_at, script_started_anew, script_with_budget, script_with_status}
 use Rattle.debug_tables.specs.run_meter.Script.{request_answer}
 use Rattle.debug_tables.specs.run_meter.State.{Answered, ScriptState}
 use Rattle.command_shell_lines.specs.Blocks.{block_lines, lines_after, lines_taken}
-use Rattle.command_shell_lines.specs.Requests.{Request, request_of}
+use Rattle.command_shell_lines.specs.Requests.{Request, Asm, Hex, request_of}
 use Rattle.debug_modes.specs.expectations.Checks.{Seen, check_answer, status_after_pattern}
 use Rattle.debug_modes.specs.expectations.Halted.{halted_at_text, halting_fault}
 use Rattle.debug_modes.specs.expectations.Endings.{ending_of, output_of}
@@ -24,6 +25,7 @@ use Rattle.debug_lines.specs.ModeRequests.{ModeRequest}
 use Rattle.debug_lines.specs.SteppingRequests.{SteppingRequest, stepping_in}
 use Rattle.debug_modes.specs.Changes.{ModeAnswer, mode_answer}
 use Rattle.debug_modes.specs.Counting.{counts_text}
+use Rattle.command_shell_lines.specs.FailedBlocks.{FailedBlockPlace, block_reason, failed_after}
 use Rattle.debug_modes.specs.Modes.{takes_over}
 use Rattle.debug_session.specs.Stepping.{modes_after, note_of, stepping_in_modes}
 use Rattle.debug_lines.specs.Tidy.{tidied_line}
@@ -143,9 +145,33 @@ abbrev pub script_line_answer_in : Option SteppingRequest → DebugSettings → 
 script_line_answer_in (Some stepping) c d number request block = stepping_line_answer c d number false stepping
 script_line_answer_in None c d number request block = plain_line_answer c d number request block
 
+-- BLOCKS WITH ERRORS
+
+-- the blocks that had errors, after a line: with its block, if it has an ASM block with errors
+abbrev pub failed_with_block : List FailedBlockPlace → ℕ → Request → List (List ℕ) → List FailedBlockPlace
+failed_with_block failed number (Asm name origin) block =
+    failed_after failed name number (nat_lt 0 (length (block_errors block origin)))
+failed_with_block failed number (Hex name) block = failed_after failed name number false
+failed_with_block failed number request block = failed
+
+abbrev pub with_block_noted : DebugState → ℕ → Request → List (List ℕ) → DebugState
+with_block_noted d number request block =
+    record d { failed = failed_with_block d.failed number request block }
+
+-- an answer, and a line below it
+abbrev pub with_line_below : DebugSettings → List ℕ → DebugAnswered → DebugAnswered
+with_line_below c below reported = debug_answer reported.state (reported.text ++ answer_in c.form below)
+
+-- a line of a script, in the modes that are set
+abbrev pub line_in_modes_answer : DebugSettings → DebugState → ℕ → Request → List (List ℕ) → DebugAnswered
+line_in_modes_answer c d number request block =
+    script_line_answer_in (stepping_now d request) c d number request block
+
+-- Below one that boots or loads an image stands that a block of its name has errors, where that is so.
 abbrev pub script_line_answer : DebugSettings → DebugState → ℕ → Request → List (List ℕ) → DebugAnswered
 script_line_answer c d number request block =
-    script_line_answer_in (stepping_now d request) c d number request block
+    with_line_below c (block_reason d.failed d.script.images request)
+    (line_in_modes_answer c (with_block_noted d number request block) number request block)
 
 -- LINES OF ITS OWN
 

@@ -7,19 +7,21 @@ use Rattle.debug_tables.specs.run_meter.RunError.{RunError}
 use Rattle.debug_tables.specs.run_meter.RunError.TheVariants.{Memory, ReadFault, WriteFault, ScriptTooLong}
 use Rattle.debug_history.specs.Past.{PastState, past_from_start}
 use Rattle.debug_labels.specs.Labels.{ImageLabels}
+use Rattle.command_shell_lines.specs.FailedBlocks.{FailedBlockPlace}
 use Rattle.debug_modes.specs.Modes.{no_modes}
 use Rattle.debug_modes.specs.declared.modes.DebugModes.{DebugModes}
 use Rattle.debug_modes.specs.expectations.reports.Reports.{no_tally}
 use Rattle.debug_modes.specs.declared.expectations.reports.reports.CheckTally.{CheckTally}
 use Rattle.debug_session.specs.declared.session.DebugSettings.{DebugSettings}
 
--- What a debugging script works on: what a script does, the labels of the images that were assembled,
--- the modes in which lines that take steps are answered, the last answer of a line that is no EXPECT,
+-- What a debugging script works on: what a script does, the labels of the images that were assembled, the
+-- ASM blocks that had errors, the modes in which lines that take steps are answered, the last answer of a line that is no EXPECT,
 -- without what the guest printed, what it printed in the last line that takes steps, how many steps that
 -- took, the tally, whether QUIT was among the lines, and what was done to the machine.
 pub record DebugState : Type 0 where
   pub script : ScriptState
   pub labels : List ImageLabels
+  pub failed : List FailedBlockPlace
   pub modes : DebugModes
   pub answer : List ℕ
   pub output : List ℕ
@@ -54,6 +56,7 @@ abbrev pub debug_start_state : DebugSettings → List Entry → DebugState
 debug_start_state setting images = record {
   script = script_start_state setting.config images setting.budget;
   labels = [];
+  failed = [];
   modes = no_modes;
   answer = [];
   output = [];

@@ -272,7 +272,7 @@ impl DebugSession {
             DebugCommand::Stepping(is_traced, command) => {
                 self.stepping_line(images, sink, script.number(), is_traced, &command)
             }
-            DebugCommand::Mode(command) => self.mode_line(sink, &command),
+            DebugCommand::Mode(command) => self.mode_line(sink, command),
             DebugCommand::Remark => Ok(()),
             DebugCommand::View(view) => self.look(sink, view),
             DebugCommand::Form(form) => self.show_form(sink, form),

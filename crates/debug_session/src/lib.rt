@@ -17,7 +17,7 @@ mod stepping_lines;
 pub use debug_history::{CodeAddress, PastDeed, PastFound, Sought, is_faulted};
 pub use debug_modes::expectations::begins_ending;
 pub use debug_modes::expectations::reports::{CheckTally, ReportForm, push_missing_end};
-pub use debug_tables::Stub;
+pub use debug_tables::StubDeed;
 pub use debug_tables::byte_writes::put_bytes;
 pub use debug_tables::run_meter::RunMeter;
 pub use session::{DebugSession, DebugSettings};

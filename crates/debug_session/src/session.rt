@@ -4,6 +4,7 @@ ghost use Rattle.std.specs.Prelude.{◌≡◌, ◌+◌, false, List, [], Err, If
 ghost use Rattle.debug_tables.specs.run_meter.Error.{IsLineError};
 ghost use Rattle.profile.specs.Output.{AddsFront, Writes};
 
+use command_shell_lines::FailedBlocks;
 use debug_history::Past;
 use debug_labels::LabelTable;
 use debug_modes::DebugModes;
@@ -39,6 +40,7 @@ pub struct DebugSession {
     /// The script's own session, which a face may move on by itself.
     pub session: Session,
     pub(crate) labels: LabelTable,
+    pub(crate) failed: FailedBlocks,
     pub(crate) modes: DebugModes,
     pub(crate) answer: Vec<u8>,
     pub(crate) output: Vec<u8>,
@@ -76,6 +78,7 @@ impl DebugSession {
             setting,
             session: Session::on_fresh_machine(alloc, setting.config, setting.budget)?,
             labels: LabelTable::new(alloc),
+            failed: FailedBlocks::new(alloc),
             modes: DebugModes::new(alloc),
             answer: Vec::new(alloc),
             output: Vec::new(alloc),

@@ -15,6 +15,7 @@ use debug_history::{SteppingNote, StepsBefore, has_returned, is_faulted};
 use debug_lines::{ModeCommand, SteppingCommand, stepping_in};
 use debug_modes::expectations::reports::push_answer;
 use debug_runs::answer_stepping;
+use debug_tables::block_errors::errors_of_block;
 use debug_tables::run_meter::RunError;
 use image_loader::Images;
 use profile::text_lines::Lines;
@@ -24,11 +25,12 @@ use std::alloc::AllocError;
 impl DebugSession {
     ghost use Rattle.debug_tables.specs.run_meter.Session.{script_state};
     ghost use Rattle.image_loader.specs.Entries.{Entry};
-    ghost use Rattle.debug_session.specs.DebugScript.{counts_answer, mode_line_answer, script_line_answer, stepping_line_answer, stepping_now, stepping_answer_by};
+    ghost use Rattle.debug_session.specs.DebugScript.{counts_answer, line_in_modes_answer, mode_line_answer, script_line_answer, with_block_noted, stepping_line_answer, stepping_now, stepping_answer_by};
     ghost use Rattle.debug_session.specs.DebugState.{IsDebugged};
     ghost use Rattle.debug_session.specs.Session.{debug_state};
 
-    /// Answers what a line of a script asks for.
+    /// Answers what a line of a script asks for, and writes below it, where the line boots or loads an
+    /// image, that a block of its name has errors.
     pub(crate) fn script_line<W: Sink>(
         &mut self,
         images: &mut Images,
@@ -39,6 +41,50 @@ impl DebugSession {
         ensures reported { OnOk result (IsDebugged (W.contents sink.old) (W.contents sink.new)
             (debug_state self.new images.new)
             (script_line_answer self.old.setting (debug_state self.old images.old) script.old.number
+            (request_of_command command.now) (block_lines script.old.left))) }
+        ensures left { OnOk result (script.new.left
+            ≡ lines_after (opens_block (request_of_command command.now)) script.old.left) }
+        ensures number { OnOk result (script.new.number ≡ script.old.number
+            + lines_taken (opens_block (request_of_command command.now)) script.old.left) }
+        ensures setting { self.new.setting ≡ self.old.setting }
+        ensures ends { EndsAtOnce W.has_failed sink.old sink.new result }
+    {
+        let form = self.setting.form;
+        let below = self.failed.reason(self.alloc, images, command)?;
+        self.note_block(command, script)?;
+        self.line_in_modes(images, sink, command, script)?;
+        push_answer(sink, form, below.as_slice())?;
+        Ok(())
+    }
+
+    // Keeps whether a line's block has errors, if it is an ASM block.
+    fn note_block(&mut self, command: &ScriptCommand<'_>, block: &Lines) -> Result<(), AllocError>
+        ensures reported { (images : List Entry) → OnOk result (debug_state self.new images
+            ≡ with_block_noted (debug_state self.old images) block.now.number
+            (request_of_command command.now) (block_lines block.now.left)) }
+        ensures setting { self.new.setting ≡ self.old.setting }
+    {
+        match *command {
+            ScriptCommand::Asm(name, origin) => {
+                let errors = errors_of_block(self.alloc, block, origin)?;
+                self.failed.note(name, block.number(), errors.len() > 0)
+            }
+            ScriptCommand::Hex(name) => self.failed.note(name, block.number(), false),
+            _ => Ok(()),
+        }
+    }
+
+    // Answers what a line of a script asks for, in the modes that are set.
+    fn line_in_modes<W: Sink>(
+        &mut self,
+        images: &mut Images,
+        sink: &mut W,
+        command: &ScriptCommand<'_>,
+        script: &mut Lines,
+    ) -> Result<(), RunError>
+        ensures reported { OnOk result (IsDebugged (W.contents sink.old) (W.contents sink.new)
+            (debug_state self.new images.new)
+            (line_in_modes_answer self.old.setting (debug_state self.old images.old) script.old.number
             (request_of_command command.now) (block_lines script.old.left))) }
         ensures left { OnOk result (script.new.left
             ≡ lines_after (opens_block (request_of_command command.now)) script.old.left) }
@@ -173,11 +219,11 @@ impl DebugSession {
     pub(crate) fn mode_line<W: Sink>(
         &mut self,
         sink: &mut W,
-        command: &ModeCommand,
+        command: ModeCommand,
     ) -> Result<(), RunError>
         ensures reported { (images : List Entry) → OnOk result
             (IsDebugged (W.contents sink.old) (W.contents sink.new) (debug_state self.new images)
-            (mode_line_answer self.old.setting (debug_state self.old images) (mode_request_of command.now))) }
+            (mode_line_answer self.old.setting (debug_state self.old images) (mode_request_of command))) }
         ensures setting { self.new.setting ≡ self.old.setting }
         ensures ends { EndsAtOnce W.has_failed sink.old sink.new result }
     {

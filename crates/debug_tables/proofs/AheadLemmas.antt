@@ -2,9 +2,7 @@
 use Rattle.std.proofs.Common.{◌≡◌, ◌==◌, ℕ, Bool, true, false, Option, Some, None, Result, Ok, Err, refl, sym}
 use Rattle.std.proofs.lemmas.Bool.{false≢true}
 use Rattle.std.specs.Prelude.{if◌then◌else◌}
-use Rattle.std.specs.Option.{option_map}
 use Rattle.profile.specs.MemoryMap.{return_gate}
-use Rattle.profile.specs.declared.stop.Stop.{Stop}
 use Rattle.profile.specs.declared.fault.Fault.{Fault}
 use Rattle.address_map.specs.Bytes.{Bytes, word_loaded}
 use Rattle.arm_core.specs.Conditions.{condition_holds}
@@ -24,9 +22,7 @@ use Rattle.arm_decode.specs.declared.condition.Condition.{Condition}
 use Rattle.arm_step.specs.Step.{acted_if_decoded, executed_if_fetched, or_fault, result_of_action, result_of_step, result_of_word}
 use Rattle.arm_step.specs.Transfers.{result_of_transfer}
 use Rattle.arm_step.specs.Blocks.{result_of_block_transfer}
-use Rattle.debug_tables.specs.Stubs.{has_swi_form, swi_next, swi_decoded, swi_fetched, swi_in_action, swi_in_turn, swi_in_word, swi_unless_halted}
-use Rattle.command_shell.specs.MachineState.{stop_of}
-use Rattle.command_shell.specs.Halt.{Halt}
+use Rattle.debug_tables.specs.Stubs.{has_swi_form, swi_next, swi_decoded, swi_fetched, swi_in_action, swi_in_turn, swi_in_word}
 
 none_in_memory : (r : Result (State × Bytes) Fault) → swi_in_turn (or_fault r) ≡ None
 none_in_memory (Ok w) = refl
@@ -68,15 +64,6 @@ swi_unless_gate false owned s b r = swi_of_fetched owned s b r
 pub swi_of_step : (owned : ℕ → Bool) (s : State) (b : Bytes) → swi_in_turn (result_of_step owned s b) ≡ swi_next s b
 unfolding result_of_step
 swi_of_step owned s b = swi_unless_gate (s.pc == return_gate) owned s b (word_loaded b s.pc)
-
--- by why the machine is halted, if it is
-pub unhalted : (o : Option Halt) (swi : Option ℕ) → None ≡ option_map stop_of o → swi_unless_halted o swi ≡ swi
-unhalted None swi none = refl
-unhalted (Some h) swi none = absurd (cc)
-
-pub halted : (o : Option Halt) (swi : Option ℕ) (stop : Stop) → Some stop ≡ option_map stop_of o → None ≡ swi_unless_halted o swi
-halted None swi stop some = absurd (cc)
-halted (Some h) swi stop some = refl
 
 -- an action that its parts refuse, or that is no SWI
 unless : (refused : Option Fault) (c : Condition) (a : Action) → swi_in_action a ≡ None → swi_decoded (unless_refused refused (c, a)) ≡ None

@@ -5,7 +5,8 @@ pub mod Modes
 pub mod Routines
 pub mod StubNames
 pub mod Stubs
-pub mod WordWatches
+pub use Rattle.command_shell.specs.WordWatches
+pub mod WordCourses
 pub mod counts
 pub mod byte_writes
 pub mod run_meter

@@ -3,7 +3,7 @@
 ghost use Rattle.std.specs.Prelude.{◌≡◌};
 ghost use Rattle.address_map.specs.Memory.{bytes_of};
 ghost use Rattle.arm_decode.specs.Table.{form_of};
-ghost use Rattle.debug_tables.specs.Stubs.{has_swi_form, is_known_swi, swi_ahead, swi_next, swi_in_action, swi_in_word};
+ghost use Rattle.debug_tables.specs.Stubs.{has_swi_form, is_known_swi, swi_next, swi_in_action, swi_in_word};
 ghost use Rattle.command_shell.specs.GuestState.{state_of};
 
 use address_map::AddressMap;
@@ -14,17 +14,8 @@ use command_shell::Machine;
 use profile::SwiName;
 use profile::memory_map::RETURN_GATE;
 
-/// The number of the SWI that the next step calls, if it calls one.
-pub(crate) fn swi_ahead(machine: &Machine) -> Option<u32>
-    ensures { result ≡ swi_ahead (state_of machine.now.guest) }
-{
-    match machine.stop() {
-        None => swi_next(machine.cpu(), machine.memory()),
-        Some(_) => None,
-    }
-}
-
-fn swi_next(cpu: &Cpu, memory: &AddressMap) -> Option<u32>
+/// The number of the SWI that the core calls next, if it calls one.
+pub(crate) fn swi_next(cpu: &Cpu, memory: &AddressMap) -> Option<u32>
     ensures { result ≡ swi_next cpu.now (bytes_of memory.now) }
 {
     if cpu.pc() == RETURN_GATE {

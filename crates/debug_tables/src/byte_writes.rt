@@ -6,4 +6,5 @@ mod find;
 mod put;
 
 pub use find::find_text;
+pub(crate) use put::fits;
 pub use put::put_bytes;

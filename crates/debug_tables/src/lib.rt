@@ -13,13 +13,16 @@ pub mod counts;
 mod modes;
 pub mod routines;
 pub mod run_meter;
+mod step_words;
+mod stub_deeds;
 mod stubbing;
 mod stubs;
-mod watches;
 
 pub use block_error_texts::with_errors;
-pub use modes::StepModes;
-pub use stubs::{MOST_STUB_REGISTERS, MOST_STUBS, Stub, StubError, StubRegister, Stubs};
-pub use watches::{
+pub use command_shell::watches::{
     MOST_WATCHES, WatchHit, WatchedWord, WordWatchError, WordWatches, first_change, push_watch,
 };
+pub use modes::StepModes;
+pub use step_words::{WordCourse, word_course};
+pub use stub_deeds::{BankSetting, STUB_END, StubDeed};
+pub use stubs::{MOST_STUBS, StubError, Stubs};

@@ -3,7 +3,7 @@
 ghost use Rattle.std.specs.Prelude.{◌≡◌, []};
 
 use crate::stubs::Stubs;
-use crate::watches::WordWatches;
+use command_shell::watches::WordWatches;
 
 /// What a debugger does beside the steps of a line: SWIs that are answered by stubs, and words whose
 /// change ends a run.

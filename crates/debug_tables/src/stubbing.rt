@@ -1,23 +1,22 @@
 //! A step, or what a stub does in its place.
 
-ghost use Rattle.std.specs.Prelude.{◌≡◌, ◌<◌, ◌%◌, ◌^◌, true, List, OnOk, OnErr};
+ghost use Rattle.std.specs.Prelude.{◌≡◌, ◌<◌, true, List, OnOk, OnErr};
 ghost use Rattle.std.specs.Io.KnownBytes.{Appends};
 ghost use Rattle.image_loader.specs.Entries.{Entry};
 ghost use Rattle.command_shell.specs.Calls.{step_made};
 ghost use Rattle.command_shell.specs.Session.{script_state};
-ghost use Rattle.debug_tables.specs.Stubs.{script_after_stub, script_after_return, script_with_registers, stubbed_step};
+ghost use Rattle.debug_tables.specs.Stubs.{script_after_deed, script_with_settings, stubbed_step};
 
-use crate::stubs::{Stub, StubRegister, Stubs};
-use arm_core::{Mode, Psr};
+use crate::byte_writes::put_bytes;
+use crate::stub_deeds::{BankSetting, StubDeed};
+use crate::stubs::Stubs;
 use command_shell::Session;
 use image_loader::Images;
-use profile::memory_map::ADDRESS_LIMIT;
 use profile::{Sink, WriteFault};
 
 impl Stubs {
-    /// Takes a step, and writes what it prints. Where it calls a SWI that the machine doesn't have,
-    /// and that has a stub, the registers are set, and the guest goes on as after a call: V is
-    /// clear, and R14 of supervisor mode is the return address. That is one step too.
+    /// Takes a step, and writes what it prints. Where a stub does something in its place, that is one step
+    /// too.
     ///
     /// # Errors
     ///
@@ -38,8 +37,8 @@ impl Stubs {
         ensures same_flag { OnOk result (W.has_failed sink.new ≡ W.has_failed sink.old) }
     {
         match self.ahead(session.machine()) {
-            Some(stub) => {
-                stub.act(session);
+            Some(deed) => {
+                deed.act(session);
                 Ok(())
             }
             None => {
@@ -50,43 +49,27 @@ impl Stubs {
     }
 }
 
-impl Stub {
-    /// What the stub does in place of a step.
+impl StubDeed {
+    /// Does it in place of a step.
     pub fn act(&self, session: &mut Session)
         requires left { (images : List Entry) → 0 < (script_state session.old images).left }
         ensures { (images : List Entry) → script_state session.new images
-            ≡ script_after_stub self.now (script_state session.old images) }
+            ≡ script_after_deed self.now (script_state session.old images) }
     {
-        let cpu = session.machine().cpu();
-        let caller = cpu.psr();
-        let next = (cpu.pc() + 4) % ADDRESS_LIMIT;
         let left = session.left() - 1;
         session.set_budget(left);
-        set_registers(session, self.registers.as_slice());
-        go_back(session, caller, next);
+        let _written = put_bytes(session, self.at, self.bytes.as_slice());
+        set_registers(session, self.settings.as_slice());
+        session.set_psr(self.status);
+        session.set_pc(self.next);
     }
 }
 
-fn set_registers(session: &mut Session, registers: &[StubRegister])
+fn set_registers(session: &mut Session, settings: &[BankSetting])
     ensures { (images : List Entry) → script_state session.new images
-        ≡ script_with_registers registers.now (script_state session.old images) }
+        ≡ script_with_settings settings.now (script_state session.old images) }
 {
-    for set in registers {
-        session.set_register(set.register.number(), set.value);
+    for set in settings {
+        session.set_register_in(set.mode, set.register.number(), set.value);
     }
-}
-
-fn go_back(session: &mut Session, caller: Psr, next: u32)
-    requires aligned { next % 4 ≡ 0 }
-    requires inside { next < 2 ^ 26 }
-    ensures { (images : List Entry) → script_state session.new images
-        ≡ script_after_return caller next (script_state session.old images) }
-{
-    let status = session.machine().cpu().psr();
-    session.set_psr(Psr {
-        overflow: false,
-        ..status
-    });
-    session.set_register_in(Mode::Supervisor, 14, caller.bits() + next);
-    session.set_pc(next);
 }

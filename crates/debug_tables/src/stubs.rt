@@ -1,5 +1,5 @@
-//! Stubs, for SWIs that the machine doesn't have: registers are set, V is clear, and the guest goes
-//! on.
+//! Stubs, for SWIs that the machine doesn't have: registers are set and the guest goes on, or code of its
+//! own is entered.
 
 ghost use Rattle.std.specs.Prelude.{◌≡◌, ◌↔◌, ◌<◌, [], ◌∷◌, ◌++◌, IsTrue, IfSome, length};
 ghost use Rattle.std.specs.List.{remove};
@@ -8,17 +8,16 @@ ghost use Rattle.profile.specs.Outcome.{Leaves};
 ghost use Rattle.debug_tables.specs.StubNames.{stub_error_name};
 ghost use Rattle.command_shell.specs.GuestState.{state_of};
 
-use crate::ahead::{is_known_swi, swi_ahead};
+use crate::ahead::{is_known_swi, swi_next};
+use crate::byte_writes::fits;
+use crate::stub_deeds::{STUB_END, StubDeed, deed_of_stub, deed_unless_fetched};
 use arrayvec::ArrayVec;
 use command_shell::{Machine, without_x_bit};
-use command_shell_lines::RegisterNumber;
+use command_shell_lines::debug_words::Stub;
 use std::marker::Model;
 
-/// How many registers a stub can set.
-pub const MOST_STUB_REGISTERS: usize = 8;
-
 /// How many stubs there can be.
-pub const MOST_STUBS: usize = 16;
+pub const MOST_STUBS: usize = 64;
 
 /// Why a stub is not taken, or not taken away. Where several reasons hold, the first of this list is
 /// given.
@@ -26,7 +25,7 @@ pub const MOST_STUBS: usize = 16;
 pub enum StubError {
     /// The machine has the call, of its own or of a module's.
     Known,
-    /// There are 16 other stubs already.
+    /// There are 64 other stubs already.
     StubTableFull,
     /// There is no stub of that number.
     NoStub,
@@ -45,31 +44,7 @@ impl StubError {
     }
 }
 
-/// A register that a stub sets.
-#[derive(Clone, Copy, Debug)]
-pub struct StubRegister {
-    pub register: RegisterNumber,
-    pub value: u32,
-}
-
-impl Default for StubRegister {
-    fn default() -> StubRegister {
-        StubRegister {
-            register: RegisterNumber::new(0),
-            value: 0,
-        }
-    }
-}
-
-/// What a SWI does that the machine doesn't have: its number without the X bit, and the registers
-/// that it sets, one after another.
-#[derive(Default, Drop)]
-pub struct Stub {
-    pub number: u32,
-    pub registers: ArrayVec<StubRegister, MOST_STUB_REGISTERS>,
-}
-
-/// The stubs of a debugger, at most 16.
+/// The stubs of a debugger, at most 64.
 #[derive(Drop)]
 pub struct Stubs {
     table: ArrayVec<Stub, MOST_STUBS>,
@@ -77,17 +52,17 @@ pub struct Stubs {
 
 impl Model for Stubs {
     ghost use Rattle.std.specs.Prelude.{List, ◌≤◌, length};
-    ghost use Rattle.debug_tables.specs.declared.stubs.Stub.{Stub};
+    ghost use Rattle.command_shell_lines.specs.declared.debug_words.stubs.Stub.{Stub};
 
     ghost Value = { List Stub };
 
     ghost view = { λ s. s.table.items };
 
-    ghost invariant = { λ s. length s.table.items ≤ 16 };
+    ghost invariant = { λ s. length s.table.items ≤ 64 };
 }
 
 impl Stubs {
-    ghost use Rattle.debug_tables.specs.Stubs.{stub_ahead, stub_numbered, stub_place, stub_unless_known, with_one_more, with_stub, without_stub};
+    ghost use Rattle.debug_tables.specs.Stubs.{deed_ahead, deed_next, stub_numbered, stub_place, stub_unless_known, with_one_more, with_stub, without_stub};
 
     /// No stub.
     pub fn new() -> Stubs
@@ -171,22 +146,40 @@ impl Stubs {
         self.table.as_slice().get(place)
     }
 
-    /// The stub that the next step meets, if it meets one: it calls a SWI that the machine doesn't
-    /// have.
+    /// What a stub does in place of the next step, if one does: that calls a SWI which the machine doesn't
+    /// have, or the code of a stub has come back.
     #[tactic(auto, using(crate::proofs::StubLemmas::none_met))]
-    pub fn ahead(&self, machine: &Machine) -> Option<&Stub>
-        ensures { option_copied result ≡ stub_ahead self.now (state_of machine.now.guest) }
+    pub fn ahead(&self, machine: &Machine) -> Option<StubDeed>
+        ensures { result ≡ deed_ahead self.now (state_of machine.now.guest) }
     {
         if self.table.is_empty() {
             return None;
         }
-        match swi_ahead(machine) {
-            Some(number) => self.of_swi(machine, without_x_bit(number)),
-            None => None,
+        if machine.stop().is_some() {
+            return None;
+        }
+        let deed = self.deed_next(machine)?;
+        if fits(machine, deed.at, deed.bytes.as_slice()) {
+            Some(deed)
+        } else {
+            None
         }
     }
 
-    fn of_swi(&self, machine: &Machine, number: u32) -> Option<&Stub>
+    fn deed_next(&self, machine: &Machine) -> Option<StubDeed>
+        ensures { result ≡ deed_next self.now (state_of machine.now.guest) }
+    {
+        let cpu = machine.cpu();
+        let memory = machine.memory();
+        if cpu.pc() == STUB_END {
+            return deed_unless_fetched(cpu, memory);
+        }
+        let swi = swi_next(cpu, memory)?;
+        let stub = self.unless_known(machine, without_x_bit(swi))?;
+        Some(deed_of_stub(stub, cpu, swi))
+    }
+
+    fn unless_known(&self, machine: &Machine, number: u32) -> Option<&Stub>
         ensures { option_copied result ≡ stub_unless_known self.now (state_of machine.now.guest) number }
     {
         if is_known_swi(machine, number) {

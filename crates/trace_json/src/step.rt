@@ -27,7 +27,7 @@ use trace_moments::{
 pub enum StepKind {
     /// An instruction that is carried out or skipped, or can't be.
     Instruction,
-    /// A SWI that a stub answers.
+    /// A stub does something in place of the step.
     Stub,
     /// A store call, by its number without the X bit.
     Call(u32),
@@ -126,7 +126,7 @@ impl StepBefore {
         };
         let stored = words_at(alloc, memory, stored_words(cause, machine.cpu()))?;
         let copy = match kind {
-            StepKind::Instruction | StepKind::Stub => None,
+            StepKind::Instruction => None,
             _ => Some(MachineCopy::of(alloc, machine)?),
         };
         Ok(StepBefore {
@@ -189,7 +189,7 @@ impl StepBefore {
 
     /// Whether the step may have moved an image.
     pub fn may_move_images(&self) -> bool {
-        self.copy.is_some()
+        self.copy.is_some() && self.kind != StepKind::Stub
     }
 
     // How many of the frames that were open are open still.

@@ -53,7 +53,7 @@ TRACE wants a line that opens no block, or a number, ON, OFF, LIMIT n or LAST 1 
 FINISH stands alone
 GOSUB wants an address, as GOSUB &8010 or GOSUB routine
 PUT wants the name of an image and an address, as PUT table &9000
-STUB wants a SWI's number and up to 8 registers with their values, as STUB 6 R0 5
+STUB wants a SWI's number, registers, flags and words with values, or AT and an address, as STUB 6 R0 5 C=1
 UNSTUB wants a SWI's number, as UNSTUB 6
 WATCH wants a word's address, as WATCH &9000
 UNWATCH wants a word's address, as UNWATCH &9000

@@ -7,7 +7,7 @@ use Rattle.debug_modes.specs.expectations.Checks.{Seen, no_line_reason, output_r
 use Rattle.debug_modes.specs.declared.expectations.checks.Mismatch.{Mismatch}
 use Rattle.debug_modes.specs.declared.expectations.checks.Mismatch.TheVariants as reason
 use Rattle.debug_modes.specs.declared.expectations.checks.SeenMachine.{SeenMachine}
-use Rattle.swi_dispatch_guest.specs.GuestState.{state_of}
+use Rattle.command_shell.specs.GuestState.{state_of}
 
 abbrev pub or_unmapped : (ℕ → List ℕ) → Option ℕ → List ℕ
 or_unmapped text (Some value) = text value

@@ -1,7 +1,7 @@
 -- Bytes written from outside, at any address. Memory is stored to by whole words, as a guest's stores
 -- would, each with what stands beside the bytes in it. Where one of the words can't be stored to, none
 -- is.
-use Rattle.std.specs.Prelude.{◌≡◌, ℕ, Bool, zero, suc, ◌+◌, ◌/◌, ◌%◌, List, [], ◌∷◌, length, Option, Some, None, Result, Ok}
+use Rattle.std.specs.Prelude.{◌≡◌, ℕ, Bool, true, zero, suc, ◌+◌, ◌/◌, ◌%◌, List, [], ◌∷◌, length, Option, Some, None, is_none, Result, Ok}
 use Rattle.profile.specs.declared.fault.Fault.{Fault}
 use Rattle.address_map.specs.Bytes.{Bytes, ok_unless_fault, store_fault, with_bytes, word_start}
 use Rattle.command_shell.specs.Memory.{script_with_machine}
@@ -26,6 +26,11 @@ word_count at len = (at % 4 + len + 3) / 4
 -- the fault that bytes meet: that of the first of their words which refuses
 abbrev pub put_fault : Store → ℕ → ℕ → Option Fault
 put_fault s at len = words_fault (owned_in s) s.bytes (word_start at) (word_count at len)
+
+-- whether bytes can be written to an address
+abbrev pub bytes_fit : Store → ℕ → List ℕ → Bool
+bytes_fit store at [] = true
+bytes_fit store at (byte ∷ bytes) = is_none (put_fault store at (length (byte ∷ bytes)))
 
 -- the state with other bytes in memory, the first of them at an address
 abbrev pub script_with_bytes : ScriptState → ℕ → List ℕ → ScriptState

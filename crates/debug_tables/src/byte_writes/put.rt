@@ -3,14 +3,14 @@
 ghost use Rattle.std.specs.Prelude.{◌≡◌, ◌<◌, ◌≤◌, ◌+◌, ◌%◌, ◌^◌, None, List, length};
 ghost use Rattle.address_map.specs.Bytes.{store_fault as store_fault_shown, with_bytes_at};
 ghost use Rattle.address_map.specs.Memory.{byte_at, bytes_of, is_owned};
-ghost use Rattle.debug_tables.specs.byte_writes.Put.{IsWordOf, put_fault as put_fault_shown, script_after_put, script_with_bytes, word_count as word_count_shown, words_fault as words_fault_shown};
+ghost use Rattle.debug_tables.specs.byte_writes.Put.{IsWordOf, bytes_fit, put_fault as put_fault_shown, script_after_put, script_with_bytes, word_count as word_count_shown, words_fault as words_fault_shown};
 ghost use Rattle.command_shell.specs.Session.{script_state};
 ghost use Rattle.image_loader.specs.Entries.{Entry};
 ghost use Rattle.profile.specs.Outcome.{Leaves};
 ghost use Rattle.command_shell.specs.GuestState.{state_of};
 
 use address_map::AddressMap;
-use command_shell::Session;
+use command_shell::{Machine, Session};
 use profile::Fault;
 
 /// Writes bytes to memory, the first of them at an address: all of them, or none. The words that they
@@ -28,7 +28,7 @@ pub fn put_bytes(session: &mut Session, at: u32, bytes: &[u8]) -> Result<(), Fau
     if bytes.is_empty() {
         return Ok(());
     }
-    match put_fault(session, at, bytes) {
+    match put_fault(session.machine(), at, bytes) {
         Some(fault) => Err(fault),
         None => {
             store_words(session, at, bytes);
@@ -37,11 +37,17 @@ pub fn put_bytes(session: &mut Session, at: u32, bytes: &[u8]) -> Result<(), Fau
     }
 }
 
-// The fault that bytes meet.
-fn put_fault(session: &Session, at: u32, bytes: &[u8]) -> Option<Fault>
-    ensures { result ≡ put_fault_shown (state_of session.now.machine.guest).store at (length bytes.now) }
+/// Whether bytes can be written to an address.
+pub(crate) fn fits(machine: &Machine, at: u32, bytes: &[u8]) -> bool
+    ensures { result ≡ bytes_fit (state_of machine.now.guest).store at bytes.now }
 {
-    let machine = session.machine();
+    bytes.is_empty() || put_fault(machine, at, bytes).is_none()
+}
+
+// The fault that bytes meet.
+fn put_fault(machine: &Machine, at: u32, bytes: &[u8]) -> Option<Fault>
+    ensures { result ≡ put_fault_shown (state_of machine.now.guest).store at (length bytes.now) }
+{
     machine.known();
     words_fault(machine.memory(), at - at % 4, word_count(at, bytes))
 }

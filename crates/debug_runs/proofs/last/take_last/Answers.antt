@@ -1,5 +1,6 @@
 -- By the lemmas that are named.
 use Rattle.std.proofs.Common.{◌≡◌, ◌<◌, ◌-◌, ◌^◌, None, Some, sym, ap, ◌∙◌, arith}
+use Rattle.arm_core.specs.State.{State}
 use Rattle.command_shell.specs.Value.{MachineValue}
 use Rattle.swi_dispatch_guest.specs.GuestState.{state_of}
 use Rattle.command_shell.specs.Session.{script_state}
@@ -36,7 +37,7 @@ loop-left-preserved c =
       kept = last_on modes labels c.loop-left.left s next c.loop-left.last c.take_one.new.last some made none c.in_ok-take_one.ensures.last
           ∙ c.loop-left.invariant.kept;
       counted = counts_on modes Nowhere c.loop-left.left s next c.loop-left.counts c.count_at.new.counts some made none
-          (c.in_ok-count_at.ensures ∙ ap (step_counted c.loop-left.counts) (c.place_of-place.ensures images))
+          (c.in_ok-count_at.ensures ∙ ap (step_counted c.loop-left.counts) (c.pc-place.ensures.value ∙ (ap (λ (t : State). t.pc) c.cpu.ensures ∙ ap (λ (m : MachineValue). (state_of m.guest).cpu.pc) c.machine-in-loop-left.ensures)))
           ∙ c.loop-left.invariant.counted;
     }
 
@@ -82,7 +83,7 @@ returns-in-Some-clause-counted c =
     ∙ ap (watched_words modes.watches) (c.memory.ensures.bytes ∙ ap (λ (m : MachineValue). (state_of m.guest).store.bytes) c.machine.ensures)) in
     let over : end_after modes.watches Nowhere s next ≡ Some c.in-Some.end = sym (c.end_after.ensures images s modes.watches words) ∙ c.in-Some.is in
     counts_stop modes Nowhere c.loop-left.left s next c.loop-left.counts c.count_at.new.counts c.in-Some.end some c.in_ok-take_one.ensures.state over
-    (c.in_ok-count_at.ensures ∙ ap (step_counted c.loop-left.counts) (c.place_of-place.ensures images))
+    (c.in_ok-count_at.ensures ∙ ap (step_counted c.loop-left.counts) (c.pc-place.ensures.value ∙ (ap (λ (t : State). t.pc) c.cpu.ensures ∙ ap (λ (m : MachineValue). (state_of m.guest).cpu.pc) c.machine-in-loop-left.ensures)))
     ∙ c.loop-left.invariant.counted
 
 pub returns-clause-ran : goal.returns-clause-ran

@@ -8,7 +8,7 @@ use Rattle.swi_dispatch_guest.specs.GuestState.{state_of}
 use Rattle.command_shell.specs.Session.{script_state}
 use Rattle.debug_runs.specs.Runs.{end_after, is_reached, watched_end}
 use Rattle.debug_tables.specs.WordWatches.{change_of_word}
-use Rattle.debug_tables.specs.declared.watches.WatchHit.{WatchHit}
+use Rattle.command_shell.specs.declared.watches.WatchHit.{WatchHit}
 use Rattle.debug_runs.proofs.RunLemmas.{end_halted, end_reached, end_watched, hits}
 use Rattle.debug_runs.proofs.running.end_after.Goals as goal
 

@@ -1,6 +1,6 @@
 use Rattle.std.specs.Prelude.{codes}
 use Rattle.debug_tables.specs.Routines.{step_count_text}
-use Rattle.debug_tables.proofs.TextLemmas.{two_flags, two_texts}
+use Rattle.command_shell.proofs.TextLemmas.{two_flags, two_texts}
 use Rattle.debug_tables.proofs.routines.print_returned.Goals as goal
 
 pub returns : goal.returns

@@ -10,4 +10,4 @@ returns c =
     let map : AddressMap = c.memory.result.now in
     let owned : is_owned map ≡ owned_in (store_of map) =
     owned_marks map (subst AreClasses (sym c.memory.ensures.map) c.known.ensures.guest.well_formed.classes) in
-    cc (c.memory.ensures.store, c.memory.ensures.bytes, c.machine-machine.ensures, c.words_fault.ensures, c.word_count.ensures)
+    cc (c.memory.ensures.store, c.memory.ensures.bytes, c.words_fault.ensures, c.word_count.ensures)

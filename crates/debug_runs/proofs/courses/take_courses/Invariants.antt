@@ -1,0 +1,22 @@
+use Rattle.std.proofs.Common.{◌≡◌, ◌≤◌, ◌-◌, ℕ, false, List, Option, None}
+use Rattle.debug_labels.specs.Labels.{ImageLabels}
+use Rattle.image_loader.specs.Entries.{Entry}
+use Rattle.swi_dispatch_guest.specs.GuestState.{state_of}
+use Rattle.command_shell.specs.Session.{script_state}
+use Rattle.debug_runs.specs.Courses.{GoesOnBehind}
+use Rattle.debug_runs.specs.TraceWriter.{is_step_shown}
+use Rattle.debug_runs.proofs.courses.take_courses.Given as goal
+
+-- the run goes on behind the steps so far
+abbrev pub invariant-loop-left : goal.invariant-loop-left
+invariant-loop-left l = record {
+  so_far : (images : List Entry) (labels : List ImageLabels) (reported : Option ℕ) → is_step_shown reported ≡ false
+      → GoesOnBehind l.modes labels l.goal reported l.most (script_state l.fn.session images) l.fn.counts (l.most - l.left) None
+      (script_state l.session images) l.counts;
+  few : l.left ≤ l.most;
+  enough : l.left ≤ l.session.left;
+  unhalted : (state_of l.session.machine.guest).halt ≡ None;
+}
+
+abbrev pub decreases-loop-left : goal.decreases-loop-left
+decreases-loop-left l = l.left

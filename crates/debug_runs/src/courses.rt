@@ -1,0 +1,151 @@
+//! Steps of a run that go through words in a row, and those of a loop over them: memory stays until the
+//! last of them at least, so that no watched word changes, and where each step begins is known.
+
+ghost use Rattle.std.specs.Prelude.{◌≡◌, ◌≤◌, ◌<◌, ◌+◌, ◌*◌, ◌-◌, ◌^◌, ℕ, Option, None, false, List, IfOk, OnOk};
+ghost use Rattle.image_loader.specs.Entries.{Entry};
+ghost use Rattle.command_shell.specs.Session.{script_state};
+ghost use Rattle.debug_tables.specs.counts.Counts.{steps_counted};
+ghost use Rattle.debug_labels.specs.Labels.{ImageLabels};
+ghost use Rattle.debug_runs.specs.Courses.{GoesOnBehind, IsAfterCourse, IsCourse, course_places, stays_short};
+ghost use Rattle.debug_runs.specs.TraceWriter.{is_step_shown};
+ghost use Rattle.swi_dispatch_guest.specs.GuestState.{state_of};
+
+use crate::running::{RunEnd, RunGoal, count_at, end_of_unseen};
+use crate::silent::take_up_to;
+use command_shell::{Machine, Session};
+use debug_tables::counts::StepCounts;
+use debug_tables::routines::ROUTINE_END;
+use debug_tables::{StepModes, WordCourse, word_course};
+use profile::WriteFault;
+use profile::memory_map::ADDRESS_LIMIT;
+
+/// How many words in a row are looked at.
+const MOST_WORDS: u32 = 64;
+
+/// Words in a row through which steps go: so many from an address on. In a loop they begin again at the
+/// first, unless they go on behind the last.
+#[derive(Clone, Copy, Debug)]
+pub(crate) struct Course {
+    start: u32,
+    count: u32,
+    is_loop: bool,
+}
+
+/// The course that begins where a machine stands. Memory stays at its last word too, where it is to.
+fn course_ahead(machine: &Machine, stays: bool) -> Course
+    ensures { let s = state_of machine.now.guest in IsCourse stays s.store.bytes s.cpu.pc result }
+{
+    let memory = machine.memory();
+    let mut row = Course {
+        start: machine.cpu().pc(),
+        count: 0,
+        is_loop: false,
+    };
+    while row.count < MOST_WORDS {
+        let at = row.start + 4 * row.count;
+        let Ok(word) = memory.load_word(at) else {
+            return row;
+        };
+        match word_course(at, word) {
+            WordCourse::Straight => row.count += 1,
+            WordCourse::Stores if stays => return row,
+            WordCourse::Branches(to) if to == row.start && at + 4 < ADDRESS_LIMIT => {
+                row.count += 1;
+                row.is_loop = true;
+                return row;
+            }
+            _ => {
+                row.count += 1;
+                return row;
+            }
+        }
+    }
+    row
+}
+
+/// Takes those of so many steps that go through courses, as the machine's own run does, as long as none
+/// before the last of a course can reach the goal, and counts them where steps are counted. Answers how
+/// many, and why the run ends with them, if it does.
+pub(crate) fn take_courses(
+    session: &mut Session,
+    modes: &StepModes,
+    counts: &mut StepCounts,
+    goal: RunGoal,
+    most: u64,
+) -> Result<(u64, Option<RunEnd>), WriteFault>
+    requires enough { most ≤ session.old.left }
+    requires unhalted { (state_of session.old.machine.guest).halt ≡ None }
+    ensures { (images : List Entry) (labels : List ImageLabels) (reported : Option ℕ)
+        → is_step_shown reported ≡ false → IfOk result (λ t. GoesOnBehind modes.now labels goal reported most
+        (script_state session.old images) counts.old t.0 t.1 (script_state session.new images) counts.new) }
+{
+    let mut left = most;
+    while left > 0 {
+        let course = course_ahead(session.machine(), !modes.watches.is_empty());
+        let taken = take_course(session, course, goal, left);
+        if taken == 0 {
+            return Ok((most - left, None));
+        }
+        count_course(counts, course, taken)?;
+        left -= taken;
+        if let Some(end) = end_of_unseen(session, goal, taken) {
+            return Ok((most - left, Some(end)));
+        }
+    }
+    Ok((most - left, None))
+}
+
+// Takes those of so many steps that go through a course, if none before the last can reach the goal.
+// Answers how many.
+fn take_course(session: &mut Session, course: Course, goal: RunGoal, most: u64) -> u64
+    requires some { 0 < most }
+    requires enough { most ≤ session.old.left }
+    requires unhalted { (state_of session.old.machine.guest).halt ≡ None }
+    requires inside { course.start + 4 * course.count ≤ 2 ^ 26 }
+    ensures taken { (images : List Entry) → IsAfterCourse goal course
+        (script_state session.old images) (script_state session.new images) result }
+    ensures count { result ≤ most }
+{
+    let end = course.start + 4 * course.count;
+    if course.count == 0 || !stays_short(goal, session.machine(), end) {
+        return 0;
+    }
+    if course.is_loop {
+        return take_up_to(session, end, most);
+    }
+    session
+        .take_silent_steps(most.min(u64::from(course.count)))
+        .taken
+}
+
+// Whether no step of a course before the last can reach a goal, where the course ends before an address.
+fn stays_short(goal: RunGoal, machine: &Machine, end: u32) -> bool
+    ensures { result ≡ stays_short goal end (state_of machine.now.guest) }
+{
+    match goal {
+        RunGoal::Nowhere => true,
+        RunGoal::Frames(count) => machine.frames() != count,
+        RunGoal::Routine(count) => machine.frames() != count || end <= ROUTINE_END,
+    }
+}
+
+// Counts so many steps that begin at the words of a course, the first at its first word.
+#[tactic(auto, using(crate::proofs::CourseLemmas::count_on))]
+fn count_course(counts: &mut StepCounts, course: Course, taken: u64) -> Result<(), WriteFault>
+    requires some { 0 < course.count }
+    requires inside { course.start + 4 * course.count ≤ 2 ^ 26 }
+    ensures { OnOk result (counts.new ≡ steps_counted (course_places course 0 taken) counts.old) }
+{
+    if !counts.is_on() {
+        return Ok(());
+    }
+    let mut word = 0;
+    for _step in 0..taken {
+        count_at(counts, course.start + 4 * word)?;
+        word += 1;
+        if word == course.count {
+            word = 0;
+        }
+    }
+    Ok(())
+}
