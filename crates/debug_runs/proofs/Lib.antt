@@ -1,6 +1,6 @@
 pub mod BreakLemmas
 pub mod CoreStepLemmas
-pub mod CourseLemmas
+pub mod BasicBlockLemmas
 pub mod LastLemmas
 pub mod LineLemmas
 pub mod PlaceLemmas

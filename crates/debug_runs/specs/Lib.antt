@@ -13,7 +13,7 @@ pub use Rattle.command_shell_lines.specs.declared.debug_words.stubs.Stub
 pub use Rattle.debug_tables.specs.declared.stubs.StubError
 pub use Rattle.command_shell.specs.declared.watches.WordWatchError
 pub mod Calls
-pub mod Courses
+pub mod BasicBlocks
 pub mod Endings
 pub mod LastSteps
 pub mod Laws

@@ -5,7 +5,7 @@
 #![tactic(auto)]
 
 mod context;
-mod courses;
+mod basic_blocks;
 mod endings;
 mod labelling;
 mod last;

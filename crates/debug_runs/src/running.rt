@@ -7,7 +7,7 @@ ghost use Rattle.command_shell.specs.Session.{script_state};
 ghost use Rattle.command_shell.specs.State.{ScriptState};
 ghost use Rattle.debug_runs.specs.Runs.{call_run, end_after, end_of_unseen, is_reached, steps_run, watched_end};
 ghost use Rattle.debug_runs.specs.Calls.{outside_text};
-ghost use Rattle.debug_runs.specs.Courses.{GoesOnBehind};
+ghost use Rattle.debug_runs.specs.BasicBlocks.{RunsOnBehind};
 ghost use Rattle.debug_runs.specs.Places.{places_of_call, places_of_run};
 ghost use Rattle.debug_runs.specs.Reported.{IsAfterStepping};
 ghost use Rattle.debug_tables.specs.counts.Counts.{step_counted, steps_counted};
@@ -15,7 +15,7 @@ ghost use Rattle.debug_tables.specs.WordWatches.{watched_words};
 ghost use Rattle.swi_dispatch_guest.specs.GuestState.{state_of};
 
 use crate::context::StepContext;
-use crate::courses::take_courses;
+use crate::basic_blocks::take_basic_blocks;
 use crate::silent::take_silently;
 use crate::writer::{TraceWriter, is_step_shown};
 use command_shell::{Machine, OutsideCall, Session};
@@ -85,7 +85,7 @@ pub(crate) fn run_steps(
 }
 
 // Takes those of so many steps that come next and print nothing, as the machine's own run does, where
-// none is shown: as far as it goes where nothing looks at them, else by courses, and counts them. Answers
+// none is shown: as far as it goes where nothing looks at them, else by basic blocks, and counts them. Answers
 // how many, and why the run ends with them, if it does.
 fn take_unseen(
     writer: &TraceWriter,
@@ -98,14 +98,14 @@ fn take_unseen(
     requires enough { most ≤ (script_state session.old context.now.images.now).left }
     requires unhalted { (script_state session.old context.now.images.now).machine.halt ≡ None }
     ensures { let images = context.now.images.now in let modes = context.now.modes.now in
-        IfOk result (λ t. GoesOnBehind modes context.now.labels.now goal writer.now.reported most
+        IfOk result (λ t. RunsOnBehind modes context.now.labels.now goal writer.now.reported most
         (script_state session.old images) counts.old t.0 t.1 (script_state session.new images) counts.new) }
 {
     if most == 0 || is_step_shown(writer.reported) {
         return Ok((0, None));
     }
     if counts.is_on() || !context.modes.watches.is_empty() {
-        return take_courses(session, context.modes, counts, goal, most);
+        return take_basic_blocks(session, context.modes, counts, goal, most);
     }
     let taken = take_silently(session, goal, most);
     Ok((taken, end_of_unseen(session, goal, taken)))

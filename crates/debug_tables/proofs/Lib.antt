@@ -1,7 +1,7 @@
 pub mod AheadLemmas
 pub mod BlockErrorLemmas
 pub mod StubLemmas
-pub mod CourseLemmas
+pub mod FlowLemmas
 pub mod CountsLemmas
 pub mod ByteWritesLemmas
 pub mod RunMeterLemmas

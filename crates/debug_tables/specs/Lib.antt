@@ -6,7 +6,7 @@ pub mod Routines
 pub mod StubNames
 pub mod Stubs
 pub use Rattle.command_shell.specs.WordWatches
-pub mod WordCourses
+pub mod WordFlows
 pub mod counts
 pub mod byte_writes
 pub mod run_meter

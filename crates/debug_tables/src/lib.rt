@@ -23,6 +23,6 @@ pub use command_shell::watches::{
     MOST_WATCHES, WatchHit, WatchedWord, WordWatchError, WordWatches, first_change, push_watch,
 };
 pub use modes::StepModes;
-pub use step_words::{WordCourse, word_course};
+pub use step_words::{WordFlow, word_flow};
 pub use stub_deeds::{BankSetting, STUB_END, StubDeed};
 pub use stubs::{MOST_STUBS, StubError, Stubs};

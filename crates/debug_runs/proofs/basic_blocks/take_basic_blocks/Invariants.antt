@@ -3,15 +3,15 @@ use Rattle.debug_labels.specs.Labels.{ImageLabels}
 use Rattle.image_loader.specs.Entries.{Entry}
 use Rattle.swi_dispatch_guest.specs.GuestState.{state_of}
 use Rattle.command_shell.specs.Session.{script_state}
-use Rattle.debug_runs.specs.Courses.{GoesOnBehind}
+use Rattle.debug_runs.specs.BasicBlocks.{RunsOnBehind}
 use Rattle.debug_runs.specs.TraceWriter.{is_step_shown}
-use Rattle.debug_runs.proofs.courses.take_courses.Given as goal
+use Rattle.debug_runs.proofs.basic_blocks.take_basic_blocks.Given as goal
 
 -- the run goes on behind the steps so far
 abbrev pub invariant-loop-left : goal.invariant-loop-left
 invariant-loop-left l = record {
   so_far : (images : List Entry) (labels : List ImageLabels) (reported : Option ℕ) → is_step_shown reported ≡ false
-      → GoesOnBehind l.modes labels l.goal reported l.most (script_state l.fn.session images) l.fn.counts (l.most - l.left) None
+      → RunsOnBehind l.modes labels l.goal reported l.most (script_state l.fn.session images) l.fn.counts (l.most - l.left) None
       (script_state l.session images) l.counts;
   few : l.left ≤ l.most;
   enough : l.left ≤ l.session.left;

@@ -6,7 +6,7 @@ ghost use Rattle.image_loader.specs.Entries.{Entry};
 ghost use Rattle.command_shell.specs.Session.{script_state};
 ghost use Rattle.debug_tables.specs.counts.Counts.{steps_counted};
 ghost use Rattle.debug_labels.specs.Labels.{ImageLabels};
-ghost use Rattle.debug_runs.specs.Courses.{GoesOnBehind, IsAfterCourse, IsCourse, course_places, stays_short};
+ghost use Rattle.debug_runs.specs.BasicBlocks.{RunsOnBehind, IsAfterBlock, IsBasicBlock, block_places, stays_short};
 ghost use Rattle.debug_runs.specs.TraceWriter.{is_step_shown};
 ghost use Rattle.swi_dispatch_guest.specs.GuestState.{state_of};
 
@@ -15,7 +15,7 @@ use crate::silent::take_up_to;
 use command_shell::{Machine, Session};
 use debug_tables::counts::StepCounts;
 use debug_tables::routines::ROUTINE_END;
-use debug_tables::{StepModes, WordCourse, word_course};
+use debug_tables::{StepModes, WordFlow, word_flow};
 use profile::WriteFault;
 use profile::memory_map::ADDRESS_LIMIT;
 
@@ -25,18 +25,18 @@ const MOST_WORDS: u32 = 64;
 /// Words in a row through which steps go: so many from an address on. In a loop they begin again at the
 /// first, unless they go on behind the last.
 #[derive(Clone, Copy, Debug)]
-pub(crate) struct Course {
+pub(crate) struct BasicBlock {
     start: u32,
     count: u32,
     is_loop: bool,
 }
 
-/// The course that begins where a machine stands. Memory stays at its last word too, where it is to.
-fn course_ahead(machine: &Machine, stays: bool) -> Course
-    ensures { let s = state_of machine.now.guest in IsCourse stays s.store.bytes s.cpu.pc result }
+/// The block that begins where a machine stands. Memory stays at its last word too, where it is to.
+fn basic_block_ahead(machine: &Machine, stays: bool) -> BasicBlock
+    ensures { let s = state_of machine.now.guest in IsBasicBlock stays s.store.bytes s.cpu.pc result }
 {
     let memory = machine.memory();
-    let mut row = Course {
+    let mut row = BasicBlock {
         start: machine.cpu().pc(),
         count: 0,
         is_loop: false,
@@ -46,10 +46,10 @@ fn course_ahead(machine: &Machine, stays: bool) -> Course
         let Ok(word) = memory.load_word(at) else {
             return row;
         };
-        match word_course(at, word) {
-            WordCourse::Straight => row.count += 1,
-            WordCourse::Stores if stays => return row,
-            WordCourse::Branches(to) if to == row.start && at + 4 < ADDRESS_LIMIT => {
+        match word_flow(at, word) {
+            WordFlow::Straight => row.count += 1,
+            WordFlow::Stores if stays => return row,
+            WordFlow::Branches(to) if to == row.start && at + 4 < ADDRESS_LIMIT => {
                 row.count += 1;
                 row.is_loop = true;
                 return row;
@@ -63,10 +63,10 @@ fn course_ahead(machine: &Machine, stays: bool) -> Course
     row
 }
 
-/// Takes those of so many steps that go through courses, as the machine's own run does, as long as none
-/// before the last of a course can reach the goal, and counts them where steps are counted. Answers how
+/// Takes those of so many steps that go through basic blocks, as the machine's own run does, as long as none
+/// before the last of a block can reach the goal, and counts them where steps are counted. Answers how
 /// many, and why the run ends with them, if it does.
-pub(crate) fn take_courses(
+pub(crate) fn take_basic_blocks(
     session: &mut Session,
     modes: &StepModes,
     counts: &mut StepCounts,
@@ -76,17 +76,17 @@ pub(crate) fn take_courses(
     requires enough { most ≤ session.old.left }
     requires unhalted { (state_of session.old.machine.guest).halt ≡ None }
     ensures { (images : List Entry) (labels : List ImageLabels) (reported : Option ℕ)
-        → is_step_shown reported ≡ false → IfOk result (λ t. GoesOnBehind modes.now labels goal reported most
+        → is_step_shown reported ≡ false → IfOk result (λ t. RunsOnBehind modes.now labels goal reported most
         (script_state session.old images) counts.old t.0 t.1 (script_state session.new images) counts.new) }
 {
     let mut left = most;
     while left > 0 {
-        let course = course_ahead(session.machine(), !modes.watches.is_empty());
-        let taken = take_course(session, course, goal, left);
+        let block = basic_block_ahead(session.machine(), !modes.watches.is_empty());
+        let taken = take_basic_block(session, block, goal, left);
         if taken == 0 {
             return Ok((most - left, None));
         }
-        count_course(counts, course, taken)?;
+        count_basic_block(counts, block, taken)?;
         left -= taken;
         if let Some(end) = end_of_unseen(session, goal, taken) {
             return Ok((most - left, Some(end)));
@@ -95,30 +95,30 @@ pub(crate) fn take_courses(
     Ok((most - left, None))
 }
 
-// Takes those of so many steps that go through a course, if none before the last can reach the goal.
+// Takes those of so many steps that go through a block, if none before the last can reach the goal.
 // Answers how many.
-fn take_course(session: &mut Session, course: Course, goal: RunGoal, most: u64) -> u64
+fn take_basic_block(session: &mut Session, block: BasicBlock, goal: RunGoal, most: u64) -> u64
     requires some { 0 < most }
     requires enough { most ≤ session.old.left }
     requires unhalted { (state_of session.old.machine.guest).halt ≡ None }
-    requires inside { course.start + 4 * course.count ≤ 2 ^ 26 }
-    ensures taken { (images : List Entry) → IsAfterCourse goal course
+    requires inside { block.start + 4 * block.count ≤ 2 ^ 26 }
+    ensures taken { (images : List Entry) → IsAfterBlock goal block
         (script_state session.old images) (script_state session.new images) result }
     ensures count { result ≤ most }
 {
-    let end = course.start + 4 * course.count;
-    if course.count == 0 || !stays_short(goal, session.machine(), end) {
+    let end = block.start + 4 * block.count;
+    if block.count == 0 || !stays_short(goal, session.machine(), end) {
         return 0;
     }
-    if course.is_loop {
+    if block.is_loop {
         return take_up_to(session, end, most);
     }
     session
-        .take_silent_steps(most.min(u64::from(course.count)))
+        .take_silent_steps(most.min(u64::from(block.count)))
         .taken
 }
 
-// Whether no step of a course before the last can reach a goal, where the course ends before an address.
+// Whether no step of a block before the last can reach a goal, where the block ends before an address.
 fn stays_short(goal: RunGoal, machine: &Machine, end: u32) -> bool
     ensures { result ≡ stays_short goal end (state_of machine.now.guest) }
 {
@@ -129,21 +129,21 @@ fn stays_short(goal: RunGoal, machine: &Machine, end: u32) -> bool
     }
 }
 
-// Counts so many steps that begin at the words of a course, the first at its first word.
-#[tactic(auto, using(crate::proofs::CourseLemmas::count_on))]
-fn count_course(counts: &mut StepCounts, course: Course, taken: u64) -> Result<(), WriteFault>
-    requires some { 0 < course.count }
-    requires inside { course.start + 4 * course.count ≤ 2 ^ 26 }
-    ensures { OnOk result (counts.new ≡ steps_counted (course_places course 0 taken) counts.old) }
+// Counts so many steps that begin at the words of a block, the first at its first word.
+#[tactic(auto, using(crate::proofs::BasicBlockLemmas::count_on))]
+fn count_basic_block(counts: &mut StepCounts, block: BasicBlock, taken: u64) -> Result<(), WriteFault>
+    requires some { 0 < block.count }
+    requires inside { block.start + 4 * block.count ≤ 2 ^ 26 }
+    ensures { OnOk result (counts.new ≡ steps_counted (block_places block 0 taken) counts.old) }
 {
     if !counts.is_on() {
         return Ok(());
     }
     let mut word = 0;
     for _step in 0..taken {
-        count_at(counts, course.start + 4 * word)?;
+        count_at(counts, block.start + 4 * word)?;
         word += 1;
-        if word == course.count {
+        if word == block.count {
             word = 0;
         }
     }

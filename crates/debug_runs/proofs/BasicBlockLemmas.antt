@@ -1,4 +1,4 @@
--- Steps within a course: where each begins, and that memory stays before the last.
+-- Steps within a block: where each begins, and that memory stays before the last.
 use Rattle.std.proofs.Common.{◌≡◌, ◌≢◌, ◌⊎◌, inl, inr, ◌<◌, ◌≤◌, ℕ, zero, suc, ◌+◌, ◌-◌, ◌*◌, ◌/◌, ◌%◌, ◌^◌, ◌==◌, ◌&&◌, ◌||◌, ◌++◌, Bool, true, false, not, List, [], ◌∷◌, length, Option, Some, None, Result, Ok, Err, if◌then◌else◌, refl, sym, ap, subst, ◌∙◌, arith, eq-eqb}
 use Rattle.std.proofs.lemmas.Bool.{ltb-true, ne_eqb}
 use Rattle.std.proofs.lemmas.Bool.Decides.{nat_tests}
@@ -23,23 +23,23 @@ use Rattle.command_shell.specs.Calls.{step_made}
 use Rattle.command_shell.specs.Value.{MachineValue}
 use Rattle.command_shell.specs.State.{ScriptState}
 use Rattle.command_shell.specs.Stepping.{IsAfterSilentSteps, script_after_silent}
-use Rattle.debug_tables.proofs.CourseLemmas.{step_keeps}
+use Rattle.debug_tables.proofs.FlowLemmas.{step_keeps}
 use Rattle.debug_tables.proofs.CountsLemmas.CountLemmas.{uncounted}
 use Rattle.debug_tables.specs.counts.Counts.{CountTable, step_counted, steps_counted}
 use Rattle.debug_tables.specs.Routines.{routine_end}
-use Rattle.debug_tables.specs.WordCourses.{KeepsTo, KeepsToIfDone, word_course}
+use Rattle.debug_tables.specs.WordFlows.{KeepsToFlow, KeepsToFlowIfDone, word_flow}
 use Rattle.debug_tables.specs.WordWatches.{is_unchanged_word, mapped_word, watch_hit, watched_change}
 use Rattle.debug_tables.specs.declared.modes.StepModes.{StepModes}
 use Rattle.debug_tables.specs.declared.watches.WatchHit.{WatchHit}
-use Rattle.debug_tables.specs.declared.step_words.WordCourse.{WordCourse}
-use Rattle.debug_tables.specs.declared.step_words.WordCourse.TheVariants.{Straight, Branches, Anywhere, Stores}
-use Rattle.debug_runs.specs.Courses.{GoesOnBehind, HasCourse, HasQuiet, IsAfterCourse, IsCourse, course_places, stays_short, word_behind}
+use Rattle.debug_tables.specs.declared.step_words.WordFlow.{WordFlow}
+use Rattle.debug_tables.specs.declared.step_words.WordFlow.TheVariants.{Straight, Branches, Anywhere, Stores}
+use Rattle.debug_runs.specs.BasicBlocks.{RunsOnBehind, HasFlow, HasQuiet, IsAfterBlock, IsBasicBlock, block_places, stays_short, next_word_of}
 use Rattle.debug_runs.specs.Places.{places_of_run, places_unless}
 use Rattle.debug_runs.specs.Silent.{IsAfterSilentUpTo}
 use Rattle.swi_dispatch_guest.proofs.RunLoop.{ran-none}
 use Rattle.debug_runs.specs.Runs.{SteppingRun, end_after, end_of_unseen, is_reached, next_step, run_behind, run_end_by, run_step, run_unless, steps_run, text_of_next, watched_end}
 use Rattle.debug_runs.specs.TraceWriter.{answer_of_step, is_step_shown, one_answer, whole_step_text}
-use Rattle.debug_runs.specs.declared.courses.Course.{Course}
+use Rattle.debug_runs.specs.declared.basic_blocks.BasicBlock.{BasicBlock}
 use Rattle.debug_runs.specs.declared.running.RunEnd.{RunEnd}
 use Rattle.debug_runs.specs.declared.running.RunEnd.TheVariants as end
 use Rattle.debug_runs.specs.declared.running.RunGoal.{RunGoal}
@@ -79,13 +79,13 @@ calm_end watches g before after none = calm_by watches g before after after.mach
 
 -- A TURN OF THE CORE
 
-turned : (m next : MachineState) (course : WordCourse) (r : Result (State × Bytes) StepEnd) → KeepsToIfDone course m.cpu m.store.bytes r
-    → Turned m r turn.Done next → KeepsTo course m.cpu m.store.bytes (next.cpu, next.store.bytes) × (next.tables ≡ m.tables)
-turned m next course (Ok w) keeps h =
-    subst (λ (x : MachineState). KeepsTo course m.cpu m.store.bytes (x.cpu, x.store.bytes) × (x.tables ≡ m.tables)) (sym h.1) (keeps, refl)
-turned m next course (Err e) keeps h = absurd (keeps h.0)
+turned : (m next : MachineState) (block : WordFlow) (r : Result (State × Bytes) StepEnd) → KeepsToFlowIfDone block m.cpu m.store.bytes r
+    → Turned m r turn.Done next → KeepsToFlow block m.cpu m.store.bytes (next.cpu, next.store.bytes) × (next.tables ≡ m.tables)
+turned m next block (Ok w) keeps h =
+    subst (λ (x : MachineState). KeepsToFlow block m.cpu m.store.bytes (x.cpu, x.store.bytes) × (x.tables ≡ m.tables)) (sym h.1) (keeps, refl)
+turned m next block (Err e) keeps h = absurd (keeps h.0)
 
-quiet_bytes : (course : WordCourse) (s : State) (b : Bytes) (u : State × Bytes) → course ≢ Stores → KeepsTo course s b u → u.1 ≡ b
+quiet_bytes : (block : WordFlow) (s : State) (b : Bytes) (u : State × Bytes) → block ≢ Stores → KeepsToFlow block s b u → u.1 ≡ b
 quiet_bytes Straight s b u quiet keeps = keeps.0
 quiet_bytes (Branches to) s b u quiet keeps = keeps.0
 quiet_bytes Anywhere s b u quiet keeps = keeps
@@ -93,24 +93,24 @@ quiet_bytes Stores s b u quiet keeps = absurd (quiet refl)
 
 -- WITHIN A COURSE
 
--- a machine stands at a word of a course, and so many steps more are to be taken there
-record IsOn (c : Course) (g : RunGoal) (b : Bytes) (k j : ℕ) (m : MachineState) : Type 0 where
+-- a machine stands at a word of a block, and so many steps more are to be taken there
+record IsOn (c : BasicBlock) (g : RunGoal) (b : Bytes) (k j : ℕ) (m : MachineState) : Type 0 where
   at : m.cpu.pc ≡ c.start + 4 * j
   within : j < c.count
   bytes : m.store.bytes ≡ b
   short : stays_short g (c.start + 4 * c.count) m ≡ true
   more : (c.is_loop ≡ true) ⊎ (j + k ≤ c.count)
 
-keeps_course : (c : Course) (g : RunGoal) (b : Bytes) (k j : ℕ) (m next : MachineState) (course : WordCourse) → c.start % 4 ≡ 0 → IsOn c g b k j m
-    → HasCourse b (c.start + 4 * j) course → TakesTurn m turn.Done next
-    → KeepsTo course m.cpu m.store.bytes (next.cpu, next.store.bytes) × (next.tables ≡ m.tables)
-keeps_course c g b k j m next course aligned on has takes =
+keeps_block : (c : BasicBlock) (g : RunGoal) (b : Bytes) (k j : ℕ) (m next : MachineState) (block : WordFlow) → c.start % 4 ≡ 0 → IsOn c g b k j m
+    → HasFlow b (c.start + 4 * j) block → TakesTurn m turn.Done next
+    → KeepsToFlow block m.cpu m.store.bytes (next.cpu, next.store.bytes) × (next.tables ≡ m.tables)
+keeps_block c g b k j m next block aligned on has takes =
     let at = on.at in
     let four : m.cpu.pc % 4 ≡ 0 = omega (arith, at, aligned) in
     let there : word_loaded m.store.bytes m.cpu.pc ≡ Ok has.word = (λ i. word_loaded (on.bytes i) (on.at i)) ∙ has.loaded in
-    let is : word_course m.cpu.pc has.word ≡ course = ap (λ (a : ℕ). word_course a has.word) on.at ∙ has.is in
-    turned m next course (result_of_instruction m)
-    (subst (λ (x : WordCourse). KeepsToIfDone x m.cpu m.store.bytes (result_of_instruction m)) is
+    let is : word_flow m.cpu.pc has.word ≡ block = ap (λ (a : ℕ). word_flow a has.word) on.at ∙ has.is in
+    turned m next block (result_of_instruction m)
+    (subst (λ (x : WordFlow). KeepsToFlowIfDone x m.cpu m.store.bytes (result_of_instruction m)) is
     (step_keeps (owned_in m.store) m.cpu m.store.bytes has.word four there)) takes
 
 next_word : (start j pc : ℕ) → start % 4 ≡ 0 → start + 4 * suc j < 2 ^ 26 → pc ≡ start + 4 * j → (pc + 4) / 4 % 2 ^ 24 * 4 ≡ start + 4 * suc j
@@ -122,27 +122,27 @@ same_short (goal.Frames count) e m next same short = ap (λ (t : Tables). not (l
 same_short (goal.Routine count) e m next same short =
     ap (λ (t : Tables). not (length t.frames == count) || nat_le e routine_end) same ∙ short
 
-behind_inner : (c : Course) (j : ℕ) → suc j < c.count → word_behind c j ≡ suc j
+behind_inner : (c : BasicBlock) (j : ℕ) → suc j < c.count → next_word_of c j ≡ suc j
 behind_inner c j inner =
     let other : suc j ≡ c.count → ⊥ = λ same. omega (arith, same, inner) in
     ap (λ (t : Bool). if t then 0 else suc j) (ne_eqb (suc j) c.count other)
 
-behind_last : (c : Course) (j : ℕ) → suc j ≡ c.count → word_behind c j ≡ 0
+behind_last : (c : BasicBlock) (j : ℕ) → suc j ≡ c.count → next_word_of c j ≡ 0
 behind_last c j last = ap (λ (t : Bool). if t then 0 else suc j) (eq-eqb (suc j) c.count last)
 
 -- what a step leaves there
-record IsStepped (stays : Bool) (c : Course) (g : RunGoal) (b : Bytes) (k j : ℕ) (m next : MachineState) : Type 0 where
+record IsStepped (stays : Bool) (c : BasicBlock) (g : RunGoal) (b : Bytes) (k j : ℕ) (m next : MachineState) : Type 0 where
   calm : stays ≡ true → next.store.bytes ≡ m.store.bytes
-  on : 0 < k → (c.is_loop ≡ true → next.cpu.pc ≡ c.start + 4 * c.count → ⊥) → IsOn c g b k (word_behind c j) next
+  on : 0 < k → (c.is_loop ≡ true → next.cpu.pc ≡ c.start + 4 * c.count → ⊥) → IsOn c g b k (next_word_of c j) next
   kept : 0 < k → next.store.bytes ≡ m.store.bytes
 
-stepped_inner : (stays : Bool) (pc : ℕ) (c : Course) (g : RunGoal) (b : Bytes) (k j : ℕ) (m next : MachineState) → IsCourse stays b pc c → IsOn c g b (suc k) j m
+stepped_inner : (stays : Bool) (pc : ℕ) (c : BasicBlock) (g : RunGoal) (b : Bytes) (k j : ℕ) (m next : MachineState) → IsBasicBlock stays b pc c → IsOn c g b (suc k) j m
     → TakesTurn m turn.Done next → suc j < c.count → IsStepped stays c g b k j m next
-stepped_inner stays pc c g b k j m next course on takes inner =
-    let keeps = keeps_course c g b (suc k) j m next Straight course.aligned on (course.straight j inner) takes in
-    let inside = course.inside in
+stepped_inner stays pc c g b k j m next block on takes inner =
+    let keeps = keeps_block c g b (suc k) j m next Straight block.aligned on (block.straight j inner) takes in
+    let inside = block.inside in
     let below : c.start + 4 * suc j < 2 ^ 26 = omega (arith, inside, inner) in
-    let at : next.cpu.pc ≡ c.start + 4 * suc j = keeps.0.1 ∙ next_word c.start j m.cpu.pc course.aligned below on.at in
+    let at : next.cpu.pc ≡ c.start + 4 * suc j = keeps.0.1 ∙ next_word c.start j m.cpu.pc block.aligned below on.at in
     let behind = behind_inner c j inner in
     record {
       calm = λ is. keeps.0.0;
@@ -159,15 +159,15 @@ stepped_inner stays pc c g b k j m next course on takes inner =
       kept = λ some. keeps.0.0;
     }
 
-looped : (stays : Bool) (pc : ℕ) (c : Course) (g : RunGoal) (b : Bytes) (k j : ℕ) (m next : MachineState) → IsCourse stays b pc c → IsOn c g b (suc k) j m
-    → TakesTurn m turn.Done next → suc j ≡ c.count → c.is_loop ≡ true → (next.cpu.pc ≡ c.start + 4 * c.count → ⊥) → IsOn c g b k (word_behind c j) next
-looped stays pc c g b k j m next course on takes last loop other =
-    let keeps = keeps_course c g b (suc k) j m next (Branches c.start) course.aligned on (course.back loop j last) takes in
+looped : (stays : Bool) (pc : ℕ) (c : BasicBlock) (g : RunGoal) (b : Bytes) (k j : ℕ) (m next : MachineState) → IsBasicBlock stays b pc c → IsOn c g b (suc k) j m
+    → TakesTurn m turn.Done next → suc j ≡ c.count → c.is_loop ≡ true → (next.cpu.pc ≡ c.start + 4 * c.count → ⊥) → IsOn c g b k (next_word_of c j) next
+looped stays pc c g b k j m next block on takes last loop other =
+    let keeps = keeps_block c g b (suc k) j m next (Branches c.start) block.aligned on (block.back loop j last) takes in
     let behind = behind_last c j last in
-    let exit : c.start + 4 * c.count < 2 ^ 26 = course.exit loop in
+    let exit : c.start + 4 * c.count < 2 ^ 26 = block.exit loop in
     let below : c.start + 4 * suc j < 2 ^ 26 = omega (arith, exit, last) in
     let first : next.cpu.pc ≡ c.start = elim keeps.0.1 [
-      | inl on_behind ↦ absurd (other (on_behind ∙ next_word c.start j m.cpu.pc course.aligned below on.at ∙ ap (λ (x : ℕ). c.start + 4 * x) last))
+      | inl on_behind ↦ absurd (other (on_behind ∙ next_word c.start j m.cpu.pc block.aligned below on.at ∙ ap (λ (x : ℕ). c.start + 4 * x) last))
       | inr back ↦ back
     ] in
     let none : c.start ≡ c.start + 4 * 0 = omega arith in
@@ -180,46 +180,46 @@ looped stays pc c g b k j m next course on takes last loop other =
       more = inl loop;
     }
 
-stepped_last : (stays : Bool) (pc : ℕ) (c : Course) (g : RunGoal) (b : Bytes) (k j : ℕ) (m next : MachineState) → IsCourse stays b pc c → IsOn c g b (suc k) j m
+stepped_last : (stays : Bool) (pc : ℕ) (c : BasicBlock) (g : RunGoal) (b : Bytes) (k j : ℕ) (m next : MachineState) → IsBasicBlock stays b pc c → IsOn c g b (suc k) j m
     → TakesTurn m turn.Done next → suc j ≡ c.count → IsStepped stays c g b k j m next
-stepped_last stays pc c g b k j m next course on takes last =
+stepped_last stays pc c g b k j m next block on takes last =
     record {
       calm = λ is.
-          (let quiet = course.last is j last in
-          quiet_bytes quiet.course m.cpu m.store.bytes (next.cpu, next.store.bytes) quiet.quiet
-          (keeps_course c g b (suc k) j m next quiet.course course.aligned on quiet.there takes).0);
+          (let quiet = block.last is j last in
+          quiet_bytes quiet.flow m.cpu m.store.bytes (next.cpu, next.store.bytes) quiet.quiet
+          (keeps_block c g b (suc k) j m next quiet.flow block.aligned on quiet.there takes).0);
       on = λ some other. elim on.more [
-        | inl loop ↦ looped stays pc c g b k j m next course on takes last loop (other loop)
+        | inl loop ↦ looped stays pc c g b k j m next block on takes last loop (other loop)
         | inr few ↦ absurd (omega (arith, few, last, some))
       ];
       kept = λ some. elim on.more [
-        | inl loop ↦ (keeps_course c g b (suc k) j m next (Branches c.start) course.aligned on (course.back loop j last) takes).0.0
+        | inl loop ↦ (keeps_block c g b (suc k) j m next (Branches c.start) block.aligned on (block.back loop j last) takes).0.0
         | inr few ↦ absurd (omega (arith, few, last, some))
       ];
     }
 
-stepped_by : (inner : Bool) (stays : Bool) (pc : ℕ) (c : Course) (g : RunGoal) (b : Bytes) (k j : ℕ) (m next : MachineState) → nat_lt (suc j) c.count ≡ inner
-    → IsCourse stays b pc c → IsOn c g b (suc k) j m → TakesTurn m turn.Done next → IsStepped stays c g b k j m next
-stepped_by true stays pc c g b k j m next is course on takes = stepped_inner stays pc c g b k j m next course on takes (ltb-true (suc j) c.count is)
-stepped_by false stays pc c g b k j m next is course on takes =
+stepped_by : (inner : Bool) (stays : Bool) (pc : ℕ) (c : BasicBlock) (g : RunGoal) (b : Bytes) (k j : ℕ) (m next : MachineState) → nat_lt (suc j) c.count ≡ inner
+    → IsBasicBlock stays b pc c → IsOn c g b (suc k) j m → TakesTurn m turn.Done next → IsStepped stays c g b k j m next
+stepped_by true stays pc c g b k j m next is block on takes = stepped_inner stays pc c g b k j m next block on takes (ltb-true (suc j) c.count is)
+stepped_by false stays pc c g b k j m next is block on takes =
     let within = on.within in
     let last : suc j ≡ c.count = grind (arith, nat_tests, is, within) in
-    stepped_last stays pc c g b k j m next course on takes last
+    stepped_last stays pc c g b k j m next block on takes last
 
-stepped : (stays : Bool) (pc : ℕ) (c : Course) (g : RunGoal) (b : Bytes) (k j : ℕ) (m next : MachineState)
-    → IsCourse stays b pc c → IsOn c g b (suc k) j m → TakesTurn m turn.Done next → IsStepped stays c g b k j m next
-stepped stays pc c g b k j m next course on takes = stepped_by (nat_lt (suc j) c.count) stays pc c g b k j m next refl course on takes
+stepped : (stays : Bool) (pc : ℕ) (c : BasicBlock) (g : RunGoal) (b : Bytes) (k j : ℕ) (m next : MachineState)
+    → IsBasicBlock stays b pc c → IsOn c g b (suc k) j m → TakesTurn m turn.Done next → IsStepped stays c g b k j m next
+stepped stays pc c g b k j m next block on takes = stepped_by (nat_lt (suc j) c.count) stays pc c g b k j m next refl block on takes
 
 -- THE GOAL ISN'T REACHED
 
-and_false : (t : Bool) → (t && false) ≡ false
-and_false true = refl
-and_false false = refl
+and-false : (t : Bool) → (t && false) ≡ false
+and-false true = refl
+and-false false = refl
 
 not_at_end : (there : Bool) (count e : ℕ) (m : MachineState) → (length m.tables.frames == count) ≡ there
     → (not (length m.tables.frames == count) || nat_le e routine_end) ≡ true → m.cpu.pc < e
     → (m.cpu.pc == routine_end && length m.tables.frames == count) ≡ false
-not_at_end false count e m is short below = ap (λ (t : Bool). (m.cpu.pc == routine_end) && t) is ∙ and_false (m.cpu.pc == routine_end)
+not_at_end false count e m is short below = ap (λ (t : Bool). (m.cpu.pc == routine_end) && t) is ∙ and-false (m.cpu.pc == routine_end)
 not_at_end true count e m is short below =
     let before : nat_le e routine_end ≡ true = ap (λ (t : Bool). not t || nat_le e routine_end) (sym is) ∙ short in
     let up : e ≤ routine_end = grind (arith, nat_tests, before) in
@@ -249,17 +249,17 @@ one_on modes labels g reported most s untold some real unprinted =
     (steps_run modes labels g (most - 1) (one_answer reported))) real
     ∙ (λ i. run_behind (text i) (unprinted i) (run_unless after (end_after modes.watches g s after) (steps_run modes labels g (most - 1) (same i) after)))
 
--- what so many steps of a course, the first at this word of it, left of a run
-record IsBehind (modes : StepModes) (labels : List ImageLabels) (g : RunGoal) (reported : Option ℕ) (most n : ℕ) (c : Course) (j : ℕ) (s w : ScriptState) : Type 0 where
+-- what so many steps of a block, the first at this word of it, left of a run
+record IsBehind (modes : StepModes) (labels : List ImageLabels) (g : RunGoal) (reported : Option ℕ) (most n : ℕ) (c : BasicBlock) (j : ℕ) (s w : ScriptState) : Type 0 where
   rest : steps_run modes labels g most reported s ≡ run_unless w (end_after [] g w w) (steps_run modes labels g (most - n) reported w)
-  places : places_of_run modes g most s ≡ course_places c j n ++ places_unless (end_after [] g w w) (places_of_run modes g (most - n) w)
+  places : places_of_run modes g most s ≡ block_places c j n ++ places_unless (end_after [] g w w) (places_of_run modes g (most - n) w)
 
-last_behind : (modes : StepModes) (labels : List ImageLabels) (g : RunGoal) (reported : Option ℕ) (most : ℕ) (c : Course) (j : ℕ) (s : ScriptState) (now : MachineState)
+last_behind : (modes : StepModes) (labels : List ImageLabels) (g : RunGoal) (reported : Option ℕ) (most : ℕ) (c : BasicBlock) (j : ℕ) (s : ScriptState) (now : MachineState)
     → is_step_shown reported ≡ false → 0 < most → next_step modes s ≡ machine_step s.images s.machine
     → (machine_step s.images s.machine).now.halt ≡ None → (machine_step s.images s.machine).printed ≡ [] → (machine_step s.images s.machine).now ≡ now
     → watch_hit modes.watches s.machine.store.bytes (machine_step s.images s.machine).now.store.bytes ≡ None → s.machine.cpu.pc ≡ c.start + 4 * j
     → IsBehind modes labels g reported most 1 c j s (script_after_silent s now 1)
-unfolding course_places places_by
+unfolding block_places places_by
 last_behind modes labels g reported most c j s now untold some real unhalted unprinted is calm at =
     let o = machine_step s.images s.machine in
     let after = step_made s o in
@@ -282,19 +282,19 @@ calm_hit : (stays : Bool) (watches : List ℕ) (b c : Bytes) → IsCalmFor stays
 calm_hit stays watches b c (inl is) kept = ap (watch_hit watches b) (kept is) ∙ no_hit watches b
 calm_hit stays watches b c (inr none) kept = ap (λ (ws : List ℕ). watch_hit ws b c) none
 
-below_end : (c : Course) (j : ℕ) → j < c.count → c.start + 4 * j < c.start + 4 * c.count
+below_end : (c : BasicBlock) (j : ℕ) → j < c.count → c.start + 4 * j < c.start + 4 * c.count
 below_end c j within = omega (arith, within)
 
 -- one step more before them
-joined_behind : (modes : StepModes) (labels : List ImageLabels) (g : RunGoal) (reported : Option ℕ) (most k : ℕ) (c : Course) (j : ℕ) (s : ScriptState) (now : MachineState)
+joined_behind : (modes : StepModes) (labels : List ImageLabels) (g : RunGoal) (reported : Option ℕ) (most k : ℕ) (c : BasicBlock) (j : ℕ) (s : ScriptState) (now : MachineState)
     → is_step_shown reported ≡ false → 0 < most → next_step modes s ≡ machine_step s.images s.machine
     → (machine_step s.images s.machine).now.halt ≡ None → (machine_step s.images s.machine).printed ≡ []
     → end_after modes.watches g s (step_made s (machine_step s.images s.machine)) ≡ None → s.machine.cpu.pc ≡ c.start + 4 * j
     → most - 1 - suc k ≡ most - suc (suc k)
-    → IsBehind modes labels g reported (most - 1) (suc k) c (word_behind c j) (step_made s (machine_step s.images s.machine))
+    → IsBehind modes labels g reported (most - 1) (suc k) c (next_word_of c j) (step_made s (machine_step s.images s.machine))
     (script_after_silent (step_made s (machine_step s.images s.machine)) now (suc k))
     → IsBehind modes labels g reported most (suc (suc k)) c j s (script_after_silent s now (suc (suc k)))
-unfolding course_places places_by
+unfolding block_places places_by
 joined_behind modes labels g reported most k c j s now untold some real unhalted unprinted goes at left behind =
     let o = machine_step s.images s.machine in
     let after = step_made s o in
@@ -307,23 +307,23 @@ joined_behind modes labels g reported most k c j s now untold some real unhalted
       places = place.first_of_left modes g most s after some (ap (step_made s) (sym real))
           ∙ ap (places_by modes g (most - 1) s after) goes
           ∙ (λ i. at i ∷ behind.places i)
-          ∙ (λ i. (c.start + 4 * j) ∷ (course_places c (word_behind c j) (suc k) ++ places_unless (end_after [] g (made i) (made i)) (places_of_run modes g (left i) (made i))));
+          ∙ (λ i. (c.start + 4 * j) ∷ (block_places c (next_word_of c j) (suc k) ++ places_unless (end_after [] g (made i) (made i)) (places_of_run modes g (left i) (made i))));
     }
 
-course_on : (modes : StepModes) (labels : List ImageLabels) (g : RunGoal) (reported : Option ℕ) (stops : List ℕ) (stays : Bool) (pc : ℕ) (c : Course) (b : Bytes)
+block_on : (modes : StepModes) (labels : List ImageLabels) (g : RunGoal) (reported : Option ℕ) (stops : List ℕ) (stays : Bool) (pc : ℕ) (c : BasicBlock) (b : Bytes)
     (k most j : ℕ) (s : ScriptState) (now : MachineState) (x : Stop)
     → is_step_shown reported ≡ false → suc k ≤ most → s.machine.halt ≡ None → now.halt ≡ None → Covers s.breaks stops
-    → (c.is_loop ≡ true → is_among stops (c.start + 4 * c.count) ≡ true) → IsCalmFor stays modes.watches → IsCourse stays b pc c → IsOn c g b (suc k) j s.machine
+    → (c.is_loop ≡ true → is_among stops (c.start + 4 * c.count) ≡ true) → IsCalmFor stays modes.watches → IsBasicBlock stays b pc c → IsOn c g b (suc k) j s.machine
     → AreCoreSteps (suc k) s.machine now → IsSilent (ran s.images stops (suc k) s.machine) now (suc k) x
     → IsBehind modes labels g reported most (suc k) c j s (script_after_silent s now (suc k))
 unfolding AreCoreSteps
-course_on modes labels g reported stops stays pc c b zero most j s now x untold few unhalted still covers exit calm course on steps is =
+block_on modes labels g reported stops stays pc c b zero most j s now x untold few unhalted still covers exit calm block on steps is =
     let o = machine_step s.images s.machine in
     let first = first_silent s.images stops 0 s.machine now x unhalted still is in
     let real = real_step modes.stubs s steps.0 unhalted steps.1.0 in
     let leads = step_leads s steps.0 unhalted steps.1.0 in
     let takes : TakesTurn s.machine turn.Done o.now = subst (λ (m : MachineState). TakesTurn s.machine turn.Done m) leads steps.1.0 in
-    let step = stepped stays pc c g b 0 j s.machine o.now course on takes in
+    let step = stepped stays pc c g b 0 j s.machine o.now block on takes in
     let some : 0 < most = omega (arith, few) in
     let hit = calm_hit stays modes.watches s.machine.store.bytes o.now.store.bytes calm step.calm in
     let there : o.now ≡ now = elim first.next [
@@ -331,7 +331,7 @@ course_on modes labels g reported stops stays pc c b zero most j s now x untold 
       | inr more ↦ rested s.images stops o.now now x first.unhalted more.1
     ] in
     last_behind modes labels g reported most c j s now untold some real first.unhalted first.unprinted there hit on.at
-course_on modes labels g reported stops stays pc c b (suc k) most j s now x untold few unhalted still covers exit calm course on steps is =
+block_on modes labels g reported stops stays pc c b (suc k) most j s now x untold few unhalted still covers exit calm block on steps is =
     let first = first_silent s.images stops (suc k) s.machine now x unhalted still is in
     let o = machine_step s.images s.machine in
     let after = step_made s o in
@@ -339,7 +339,7 @@ course_on modes labels g reported stops stays pc c b (suc k) most j s now x unto
     let leads = step_leads s steps.0 unhalted steps.1.0 in
     let takes : TakesTurn s.machine turn.Done o.now = subst (λ (m : MachineState). TakesTurn s.machine turn.Done m) leads steps.1.0 in
     let further : AreCoreSteps (suc k) o.now now = subst (λ (m : MachineState). AreCoreSteps (suc k) m now) leads steps.1.1 in
-    let step = stepped stays pc c g b (suc k) j s.machine o.now course on takes in
+    let step = stepped stays pc c g b (suc k) j s.machine o.now block on takes in
     let some : 0 < most = omega (arith, few) in
     let fewer : suc k ≤ most - 1 = omega (arith, few) in
     let left : most - 1 - suc k ≡ most - suc (suc k) = omega arith in
@@ -353,8 +353,8 @@ course_on modes labels g reported stops stays pc c b (suc k) most j s now x unto
           let goes : end_after modes.watches g s after ≡ None = calm_end modes.watches g s after hit
           ∙ no_end after after g first.unhalted (unreached g (c.start + 4 * c.count) o.now ons.short below) (covers o.now.cpu.pc more.0) in
           joined_behind modes labels g reported most k c j s now untold some real first.unhalted first.unprinted goes on.at left
-          (course_on modes labels g reported stops stays pc c b k (most - 1) (word_behind c j) after now x untold fewer first.unhalted still covers exit calm
-          course ons further more.1))
+          (block_on modes labels g reported stops stays pc c b k (most - 1) (next_word_of c j) after now x untold fewer first.unhalted still covers exit calm
+          block ons further more.1))
     ]
 
 -- ALL STEPS OF A COURSE
@@ -365,7 +365,7 @@ counted_on (x ∷ xs) ys t = counted_on xs ys (step_counted t x)
 
 -- none
 pub none_behind : (modes : StepModes) (labels : List ImageLabels) (g : RunGoal) (reported : Option ℕ) (most : ℕ) (s : ScriptState) (t : CountTable)
-    → GoesOnBehind modes labels g reported most s t 0 None s t
+    → RunsOnBehind modes labels g reported most s t 0 None s t
 none_behind modes labels g reported most s t =
     let all : most ≡ most - 0 = omega arith in
     let left : s.left ≡ s.left - 0 = omega arith in
@@ -378,8 +378,8 @@ none_behind modes labels g reported most s t =
 
 -- some, and those that follow
 pub behind_behind : (modes : StepModes) (labels : List ImageLabels) (g : RunGoal) (reported : Option ℕ) (most n k : ℕ) (e : Option RunEnd) (s mid now : ScriptState) (t u v : CountTable)
-    → GoesOnBehind modes labels g reported most s t n None mid u → GoesOnBehind modes labels g reported (most - n) mid u k e now v
-    → GoesOnBehind modes labels g reported most s t (n + k) e now v
+    → RunsOnBehind modes labels g reported most s t n None mid u → RunsOnBehind modes labels g reported (most - n) mid u k e now v
+    → RunsOnBehind modes labels g reported most s t (n + k) e now v
 behind_behind modes labels g reported most n k e s mid now t u v first second =
     let few = first.few in
     let more = second.few in
@@ -393,16 +393,16 @@ behind_behind modes labels g reported most n k e s mid now t u v first second =
       left = omega (arith, before, after);
     }
 
-course_some : (modes : StepModes) (labels : List ImageLabels) (g : RunGoal) (reported : Option ℕ) (stays : Bool) (c : Course) (most n : ℕ) (s now : ScriptState) (t : CountTable)
+block_some : (modes : StepModes) (labels : List ImageLabels) (g : RunGoal) (reported : Option ℕ) (stays : Bool) (c : BasicBlock) (most n : ℕ) (s now : ScriptState) (t : CountTable)
     → is_step_shown reported ≡ false → suc n ≤ most → s.machine.halt ≡ None → IsCalmFor stays modes.watches
-    → IsCourse stays s.machine.store.bytes s.machine.cpu.pc c → IsAfterCourse g c s now (suc n)
-    → GoesOnBehind modes labels g reported most s t (suc n) (end_of_unseen g now (suc n)) now (steps_counted (course_places c 0 (suc n)) t)
-course_some modes labels g reported stays c most n s now t untold few unhalted calm course after =
+    → IsBasicBlock stays s.machine.store.bytes s.machine.cpu.pc c → IsAfterBlock g c s now (suc n)
+    → RunsOnBehind modes labels g reported most s t (suc n) (end_of_unseen g now (suc n)) now (steps_counted (block_places c 0 (suc n)) t)
+block_some modes labels g reported stays c most n s now t untold few unhalted calm block after =
     let some : 0 < suc n = omega arith in
     let b = s.machine.store.bytes in
     let none : c.start ≡ c.start + 4 * 0 = omega arith in
     let on : IsOn c g b (suc n) 0 s.machine = record {
-      at = sym course.start ∙ none;
+      at = sym block.start ∙ none;
       within = after.some some;
       bytes = refl;
       short = after.short some;
@@ -413,26 +413,26 @@ course_some modes labels g reported stays c most n s now t untold few unhalted c
     } in
     let silent : IsSilent (ran s.images after.stops (suc n) s.machine) now.machine (suc n) after.ends =
     subst (λ (q : Run). IsSilent q now.machine (suc n) after.ends) (sym after.run) (is_silent now.machine (suc n) after.ends) in
-    let behind = course_on modes labels g reported after.stops stays s.machine.cpu.pc c b n most 0 s now.machine after.ends untold few unhalted after.unhalted after.breaks
-    (after.exit some) calm course on after.steps silent in
+    let behind = block_on modes labels g reported after.stops stays s.machine.cpu.pc c b n most 0 s now.machine after.ends untold few unhalted after.unhalted after.breaks
+    (after.exit some) calm block on after.steps silent in
     let w : script_after_silent s now.machine (suc n) ≡ now = sym after.state in
     let left = ap (λ (v : ScriptState). v.left) after.state in
     let e = end_of_unseen g now (suc n) in
     record {
       rest = behind.rest ∙ (λ i. run_unless (w i) (end_after [] g (w i) (w i)) (steps_run modes labels g (most - suc n) reported (w i)));
       counted = sym (ap (λ (xs : List ℕ). steps_counted xs t) (behind.places
-          ∙ (λ i. course_places c 0 (suc n) ++ places_unless (end_after [] g (w i) (w i)) (places_of_run modes g (most - suc n) (w i))))
-          ∙ counted_on (course_places c 0 (suc n)) (places_unless e (places_of_run modes g (most - suc n) now)) t);
+          ∙ (λ i. block_places c 0 (suc n) ++ places_unless (end_after [] g (w i) (w i)) (places_of_run modes g (most - suc n) (w i))))
+          ∙ counted_on (block_places c 0 (suc n)) (places_unless e (places_of_run modes g (most - suc n) now)) t);
       few = few;
       left = left;
     }
 
-course_by : (modes : StepModes) (labels : List ImageLabels) (g : RunGoal) (reported : Option ℕ) (stays : Bool) (c : Course) (most n : ℕ) (s now : ScriptState) (t : CountTable)
+block_by : (modes : StepModes) (labels : List ImageLabels) (g : RunGoal) (reported : Option ℕ) (stays : Bool) (c : BasicBlock) (most n : ℕ) (s now : ScriptState) (t : CountTable)
     → is_step_shown reported ≡ false → n ≤ most → s.machine.halt ≡ None → IsCalmFor stays modes.watches
-    → IsCourse stays s.machine.store.bytes s.machine.cpu.pc c → IsAfterCourse g c s now n
-    → GoesOnBehind modes labels g reported most s t n (end_of_unseen g now n) now (steps_counted (course_places c 0 n) t)
-unfolding course_places
-course_by modes labels g reported stays c most zero s now t untold few unhalted calm course after =
+    → IsBasicBlock stays s.machine.store.bytes s.machine.cpu.pc c → IsAfterBlock g c s now n
+    → RunsOnBehind modes labels g reported most s t n (end_of_unseen g now n) now (steps_counted (block_places c 0 n) t)
+unfolding block_places
+block_by modes labels g reported stays c most zero s now t untold few unhalted calm block after =
     let silent : IsSilent (ran s.images after.stops 0 s.machine) now.machine 0 after.ends =
     subst (λ (q : Run). IsSilent q now.machine 0 after.ends) (sym after.run) (is_silent now.machine 0 after.ends) in
     let same : s.machine ≡ now.machine = rested s.images after.stops s.machine now.machine after.ends unhalted silent in
@@ -440,40 +440,40 @@ course_by modes labels g reported stays c most zero s now t untold few unhalted 
     let left : s.left ≡ s.left - 0 = omega arith in
     let start : s ≡ script_after_silent s now.machine 0 = λ i. record s { machine = same i; is_fresh = fresh i; left = left i } in
     let whole : s ≡ now = start ∙ sym after.state in
-    subst (λ (w : ScriptState). GoesOnBehind modes labels g reported most s t 0 None w t) whole (none_behind modes labels g reported most s t)
-course_by modes labels g reported stays c most (suc n) s now t untold few unhalted calm course after =
-    course_some modes labels g reported stays c most n s now t untold few unhalted calm course after
+    subst (λ (w : ScriptState). RunsOnBehind modes labels g reported most s t 0 None w t) whole (none_behind modes labels g reported most s t)
+block_by modes labels g reported stays c most (suc n) s now t untold few unhalted calm block after =
+    block_some modes labels g reported stays c most n s now t untold few unhalted calm block after
 
-pub course_behind : (modes : StepModes) (labels : List ImageLabels) (g : RunGoal) (reported : Option ℕ) (stays : Bool) (c : Course) (most n : ℕ) (s now : ScriptState) (t u : CountTable)
+pub block_behind : (modes : StepModes) (labels : List ImageLabels) (g : RunGoal) (reported : Option ℕ) (stays : Bool) (c : BasicBlock) (most n : ℕ) (s now : ScriptState) (t u : CountTable)
     → is_step_shown reported ≡ false → n ≤ most → s.machine.halt ≡ None → IsCalmFor stays modes.watches
-    → IsCourse stays s.machine.store.bytes s.machine.cpu.pc c → IsAfterCourse g c s now n → u ≡ steps_counted (course_places c 0 n) t
-    → GoesOnBehind modes labels g reported most s t n (end_of_unseen g now n) now u
-course_behind modes labels g reported stays c most n s now t u untold few unhalted calm course after counted =
-    subst (λ (v : CountTable). GoesOnBehind modes labels g reported most s t n (end_of_unseen g now n) now v) (sym counted)
-    (course_by modes labels g reported stays c most n s now t untold few unhalted calm course after)
+    → IsBasicBlock stays s.machine.store.bytes s.machine.cpu.pc c → IsAfterBlock g c s now n → u ≡ steps_counted (block_places c 0 n) t
+    → RunsOnBehind modes labels g reported most s t n (end_of_unseen g now n) now u
+block_behind modes labels g reported stays c most n s now t u untold few unhalted calm block after counted =
+    subst (λ (v : CountTable). RunsOnBehind modes labels g reported most s t n (end_of_unseen g now n) now v) (sym counted)
+    (block_by modes labels g reported stays c most n s now t untold few unhalted calm block after)
 
 -- HOW A RUN GOES ON
 
 pub counted_rest : (modes : StepModes) (labels : List ImageLabels) (g : RunGoal) (reported : Option ℕ) (most n : ℕ) (s now : ScriptState) (t u : CountTable) (e : Option RunEnd)
-    → GoesOnBehind modes labels g reported most s t n e now u → e ≡ None
+    → RunsOnBehind modes labels g reported most s t n e now u → e ≡ None
     → steps_counted (places_of_run modes g (most - n) now) u ≡ steps_counted (places_of_run modes g most s) t
 counted_rest modes labels g reported most n s now t u e behind none =
     ap (λ (o : Option RunEnd). steps_counted (places_unless o (places_of_run modes g (most - n) now)) u) (sym none) ∙ behind.counted
 
 pub counted_end : (modes : StepModes) (labels : List ImageLabels) (g : RunGoal) (reported : Option ℕ) (most n : ℕ) (s now : ScriptState) (t u : CountTable) (e : Option RunEnd) (x : RunEnd)
-    → GoesOnBehind modes labels g reported most s t n e now u → e ≡ Some x → u ≡ steps_counted (places_of_run modes g most s) t
+    → RunsOnBehind modes labels g reported most s t n e now u → e ≡ Some x → u ≡ steps_counted (places_of_run modes g most s) t
 counted_end modes labels g reported most n s now t u e x behind over =
     ap (λ (o : Option RunEnd). steps_counted (places_unless o (places_of_run modes g (most - n) now)) u) (sym over) ∙ behind.counted
 
 pub enough_behind : (modes : StepModes) (labels : List ImageLabels) (g : RunGoal) (reported : Option ℕ) (most n : ℕ) (s now : ScriptState) (t u : CountTable) (e : Option RunEnd)
-    → GoesOnBehind modes labels g reported most s t n e now u → most ≤ s.left → most - n ≤ now.left
+    → RunsOnBehind modes labels g reported most s t n e now u → most ≤ s.left → most - n ≤ now.left
 enough_behind modes labels g reported most n s now t u e behind enough =
     let left = behind.left in omega (arith, enough, left)
 
 -- where steps aren't counted, and nothing looks at them
 pub unseen_behind : (modes : StepModes) (labels : List ImageLabels) (g : RunGoal) (reported : Option ℕ) (most n : ℕ) (s now : ScriptState) (t : CountTable) (e : Option RunEnd)
     → t.is_on ≡ false → steps_run modes labels g most reported s ≡ run_unless now e (steps_run modes labels g (most - n) reported now) → n ≤ most
-    → now.left ≡ s.left - n → GoesOnBehind modes labels g reported most s t n e now t
+    → now.left ≡ s.left - n → RunsOnBehind modes labels g reported most s t n e now t
 unseen_behind modes labels g reported most n s now t e off rest few left = record {
   rest = rest;
   counted = uncounted (places_unless e (places_of_run modes g (most - n) now)) t off ∙ sym (uncounted (places_of_run modes g most s) t off);
@@ -483,70 +483,70 @@ unseen_behind modes labels g reported most n s now t e off rest few left = recor
 
 -- THE WORDS OF A COURSE
 
-pub row_course : (stays : Bool) (b : Bytes) (pc : ℕ) (c : Course) → c.start ≡ pc → c.start % 4 ≡ 0 → c.start + 4 * c.count ≤ 2 ^ 26 → c.is_loop ≡ false
-    → ((j : ℕ) → j < c.count → HasCourse b (c.start + 4 * j) Straight) → IsCourse stays b pc c
-row_course stays b pc c start aligned inside forward all = record {
+pub row_flow : (stays : Bool) (b : Bytes) (pc : ℕ) (c : BasicBlock) → c.start ≡ pc → c.start % 4 ≡ 0 → c.start + 4 * c.count ≤ 2 ^ 26 → c.is_loop ≡ false
+    → ((j : ℕ) → j < c.count → HasFlow b (c.start + 4 * j) Straight) → IsBasicBlock stays b pc c
+row_flow stays b pc c start aligned inside forward all = record {
   start = start;
   aligned = aligned;
   inside = inside;
   straight = λ j inner. all j (omega (arith, inner));
-  last = λ is j last. record { course = Straight; there = all j (omega (arith, last)); quiet = λ same. absurd (cc) };
+  last = λ is j last. record { block = Straight; there = all j (omega (arith, last)); quiet = λ same. absurd (cc) };
   back = λ loop j last. (let no : true ≡ false = sym loop ∙ forward in absurd (cc));
   exit = λ loop. (let no : true ≡ false = sym loop ∙ forward in absurd (cc));
 }
 
 -- with a last word that goes elsewhere
-pub whole_course : (stays : Bool) (b : Bytes) (pc n : ℕ) (c : Course) (word : ℕ) (course : WordCourse) → c.start ≡ pc → c.start % 4 ≡ 0 → c.count ≡ n + 1
-    → c.start + 4 * c.count ≤ 2 ^ 26 → word_loaded b (c.start + 4 * n) ≡ Ok word → word_course (c.start + 4 * n) word ≡ course
-    → (stays ≡ true → course ≢ Stores) → (c.is_loop ≡ true → (course ≡ Branches c.start) × (c.start + 4 * c.count < 2 ^ 26))
-    → ((j : ℕ) → j < n → HasCourse b (c.start + 4 * j) Straight) → IsCourse stays b pc c
-whole_course stays b pc n c word course start aligned count inside loaded is quiet loop all = record {
+pub whole_block : (stays : Bool) (b : Bytes) (pc n : ℕ) (c : BasicBlock) (word : ℕ) (block : WordFlow) → c.start ≡ pc → c.start % 4 ≡ 0 → c.count ≡ n + 1
+    → c.start + 4 * c.count ≤ 2 ^ 26 → word_loaded b (c.start + 4 * n) ≡ Ok word → word_flow (c.start + 4 * n) word ≡ block
+    → (stays ≡ true → block ≢ Stores) → (c.is_loop ≡ true → (block ≡ Branches c.start) × (c.start + 4 * c.count < 2 ^ 26))
+    → ((j : ℕ) → j < n → HasFlow b (c.start + 4 * j) Straight) → IsBasicBlock stays b pc c
+whole_block stays b pc n c word block start aligned count inside loaded is quiet loop all = record {
   start = start;
   aligned = aligned;
   inside = inside;
   straight = λ j inner. all j (omega (arith, inner, count));
   last = λ stay j last.
       (let here : n ≡ j = omega (arith, last, count) in
-      record { course = course; there = subst (λ (k : ℕ). HasCourse b (c.start + 4 * k) course) here (record { word = word; loaded = loaded; is = is }); quiet = quiet stay });
+      record { flow = block; there = subst (λ (k : ℕ). HasFlow b (c.start + 4 * k) block) here (record { word = word; loaded = loaded; is = is }); quiet = quiet stay });
   back = λ loops j last.
       (let here : n ≡ j = omega (arith, last, count) in
-      subst (λ (k : ℕ). HasCourse b (c.start + 4 * k) (Branches c.start)) here (record { word = word; loaded = loaded; is = is ∙ (loop loops).0 }));
+      subst (λ (k : ℕ). HasFlow b (c.start + 4 * k) (Branches c.start)) here (record { word = word; loaded = loaded; is = is ∙ (loop loops).0 }));
   exit = λ loops. (loop loops).1;
 }
 
-one_more_by : (inner : Bool) (b : Bytes) (start n word : ℕ) → word_loaded b (start + 4 * n) ≡ Ok word → word_course (start + 4 * n) word ≡ Straight
-    → ((j : ℕ) → j < n → HasCourse b (start + 4 * j) Straight) → (j : ℕ) → nat_lt j n ≡ inner → j < n + 1 → HasCourse b (start + 4 * j) Straight
+one_more_by : (inner : Bool) (b : Bytes) (start n word : ℕ) → word_loaded b (start + 4 * n) ≡ Ok word → word_flow (start + 4 * n) word ≡ Straight
+    → ((j : ℕ) → j < n → HasFlow b (start + 4 * j) Straight) → (j : ℕ) → nat_lt j n ≡ inner → j < n + 1 → HasFlow b (start + 4 * j) Straight
 one_more_by true b start n word loaded is all j at below = all j (ltb-true j n at)
 one_more_by false b start n word loaded is all j at below =
     let here : n ≡ j = grind (arith, nat_tests, at, below) in
-    subst (λ (k : ℕ). HasCourse b (start + 4 * k) Straight) here (record { word = word; loaded = loaded; is = is })
+    subst (λ (k : ℕ). HasFlow b (start + 4 * k) Straight) here (record { word = word; loaded = loaded; is = is })
 
-pub one_more : (b : Bytes) (start n word : ℕ) → word_loaded b (start + 4 * n) ≡ Ok word → word_course (start + 4 * n) word ≡ Straight
-    → ((j : ℕ) → j < n → HasCourse b (start + 4 * j) Straight) → (j : ℕ) → j < n + 1 → HasCourse b (start + 4 * j) Straight
+pub one_more : (b : Bytes) (start n word : ℕ) → word_loaded b (start + 4 * n) ≡ Ok word → word_flow (start + 4 * n) word ≡ Straight
+    → ((j : ℕ) → j < n → HasFlow b (start + 4 * j) Straight) → (j : ℕ) → j < n + 1 → HasFlow b (start + 4 * j) Straight
 one_more b start n word loaded is all j below = one_more_by (nat_lt j n) b start n word loaded is all j refl below
 
 pub calm_if_empty : (empty : Bool) (watches : List ℕ) → (empty ≡ true → watches ≡ []) → IsCalmFor (not empty) watches
 calm_if_empty true watches none = inr (none refl)
 calm_if_empty false watches none = inl refl
 
--- one course more
-pub course_more : (modes : StepModes) (labels : List ImageLabels) (g : RunGoal) (reported : Option ℕ) (stays : Bool) (c : Course) (most left n : ℕ) (s mid now : ScriptState)
+-- one block more
+pub block_more : (modes : StepModes) (labels : List ImageLabels) (g : RunGoal) (reported : Option ℕ) (stays : Bool) (c : BasicBlock) (most left n : ℕ) (s mid now : ScriptState)
     (t u v : CountTable) (e : Option RunEnd) → is_step_shown reported ≡ false → n ≤ left → left ≤ most → mid.machine.halt ≡ None → IsCalmFor stays modes.watches
-    → IsCourse stays mid.machine.store.bytes mid.machine.cpu.pc c → IsAfterCourse g c mid now n → v ≡ steps_counted (course_places c 0 n) u
-    → e ≡ end_of_unseen g now n → GoesOnBehind modes labels g reported most s t (most - left) None mid u
-    → GoesOnBehind modes labels g reported most s t (most - (left - n)) e now v
-course_more modes labels g reported stays c most left n s mid now t u v e untold few below unhalted calm course after counted is before =
+    → IsBasicBlock stays mid.machine.store.bytes mid.machine.cpu.pc c → IsAfterBlock g c mid now n → v ≡ steps_counted (block_places c 0 n) u
+    → e ≡ end_of_unseen g now n → RunsOnBehind modes labels g reported most s t (most - left) None mid u
+    → RunsOnBehind modes labels g reported most s t (most - (left - n)) e now v
+block_more modes labels g reported stays c most left n s mid now t u v e untold few below unhalted calm block after counted is before =
     let back : left ≡ most - (most - left) = omega (arith, below) in
     let all : most - left + n ≡ most - (left - n) = omega (arith, few, below) in
-    let one = subst (λ (x : Option RunEnd). GoesOnBehind modes labels g reported left mid u n x now v) (sym is)
-    (course_behind modes labels g reported stays c left n mid now u v untold few unhalted calm course after counted) in
-    subst (λ (k : ℕ). GoesOnBehind modes labels g reported most s t k e now v) all
+    let one = subst (λ (x : Option RunEnd). RunsOnBehind modes labels g reported left mid u n x now v) (sym is)
+    (block_behind modes labels g reported stays c left n mid now u v untold few unhalted calm block after counted) in
+    subst (λ (k : ℕ). RunsOnBehind modes labels g reported most s t k e now v) all
     (behind_behind modes labels g reported most (most - left) n e s mid now t u v before
-    (subst (λ (k : ℕ). GoesOnBehind modes labels g reported k mid u n e now v) back one))
+    (subst (λ (k : ℕ). RunsOnBehind modes labels g reported k mid u n e now v) back one))
 
 -- WHAT IS TAKEN OF A COURSE
 
-pub none_taken : (g : RunGoal) (c : Course) (s : ScriptState) → s.machine.halt ≡ None → IsAfterCourse g c s s 0
+pub none_taken : (g : RunGoal) (c : BasicBlock) (s : ScriptState) → s.machine.halt ≡ None → IsAfterBlock g c s s 0
 unfolding AreCoreSteps
 none_taken g c s unhalted =
     let fresh : s.is_fresh ≡ (s.is_fresh && (0 == 0)) = and_true s.is_fresh in
@@ -565,8 +565,8 @@ none_taken g c s unhalted =
       unhalted = unhalted;
     }
 
-pub row_taken : (g : RunGoal) (c : Course) (s now : ScriptState) (n : ℕ) (x : Stop) → IsAfterSilentSteps s now n x → n ≤ c.count → 0 < c.count
-    → stays_short g (c.start + 4 * c.count) s.machine ≡ true → c.is_loop ≡ false → IsAfterCourse g c s now n
+pub row_taken : (g : RunGoal) (c : BasicBlock) (s now : ScriptState) (n : ℕ) (x : Stop) → IsAfterSilentSteps s now n x → n ≤ c.count → 0 < c.count
+    → stays_short g (c.start + 4 * c.count) s.machine ≡ true → c.is_loop ≡ false → IsAfterBlock g c s now n
 row_taken g c s now n x after few some short forward = record {
   stops = s.breaks;
   breaks = λ at clear. clear;
@@ -581,8 +581,8 @@ row_taken g c s now n x after few some short forward = record {
   unhalted = after.unhalted;
 }
 
-pub loop_taken : (g : RunGoal) (c : Course) (s now : ScriptState) (n : ℕ) → IsAfterSilentUpTo (c.start + 4 * c.count) s now n → 0 < c.count
-    → stays_short g (c.start + 4 * c.count) s.machine ≡ true → c.is_loop ≡ true → IsAfterCourse g c s now n
+pub loop_taken : (g : RunGoal) (c : BasicBlock) (s now : ScriptState) (n : ℕ) → IsAfterSilentUpTo (c.start + 4 * c.count) s now n → 0 < c.count
+    → stays_short g (c.start + 4 * c.count) s.machine ≡ true → c.is_loop ≡ true → IsAfterBlock g c s now n
 loop_taken g c s now n after some short loop = record {
   stops = after.stops;
   breaks = after.breaks;
@@ -597,20 +597,20 @@ loop_taken g c s now n after some short loop = record {
   unhalted = after.unhalted;
 }
 
--- the course of the machine that is lent
-pub course_there : (empty : Bool) (m n : MachineValue) (c : Course) → m ≡ n
-    → IsCourse (not empty) (state_of m.guest).store.bytes (state_of m.guest).cpu.pc c
-    → IsCourse (not empty) (state_of n.guest).store.bytes (state_of n.guest).cpu.pc c
-course_there empty m n c same course = subst (λ (x : MachineValue). IsCourse (not empty) (state_of x.guest).store.bytes (state_of x.guest).cpu.pc c) same course
+-- the block of the machine that is lent
+pub block_there : (empty : Bool) (m n : MachineValue) (c : BasicBlock) → m ≡ n
+    → IsBasicBlock (not empty) (state_of m.guest).store.bytes (state_of m.guest).cpu.pc c
+    → IsBasicBlock (not empty) (state_of n.guest).store.bytes (state_of n.guest).cpu.pc c
+block_there empty m n c same block = subst (λ (x : MachineValue). IsBasicBlock (not empty) (state_of x.guest).store.bytes (state_of x.guest).cpu.pc c) same block
 
 -- COUNTING THEM
 
 -- one step counted, the next word
-pub count_on : (c : Course) (j n m : ℕ) (t u : CountTable) → u ≡ step_counted t (c.start + 4 * j) → m ≡ suc n
-    → steps_counted (course_places c (word_behind c j) n) u ≡ steps_counted (course_places c j m) t
-unfolding course_places
+pub count_on : (c : BasicBlock) (j n m : ℕ) (t u : CountTable) → u ≡ step_counted t (c.start + 4 * j) → m ≡ suc n
+    → steps_counted (block_places c (next_word_of c j) n) u ≡ steps_counted (block_places c j m) t
+unfolding block_places
 count_on c j n m t u one more =
-    ap (steps_counted (course_places c (word_behind c j) n)) one ∙ ap (λ (k : ℕ). steps_counted (course_places c j k) t) (sym more)
+    ap (steps_counted (block_places c (next_word_of c j) n)) one ∙ ap (λ (k : ℕ). steps_counted (block_places c j k) t) (sym more)
 
 -- a word that is loaded ends within the addresses
 near_by : (far mapped : Bool) (v w : ℕ) → ok_unless_fault (if far then Some AddressException else (if mapped then None else Some DataUnmapped)) v ≡ Ok w → far ≡ false
