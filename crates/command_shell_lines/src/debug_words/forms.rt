@@ -46,7 +46,7 @@ RESET stands alone
 BACK stands alone, or with a number from 1 on, TO and a step or UNTIL and an address, as BACK UNTIL loop
 UNDO stands alone
 WHEN stands alone
-LAST wants CHANGE, CLAIM or FREE and an address, or CHANGE and a register or FLAGS, as LAST CHANGE &9020
+LAST wants CHANGE, CLAIM or FREE and an address, CHANGE and BLOCK a, R0 or FLAGS, or STEPS and 1 to 1000
 FORGET wants the name of an image, as FORGET main
 REPEAT wants a number from 1 on and a line that opens no block, as REPEAT 3 STEP 1
 TRACE wants a line that opens no block, or a number, ON, OFF, LIMIT n or LAST 1 to 64, as TRACE RUN
