@@ -9,8 +9,7 @@ ghost use Rattle.debug_history.specs.Again.{IsAtMoment};
 ghost use Rattle.debug_history.specs.declared.act.PastDeed.TheVariants.{FaultingStep};
 
 use crate::act::{Act, PastDeed};
-use crate::nowhere::Nowhere;
-use command_shell::{OutsideCall, RunError, Session};
+use command_shell::{Nowhere, OutsideCall, RunError, Session};
 use command_shell_lines::ScriptCommand;
 use image_loader::Images;
 use profile::WriteFault;

@@ -11,7 +11,6 @@ pub mod laws;
 mod line_kinds;
 mod lines;
 mod noting;
-mod nowhere;
 mod past;
 mod scan;
 mod search;

@@ -12,10 +12,9 @@ ghost use Rattle.swi_dispatch_guest.specs.GuestState.{state_of};
 
 use crate::act::{Act, PastDeed};
 use crate::again::deed_again;
-use crate::nowhere::Nowhere;
 use crate::past::Past;
 use crate::search::{PastFound, Sought};
-use command_shell::{Machine, RunError, Session};
+use command_shell::{Machine, Nowhere, RunError, Session};
 use image_loader::Images;
 use profile::{Config, WriteFault};
 use std::alloc::Global;

@@ -1,12 +1,12 @@
-//! A sink that takes all and keeps nothing: what is taken again prints nothing.
+//! A sink that takes all and keeps nothing, as for steps that are taken again.
 
 ghost use Rattle.std.specs.Prelude.{None, false};
 
 use profile::{Sink, WriteFault};
 
-/// A sink for what was printed before.
+/// A sink for what was printed before, or isn't to be printed.
 #[derive(Clone, Copy, Debug)]
-pub(crate) struct Nowhere;
+pub struct Nowhere;
 
 impl Sink for Nowhere {
     ghost contents = { λ _. None };
