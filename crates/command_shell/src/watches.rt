@@ -201,7 +201,8 @@ fn is_unchanged_word(was: Option<u32>, now: Option<u32>) -> bool
     }
 }
 
-fn mapped_word(memory: &AddressMap, address: u32) -> Option<u32>
+/// The word at an address, where memory is mapped.
+pub fn mapped_word(memory: &AddressMap, address: u32) -> Option<u32>
     ensures { result ≡ mapped_word (bytes_of memory.now) address }
 {
     memory.load_word(address).ok()

@@ -35,6 +35,7 @@ use Rattle.command_shell.specs.Writes.{machine_at, machine_with_bank_register, m
 use Rattle.command_shell.specs.Halt.{Halt}
 use Rattle.command_shell.specs.Memory.{script_at, script_with_bank_register, script_with_budget, script_with_status}
 use Rattle.command_shell.specs.State.{ScriptState}
+use Rattle.command_shell.specs.WordWatches.{mapped_word}
 use Rattle.command_shell_lines.specs.declared.debug_words.stubs.Stub.{Stub}
 use Rattle.command_shell_lines.specs.declared.debug_words.stubs.StubFlags.{StubFlags}
 use Rattle.command_shell_lines.specs.declared.debug_words.stubs.StubRegister.{StubRegister}
@@ -190,22 +191,15 @@ deed_of_entry stub cpu swi entry = record {
 }
 
 -- five words of memory, where all of them are mapped
-abbrev pub word_or_none : Result ℕ Fault → Option ℕ
-word_or_none (Ok word) = Some word
-word_or_none (Err fault) = None
-
-abbrev pub word_found : Bytes → ℕ → Option ℕ
-word_found b at = word_or_none (word_loaded b at)
-
 abbrev pub word_before : Option ℕ → Option (List ℕ) → Option (List ℕ)
 word_before (Some word) (Some others) = Some (word ∷ others)
 word_before (Some word) None = None
 word_before None others = None
 
 abbrev pub words_found : Bytes → ℕ → Option (List ℕ)
-words_found b at = word_before (word_found b at) (word_before (word_found b (address_further at 4))
-    (word_before (word_found b (address_further at 8)) (word_before (word_found b (address_further at 12))
-    (word_before (word_found b (address_further at 16)) (Some [])))))
+words_found b at = word_before (mapped_word b at) (word_before (mapped_word b (address_further at 4))
+    (word_before (mapped_word b (address_further at 8)) (word_before (mapped_word b (address_further at 12))
+    (word_before (mapped_word b (address_further at 16)) (Some [])))))
 
 -- N, Z, C and V as the code left them, and of the caller's status the rest
 abbrev pub status_back : Psr → ℕ → Psr

@@ -48,13 +48,11 @@ fn push_block_errors(
     ensures { OnOk result (text.new.items ≡ text.old.items ++ block_errors_text block.now.number
         (request_of_command command.now) (block_lines block.now.left)) }
 {
-    match *command {
-        ScriptCommand::Asm(_, origin) => {
-            let errors = errors_of_block(alloc, block, origin)?;
-            push_listed(text, errors.as_slice(), block)
-        }
-        _ => Ok(()),
+    if let ScriptCommand::Asm(_, origin) = *command {
+        let errors = errors_of_block(alloc, block, origin)?;
+        push_listed(text, errors.as_slice(), block)?;
     }
+    Ok(())
 }
 
 // The first 20 of some errors, and whether there are more.

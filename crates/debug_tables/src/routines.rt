@@ -96,8 +96,6 @@ fn push_steps<W: Sink>(sink: &mut W, steps: u64) -> Result<(), WriteFault>
     ensures { Writes W.contents W.has_failed sink.old sink.new result (step_count_text steps) }
 {
     let mut digits = Buffer::new();
-    push_parts(
-        sink,
-        &[digits.format(steps).as_bytes(), b" steps\n".as_slice()],
-    )
+    let shown = digits.format(steps).as_bytes();
+    push_parts(sink, &[shown, b" steps\n".as_slice()])
 }

@@ -3,11 +3,12 @@
 ghost use Rattle.std.specs.Prelude.{◌≡◌, ◌<◌, ◌%◌, ◌/◌, ◌^◌, ◌≤◌, length};
 ghost use Rattle.address_map.specs.Bytes.{word_loaded};
 ghost use Rattle.address_map.specs.Memory.{bytes_of};
-ghost use Rattle.debug_tables.specs.Stubs.{bank_setting, bytes_of_stub_words, deed_back, deed_of_answer, deed_of_entry, deed_of_error, deed_of_return, deed_of_stub, deed_unless_fetched, kept_at, words_kept, next_address, stub_settings_in, status_back, status_with_flags, word_back, word_found, words_found};
+ghost use Rattle.debug_tables.specs.Stubs.{bank_setting, bytes_of_stub_words, deed_back, deed_of_answer, deed_of_entry, deed_of_error, deed_of_return, deed_of_stub, deed_unless_fetched, kept_at, words_kept, next_address, stub_settings_in, status_back, status_with_flags, word_back, words_found};
 
 use address_map::AddressMap;
 use arm_core::{Cpu, Mode, Psr};
 use arrayvec::ArrayVec;
+use command_shell::watches::mapped_word;
 use command_shell_lines::RegisterNumber;
 use command_shell_lines::debug_words::{Stub, StubFlags, StubRegister};
 use profile::memory_map::ADDRESS_LIMIT;
@@ -33,11 +34,7 @@ pub struct BankSetting {
 
 impl Default for BankSetting {
     fn default() -> BankSetting {
-        BankSetting {
-            mode: Mode::User,
-            register: RegisterNumber::new(0),
-            value: 0,
-        }
+        bank_setting(Mode::User, 0, 0)
     }
 }
 
@@ -264,21 +261,12 @@ fn words_found(memory: &AddressMap, at: u32) -> Option<[u32; 5]>
     ensures { result ≡ words_found (bytes_of memory.now) at }
 {
     Some([
-        word_found(memory, at)?,
-        word_found(memory, at.wrapping_add(4))?,
-        word_found(memory, at.wrapping_add(8))?,
-        word_found(memory, at.wrapping_add(12))?,
-        word_found(memory, at.wrapping_add(16))?,
+        mapped_word(memory, at)?,
+        mapped_word(memory, at.wrapping_add(4))?,
+        mapped_word(memory, at.wrapping_add(8))?,
+        mapped_word(memory, at.wrapping_add(12))?,
+        mapped_word(memory, at.wrapping_add(16))?,
     ])
-}
-
-fn word_found(memory: &AddressMap, at: u32) -> Option<u32>
-    ensures { result ≡ word_found (bytes_of memory.now) at }
-{
-    match memory.load_word(at) {
-        Ok(word) => Some(word),
-        Err(_) => None,
-    }
 }
 
 // An error goes on at the instruction that generates it.

@@ -1,8 +1,7 @@
 //! Stubs, for SWIs that the machine doesn't have: registers are set and the guest goes on, or code of its
 //! own is entered.
 
-ghost use Rattle.std.specs.Prelude.{◌≡◌, ◌↔◌, ◌<◌, [], ◌∷◌, ◌++◌, IsTrue, IfSome, length};
-ghost use Rattle.std.specs.List.{remove};
+ghost use Rattle.std.specs.Prelude.{◌≡◌, ◌↔◌, ◌<◌, [], IsTrue, IfSome, length};
 ghost use Rattle.std.specs.Option.{option_copied};
 ghost use Rattle.profile.specs.Outcome.{Leaves};
 ghost use Rattle.debug_tables.specs.StubNames.{stub_error_name};
@@ -62,7 +61,7 @@ impl Model for Stubs {
 }
 
 impl Stubs {
-    ghost use Rattle.debug_tables.specs.Stubs.{deed_ahead, deed_next, stub_numbered, stub_place, stub_unless_known, with_one_more, with_stub, without_stub};
+    ghost use Rattle.debug_tables.specs.Stubs.{deed_ahead, deed_next, stub_numbered, stub_place, stub_unless_known, with_stub, without_stub};
 
     /// No stub.
     pub fn new() -> Stubs
@@ -84,7 +83,7 @@ impl Stubs {
     ///
     /// # Errors
     ///
-    /// `Known` where the machine has the call, else `StubTableFull` where 16 others are there; the
+    /// `Known` where the machine has the call, else `StubTableFull` where 64 others are there; the
     /// stubs stay then.
     pub fn add(&mut self, machine: &Machine, stub: Stub) -> Result<(), StubError>
         ensures { Leaves self.old (with_stub (state_of machine.now.guest) self.old stub) result self.new }
@@ -94,29 +93,16 @@ impl Stubs {
         }
         match self.place_of(stub.number) {
             Some(place) => {
-                self.replace(place, stub);
+                self.table.remove(place);
+                self.table.push(stub);
                 Ok(())
             }
-            None => self.append(stub),
+            None if self.table.is_full() => Err(StubError::StubTableFull),
+            None => {
+                self.table.push(stub);
+                Ok(())
+            }
         }
-    }
-
-    fn replace(&mut self, place: usize, stub: Stub)
-        requires { place < length self.old }
-        ensures { self.new ≡ remove self.old place ++ stub ∷ [] }
-    {
-        self.table.remove(place);
-        self.table.push(stub);
-    }
-
-    fn append(&mut self, stub: Stub) -> Result<(), StubError>
-        ensures { Leaves self.old (with_one_more self.old stub) result self.new }
-    {
-        if self.table.is_full() {
-            return Err(StubError::StubTableFull);
-        }
-        self.table.push(stub);
-        Ok(())
     }
 
     /// Takes the stub of a SWI away, by its number without the X bit.

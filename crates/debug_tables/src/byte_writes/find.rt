@@ -39,13 +39,8 @@ pub fn find_text(
 {
     let bytes = bytes_named(alloc, named)?;
     let mut text = TextSink::new(alloc);
-    match show_find(
-        machine.memory(),
-        address,
-        count,
-        bytes.as_slice(),
-        &mut text,
-    ) {
+    let map = machine.memory();
+    match show_find(map, address, count, bytes.as_slice(), &mut text) {
         Ok(()) => Ok(text.into_bytes()),
         Err(_) => Err(AllocError),
     }
@@ -104,14 +99,9 @@ fn show_place<W: Sink>(
     if !stand || found >= MOST_SHOWN {
         return Ok(());
     }
-    push_parts(
-        sink,
-        &[
-            b"found &".as_slice(),
-            HexText::number(address).as_slice(),
-            b"\n".as_slice(),
-        ],
-    )
+    let digits = HexText::number(address);
+    let shown = digits.as_slice();
+    push_parts(sink, &[b"found &".as_slice(), shown, b"\n".as_slice()])
 }
 
 fn push_more<W: Sink>(count: u32, sink: &mut W) -> Result<(), WriteFault>
@@ -121,14 +111,8 @@ fn push_more<W: Sink>(count: u32, sink: &mut W) -> Result<(), WriteFault>
         return Ok(());
     }
     let mut digits = Buffer::new();
-    push_parts(
-        sink,
-        &[
-            b".. ".as_slice(),
-            digits.format(count).as_bytes(),
-            b" more\n".as_slice(),
-        ],
-    )
+    let shown = digits.format(count).as_bytes();
+    push_parts(sink, &[b".. ".as_slice(), shown, b" more\n".as_slice()])
 }
 
 // Whether bytes stand at an address.
