@@ -1,6 +1,8 @@
+pub mod BasicBlockLemmas
+pub mod BlockRunLemmas
+pub mod BlockStepLemmas
 pub mod BreakLemmas
 pub mod CoreStepLemmas
-pub mod BasicBlockLemmas
 pub mod LastLemmas
 pub mod LineLemmas
 pub mod PlaceLemmas

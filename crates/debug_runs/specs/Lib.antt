@@ -12,8 +12,8 @@ pub use Rattle.debug_tables.specs.counts
 pub use Rattle.command_shell_lines.specs.declared.debug_words.stubs.Stub
 pub use Rattle.debug_tables.specs.declared.stubs.StubError
 pub use Rattle.command_shell.specs.declared.watches.WordWatchError
-pub mod Calls
 pub mod BasicBlocks
+pub mod Calls
 pub mod Endings
 pub mod LastSteps
 pub mod Laws

@@ -131,7 +131,11 @@ fn stays_short(goal: RunGoal, machine: &Machine, end: u32) -> bool
 
 // Counts so many steps that begin at the words of a block, the first at its first word.
 #[tactic(auto, using(crate::proofs::BasicBlockLemmas::count_on))]
-fn count_basic_block(counts: &mut StepCounts, block: BasicBlock, taken: u64) -> Result<(), WriteFault>
+fn count_basic_block(
+    counts: &mut StepCounts,
+    block: BasicBlock,
+    taken: u64,
+) -> Result<(), WriteFault>
     requires some { 0 < block.count }
     requires inside { block.start + 4 * block.count ≤ 2 ^ 26 }
     ensures { OnOk result (counts.new ≡ steps_counted (block_places block 0 taken) counts.old) }

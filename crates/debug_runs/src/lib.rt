@@ -4,8 +4,8 @@
 //! Promise: a traced run is the run without a trace, and without modes it is that of a script.
 #![tactic(auto)]
 
-mod context;
 mod basic_blocks;
+mod context;
 mod endings;
 mod labelling;
 mod last;

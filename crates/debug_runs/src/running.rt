@@ -14,8 +14,8 @@ ghost use Rattle.debug_tables.specs.counts.Counts.{step_counted, steps_counted};
 ghost use Rattle.debug_tables.specs.WordWatches.{watched_words};
 ghost use Rattle.swi_dispatch_guest.specs.GuestState.{state_of};
 
-use crate::context::StepContext;
 use crate::basic_blocks::take_basic_blocks;
+use crate::context::StepContext;
 use crate::silent::take_silently;
 use crate::writer::{TraceWriter, is_step_shown};
 use command_shell::{Machine, OutsideCall, Session};

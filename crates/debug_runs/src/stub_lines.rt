@@ -2,7 +2,6 @@
 
 ghost use Rattle.std.specs.Prelude.{◌≡◌, IfOk, OnOk};
 ghost use Rattle.std.specs.Io.KnownBytes.{Appends};
-ghost use Rattle.profile.specs.Output.{Writes};
 ghost use Rattle.trace_text.specs.Instruction.{front_text};
 ghost use Rattle.debug_runs.specs.TraceWriter.{stub_line, stub_words};
 ghost use Rattle.profile.specs.text_sink.TextSink.{sink_text_of};
@@ -55,13 +54,7 @@ fn stub_words(alloc: Global, before: &Cpu, after: &Cpu) -> Result<TextSink, Writ
     ensures { IfOk result (λ words. sink_text_of words ≡ stub_words before.now after.now) }
 {
     let mut words = TextSink::new(alloc);
-    push_stub_words(&mut words, before, after)?;
+    push_all(&mut words, b" stub")?;
+    push_core(&mut words, following_word(before), before, after)?;
     Ok(words)
-}
-
-fn push_stub_words<W: Sink>(sink: &mut W, before: &Cpu, after: &Cpu) -> Result<(), WriteFault>
-    ensures { Writes W.contents W.has_failed sink.old sink.new result (stub_words before.now after.now) }
-{
-    push_all(sink, b" stub")?;
-    push_core(sink, following_word(before), before, after)
 }

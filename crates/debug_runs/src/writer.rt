@@ -186,23 +186,19 @@ impl TraceWriter {
             (step_text (label_ahead context.now.labels.now s.machine) s.machine o) o.printed) }
         ensures same { self.new.reported ≡ self.old.reported }
     {
+        let alloc = self.alloc;
         let scratch = self.scratch.take();
         let label = label_ahead(context.labels, session.machine());
         let start = StepStart::print_step(
-            self.alloc,
+            alloc,
             session.machine(),
             label,
             scratch,
             &mut self.text,
         )?;
-        let mut printed = TextSink::new(self.alloc);
+        let mut printed = TextSink::new(alloc);
         session.take_step(context.images, &mut printed)?;
-        start.print_end(
-            self.alloc,
-            session.machine(),
-            printed.bytes(),
-            &mut self.text,
-        )?;
+        start.print_end(alloc, session.machine(), printed.bytes(), &mut self.text)?;
         self.scratch = start.into_scratch();
         push_all(&mut self.printed, printed.bytes())
     }
@@ -272,15 +268,11 @@ impl TraceWriter {
             (IsAnswerOn self.old self.new (outside_text call.entry s.machine o) o.printed) }
         ensures same { self.new.reported ≡ self.old.reported }
     {
-        let start = print_outside(self.alloc, session.machine(), call, &mut self.text)?;
-        let mut printed = TextSink::new(self.alloc);
+        let alloc = self.alloc;
+        let start = print_outside(alloc, session.machine(), call, &mut self.text)?;
+        let mut printed = TextSink::new(alloc);
         session.begin_call(images, &mut printed, call)?;
-        start.print_end(
-            self.alloc,
-            session.machine(),
-            printed.bytes(),
-            &mut self.text,
-        )?;
+        start.print_end(alloc, session.machine(), printed.bytes(), &mut self.text)?;
         push_all(&mut self.printed, printed.bytes())
     }
 
@@ -372,13 +364,10 @@ fn push_more_steps<W: Sink>(sink: &mut W, limit: u64, taken: u64) -> Result<(), 
         return Ok(());
     }
     let mut digits = Buffer::new();
+    let steps = digits.format(taken - limit).as_bytes();
     push_parts(
         sink,
-        &[
-            b".. ".as_slice(),
-            digits.format(taken - limit).as_bytes(),
-            b" steps more\n".as_slice(),
-        ],
+        &[b".. ".as_slice(), steps, b" steps more\n".as_slice()],
     )
 }
 

@@ -4,7 +4,8 @@ use Rattle.swi_dispatch_guest.specs.GuestState.{state_of}
 use Rattle.command_shell.specs.Session.{script_state}
 use Rattle.command_shell.specs.State.{ScriptState}
 use Rattle.debug_runs.specs.BasicBlocks.{RunsOnBehind}
-use Rattle.debug_runs.proofs.BasicBlockLemmas.{calm_if_empty, block_more, block_there, none_behind}
+use Rattle.debug_runs.proofs.BasicBlockLemmas.{block_more, block_there, calm_if_empty}
+use Rattle.debug_runs.proofs.BlockRunLemmas.{none_behind}
 use Rattle.debug_runs.proofs.basic_blocks.take_basic_blocks.Goals as goal
 
 pub loop-left-init : goal.loop-left-init

@@ -7,7 +7,7 @@ use Rattle.command_shell.specs.Session.{script_state}
 use Rattle.debug_runs.specs.Runs.{end_after, next_step, steps_run}
 use Rattle.debug_tables.specs.WordWatches.{watched_words}
 use Rattle.debug_tables.specs.counts.Counts.{step_counted}
-use Rattle.debug_runs.proofs.BasicBlockLemmas.{counted_rest, counted_end, enough_behind}
+use Rattle.debug_runs.proofs.BlockRunLemmas.{counted_rest, counted_end, enough_behind}
 use Rattle.debug_runs.proofs.PlaceLemmas.{counts_on, counts_rest, counts_stop}
 use Rattle.debug_runs.proofs.SilentLemmas.{goes_on_unhalted, unseen_goes_on, unseen_stops}
 use Rattle.debug_runs.proofs.RunLemmas.{enough_left, goes_on, runs_out, stops}

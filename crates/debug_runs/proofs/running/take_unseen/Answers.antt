@@ -4,7 +4,7 @@ use Rattle.command_shell.specs.Session.{script_state}
 use Rattle.debug_runs.specs.Runs.{are_unseen, run_unless, steps_run}
 use Rattle.debug_runs.specs.declared.running.RunEnd.{RunEnd}
 use Rattle.debug_runs.specs.TraceWriter.{is_step_shown}
-use Rattle.debug_runs.proofs.BasicBlockLemmas.{unseen_behind}
+use Rattle.debug_runs.proofs.BlockRunLemmas.{unseen_behind}
 use Rattle.debug_runs.proofs.running.take_unseen.Goals as goal
 
 pub returns : goal.returns
