@@ -1,5 +1,6 @@
 pub mod BackLemmas
 pub mod EscapeLemmas
+pub mod LoadLemmas
 pub mod MemoryLemmas
 pub mod PacketLemmas
 pub mod RegisterLemmas

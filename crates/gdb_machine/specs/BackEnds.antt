@@ -22,6 +22,7 @@ turn_of (reason.Watched place) = 0
 turn_of reason.Library = 0
 turn_of (reason.Killed f) = 0
 turn_of reason.Begin = 0
+turn_of reason.End = 0
 
 abbrev pub is_met_before : BackEnd → BackEnd → Bool
 is_met_before a b = nat_lt b.step a.step || (a.step == b.step && nat_lt (turn_of b.why) (turn_of a.why))

@@ -7,6 +7,7 @@ pub mod Escape
 pub mod GdbBreaks
 pub mod Laws
 pub mod Libraries
+pub mod Loads
 pub mod Memory
 pub mod Registers
 pub mod StepEnds

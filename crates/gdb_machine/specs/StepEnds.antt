@@ -1,10 +1,13 @@
 -- How a step ended: whether there may be another, why the program stands then, and what it struck; and what is
 -- shown of a machine that a fault has halted.
-use Rattle.std.specs.Prelude.{ℕ, ◌/◌, ◌%◌, ◌==◌, Bool, true, false, List, ◌++◌, codes, Option, Some, None, Result, Ok, Err, if◌then◌else◌}
+use Rattle.std.specs.Prelude.{ℕ, ◌/◌, ◌%◌, ◌==◌, ◌||◌, Bool, true, false, List, ◌++◌, codes, Option, Some, None, Result, Ok, Err, if◌then◌else◌}
 use Rattle.profile.specs.FaultNames.{fault_name}
 use Rattle.profile.specs.declared.fault.Fault.{Fault}
 use Rattle.profile.specs.declared.stop.Stop.{Stop}
 use Rattle.profile.specs.declared.stop.Stop.TheVariants as stop
+use Rattle.address_map.specs.Bytes.{Bytes}
+use Rattle.arm_core.specs.State.{State}
+use Rattle.trace_effects.specs.Cause.{cause_of, swi_of_cause}
 use Rattle.gdb_machine.specs.Stops.{signal_number_of}
 use Rattle.gdb_machine.specs.declared.stops.GdbStop.{GdbStop}
 use Rattle.gdb_machine.specs.declared.stops.GdbStop.TheVariants as reason
@@ -23,6 +26,7 @@ steps_further reason.Library = false
 steps_further (reason.Killed f) = false
 steps_further (reason.WatchedBack place) = false
 steps_further reason.Begin = false
+steps_further reason.End = false
 
 -- a step that was taken is no end of a run
 abbrev pub stop_after_step : GdbStop → GdbStop
@@ -48,11 +52,21 @@ was_library (reason.Ran x) = false
 was_library (reason.Killed f) = false
 was_library (reason.WatchedBack place) = false
 was_library reason.Begin = false
+was_library reason.End = false
 
 -- A software interrupt is an instruction with bits 27 to 24 set.
 abbrev pub is_interrupt : Result ℕ Fault → Bool
 is_interrupt (Ok word) = word / 0x1000000 % 16 == 15
 is_interrupt (Err fault) = false
+
+-- OS_Exit has the number &11, and with the X bit &20011 ("OS_Exit" in the RISC OS 3 Programmer's Reference Manual).
+abbrev pub is_exit_number : Option ℕ → Bool
+is_exit_number None = false
+is_exit_number (Some number) = number == 0x11 || number == 0x20011
+
+-- whether the instruction at the program counter calls it
+abbrev pub is_exit_ahead : State → Bytes → Bool
+is_exit_ahead s b = is_exit_number (swi_of_cause (cause_of s b))
 
 abbrev pub halted_text : Fault → List ℕ
 halted_text f = codes "rosm: halted by " ++ (fault_name f ++ codes

@@ -57,6 +57,7 @@ signal_of (reason.Ran stop.Exit) = None
 signal_of (reason.Killed f) = None
 signal_of (reason.WatchedBack place) = Some signal.Trap
 signal_of reason.Begin = Some signal.Trap
+signal_of reason.End = Some signal.Trap
 
 abbrev pub watch_word : WatchKind → List ℕ
 watch_word kind.Store = codes "watch:"
@@ -66,13 +67,14 @@ watch_word kind.Access = codes "awatch:"
 abbrev pub watch_reached : WatchedPlace → List ℕ
 watch_reached place = watch_word place.kind ++ encode_lower (to_be_bytes w32 place.address) ++ codes ";"
 
--- what reached it: a break, a watch that was struck, by its kind and the address, or the beginning of what is known
--- of its past ("replaylog" in GDB's manual); or that GDB has to ask for the list of libraries
+-- what reached it: a break, a watch that was struck, by its kind and the address, the beginning of what is known
+-- of its past, or its end ("replaylog" in GDB's manual); or that GDB has to ask for the list of libraries
 abbrev pub reached_text : GdbStop → List ℕ
 reached_text (reason.Ran (stop.Break address)) = codes "swbreak:;"
 reached_text (reason.Watched place) = watch_reached place
 reached_text (reason.WatchedBack place) = watch_reached place
 reached_text reason.Begin = codes "replaylog:begin;"
+reached_text reason.End = codes "replaylog:end;"
 reached_text reason.Library = codes "library:;"
 reached_text (reason.Ran stop.Budget) = []
 reached_text (reason.Ran (stop.Fault f)) = []
@@ -100,6 +102,7 @@ gone_text (reason.Watched place) = codes "W00"
 gone_text reason.Library = codes "W00"
 gone_text (reason.WatchedBack place) = codes "W00"
 gone_text reason.Begin = codes "W00"
+gone_text reason.End = codes "W00"
 
 abbrev pub signalled_text : Option Signal → GdbStop → State → List ℕ
 signalled_text None why s = gone_text why
@@ -119,6 +122,7 @@ is_gone (reason.Watched place) = false
 is_gone reason.Library = false
 is_gone (reason.WatchedBack place) = false
 is_gone reason.Begin = false
+is_gone reason.End = false
 
 -- `T05swbreak:;0b:..`, `T0b0b:..`, `W00`, `X0b`
 unfoldable pub stop_packet : State → GdbStop → List ℕ

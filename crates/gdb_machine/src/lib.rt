@@ -1,5 +1,5 @@
 //! What GDB sees of a machine: the registers as it numbers them, memory as far as it is mapped, why
-//! the program stands, and bytes that are watched. It knows no step.
+//! the program stands, bytes that are watched, and what GDB loaded. It knows no step.
 //!
 //! Promise: registers and mapped bytes are those of the machine, in GDB's order.
 #![tactic(auto)]
@@ -12,6 +12,7 @@ mod escape;
 mod gdb_breaks;
 mod laws;
 mod libraries;
+mod loads;
 mod memory;
 mod registers;
 mod step_ends;
@@ -25,11 +26,12 @@ pub use description::description_part;
 pub use gdb_breaks::GdbBreaks;
 pub use laws::{first_is_met_first, register_writes_are_read};
 pub use libraries::{libraries_part, library_lines};
+pub use loads::Loads;
 pub use memory::{known_bytes, memory_shown};
 pub use registers::{all_registers, one_register, register_shown};
 pub use step_ends::{
-    goes_on, is_interrupt, is_own_signal, last_stop, push_halted, stepped, struck_after,
-    was_library,
+    goes_on, is_exit_ahead, is_interrupt, is_own_signal, last_stop, push_halted, stepped,
+    struck_after, was_library,
 };
 pub use stops::{GdbStop, Signal, signal_number_of, stop_packet};
 pub use watches::{SeenByte, Watch, WatchError, WatchKind, WatchedPlace, Watches, first_changed};

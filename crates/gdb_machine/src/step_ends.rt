@@ -1,12 +1,16 @@
 //! How a step ended, and what of that is shown.
 
 ghost use Rattle.std.specs.Prelude.{◌≡◌, ◌++◌};
+ghost use Rattle.address_map.specs.Memory.{bytes_of};
 ghost use Rattle.profile.specs.Output.{Writes};
-ghost use Rattle.gdb_machine.specs.StepEnds.{halted_text, is_interrupt as is_interrupt_shown, is_own_signal, last_stop as last_shown, steps_further as goes_on_shown, stop_after_step, struck_after, was_library as was_library_shown};
+ghost use Rattle.gdb_machine.specs.StepEnds.{halted_text, is_exit_number, is_exit_ahead, is_interrupt as is_interrupt_shown, is_own_signal, last_stop as last_shown, steps_further as goes_on_shown, stop_after_step, struck_after, was_library as was_library_shown};
 
 use crate::stops::{GdbStop, signal_number_of};
 use crate::watches::WatchedPlace;
+use address_map::AddressMap;
+use arm_core::Cpu;
 use profile::{Fault, Sink, Stop, WriteFault, push_all};
+use trace_effects::{Cause, called_swi};
 
 /// Whether there may be another step.
 pub fn goes_on(stop: GdbStop) -> bool
@@ -61,6 +65,19 @@ pub fn is_interrupt(word: Result<u32, Fault>) -> bool
         Ok(word) => word / 0x0100_0000 % 16 == 15,
         Err(_) => false,
     }
+}
+
+/// Whether the instruction at the program counter calls OS_Exit.
+pub fn is_exit_ahead(cpu: &Cpu, map: &AddressMap) -> bool
+    ensures { result ≡ is_exit_ahead cpu.now (bytes_of map.now) }
+{
+    is_exit_number(called_swi(Cause::of(cpu, map)))
+}
+
+fn is_exit_number(number: Option<u32>) -> bool
+    ensures { result ≡ is_exit_number number }
+{
+    matches!(number, Some(0x11 | 0x2_0011))
 }
 
 /// Whether a signal is that of a fault.

@@ -68,6 +68,8 @@ pub enum GdbStop {
     WatchedBack(WatchedPlace),
     /// It went back as far as the past of the machine is known.
     Begin,
+    /// It is about to exit, and stays so that one can go back.
+    End,
 }
 
 impl GdbStop {
@@ -84,7 +86,7 @@ impl GdbStop {
     {
         match self {
             GdbStop::Stepped | GdbStop::Watched(_) | GdbStop::Library => Some(Signal::Trap),
-            GdbStop::WatchedBack(_) | GdbStop::Begin => Some(Signal::Trap),
+            GdbStop::WatchedBack(_) | GdbStop::Begin | GdbStop::End => Some(Signal::Trap),
             GdbStop::Asked => Some(Signal::Interrupt),
             GdbStop::Ran(Stop::Break(_)) => Some(Signal::Trap),
             GdbStop::Ran(Stop::Budget) => Some(Signal::Steps),
@@ -145,8 +147,8 @@ fn gone_text(alloc: Global, why: GdbStop) -> Result<Vec<u8>, AllocError>
     Ok(text)
 }
 
-// What reached the program: a break, a watch that was struck, or the beginning of what is known of its past;
-// or that other modules are there.
+// What reached the program: a break, a watch that was struck, the beginning of what is known of its past, or
+// its end; or that other modules are there.
 fn reached(alloc: Global, why: GdbStop) -> Result<Vec<u8>, AllocError>
     ensures { IfOk result (λ text. text.items ≡ reached_text why) }
 {
@@ -154,6 +156,7 @@ fn reached(alloc: Global, why: GdbStop) -> Result<Vec<u8>, AllocError>
         GdbStop::Ran(Stop::Break(_)) => Vec::from_slice(alloc, b"swbreak:;"),
         GdbStop::Library => Vec::from_slice(alloc, b"library:;"),
         GdbStop::Begin => Vec::from_slice(alloc, b"replaylog:begin;"),
+        GdbStop::End => Vec::from_slice(alloc, b"replaylog:end;"),
         GdbStop::Watched(place) | GdbStop::WatchedBack(place) => watch_reached(alloc, place),
         _ => Ok(Vec::new(alloc)),
     }

@@ -1,4 +1,5 @@
 -- GDB's remote protocol as bytes. Begin with Requests, which says what each packet asks for.
+pub mod Ahead
 pub mod Digits
 pub mod Fixed
 pub mod Frames

@@ -4,6 +4,7 @@
 ghost use Rattle.std.specs.Prelude.{◌≡◌, option_map};
 ghost use Rattle.gdb_packets.specs.Requests.{gdb_request};
 ghost use Rattle.gdb_packets.specs.Fixed.{fixed_reply as fixed_shown, is_taken_so, keeps_acks, threads_text};
+ghost use Rattle.gdb_packets.specs.Ahead.{is_run_request};
 
 use crate::requests::Request;
 
@@ -47,4 +48,11 @@ pub fn keeps_acks(request: &Request<'_>) -> bool
     ensures { result ≡ keeps_acks (gdb_request request.now) }
 {
     !matches!(request, Request::NoAcks)
+}
+
+/// Whether a request is a `run`, before which the files are read anew.
+pub fn is_run_request(request: &Request<'_>) -> bool
+    ensures { result ≡ is_run_request (gdb_request request.now) }
+{
+    matches!(request, Request::RunProgram)
 }

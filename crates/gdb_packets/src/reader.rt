@@ -2,9 +2,12 @@
 
 ghost use Rattle.std.specs.Prelude.{◌≡◌};
 ghost use Rattle.gdb_packets.specs.Reading.{with_sent, after_frame, frame_start, reading_start, byte_taken, taken_between, taken_first_digit, taken_inside, taken_last_digit, with_packet_byte};
+ghost use Rattle.gdb_packets.specs.Ahead.{awaits_sum, is_run_ahead};
 
 use crate::digits::digit_value;
+use crate::fixed::is_run_request;
 use crate::frames::turned_byte;
+use crate::requests::request_of;
 use arrayvec::ArrayVec;
 use std::marker::Model;
 
@@ -81,6 +84,20 @@ impl PacketReader {
         ensures { result ≡ self.now.fits }
     {
         self.fits
+    }
+
+    /// Whether a `run` has come whole, up to its sum.
+    pub fn is_run_ahead(&self) -> bool
+        ensures { result ≡ is_run_ahead self.now }
+    {
+        self.awaits_sum() && is_run_request(&request_of(self.packet()))
+    }
+
+    // Whether the next byte is the first digit of a sum.
+    fn awaits_sum(&self) -> bool
+        ensures { result ≡ awaits_sum self.now.place }
+    {
+        matches!(self.place, FramePlace::FirstDigit)
     }
 
     /// Takes the next byte.

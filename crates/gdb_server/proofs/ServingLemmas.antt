@@ -12,59 +12,58 @@ use Rattle.profile.specs.Output.{AddsAllBut, AddsFront, AddsPart}
 use Rattle.profile.proofs.OutputLemmas.{AddsAllBut-more, AddsAllBut-start, Appends-from_all_but, Appends-nothing}
 use Rattle.gdb_server.specs.Server.{IsServed}
 use Rattle.gdb_server.specs.Serving.{ServerState, Served, byte_served, bytes_served, piece_served, stop_served, then_served, text_packet, text_packets, shown_packets}
-use Rattle.debug_session.specs.declared.session.DebugSettings.{DebugSettings}
 use Rattle.debug_session.proofs.FailLemmas.{front_then}
 
-served_cons : (setting : DebugSettings) (start : List ℕ) (byte : ℕ) (bytes : List ℕ) (s : ServerState) → s.session.has_ended ≡ false
-    → bytes_served setting start (byte ∷ bytes) s
-    ≡ then_served (byte_served setting start s byte) (bytes_served setting start bytes)
+served_cons : (byte : ℕ) (bytes : List ℕ) (s : ServerState) → s.session.has_ended ≡ false
+    → bytes_served (byte ∷ bytes) s
+    ≡ then_served (byte_served s byte) (bytes_served bytes)
 unfolding bytes_served
-served_cons setting start byte bytes s goes = rw goes refl
+served_cons byte bytes s goes = rw goes refl
 
 -- one more byte
-pub served_more : (setting : DebugSettings) (start bytes : List ℕ) (i : ℕ) (s : ServerState) → i < length bytes → s.session.has_ended ≡ false
-    → bytes_served setting start (drop i bytes) s
-    ≡ then_served (byte_served setting start s (get_or bytes i 0)) (bytes_served setting start (drop (i + 1) bytes))
-served_more setting start bytes i s below goes =
+pub served_more : (bytes : List ℕ) (i : ℕ) (s : ServerState) → i < length bytes → s.session.has_ended ≡ false
+    → bytes_served (drop i bytes) s
+    ≡ then_served (byte_served s (get_or bytes i 0)) (bytes_served (drop (i + 1) bytes))
+served_more bytes i s below goes =
     let next : suc i ≡ i + 1 = omega arith in
-    ap (λ (xs : List ℕ). bytes_served setting start xs s) (drop-cons bytes i 0 below)
-    ∙ served_cons setting start (get_or bytes i 0) (drop (suc i) bytes) s goes
-    ∙ ap (λ (n : ℕ). then_served (byte_served setting start s (get_or bytes i 0)) (bytes_served setting start (drop n bytes))) next
+    ap (λ (xs : List ℕ). bytes_served xs s) (drop-cons bytes i 0 below)
+    ∙ served_cons (get_or bytes i 0) (drop (suc i) bytes) s goes
+    ∙ ap (λ (n : ℕ). then_served (byte_served s (get_or bytes i 0)) (bytes_served (drop n bytes))) next
 
 -- the session has ended, or there is no more byte
-pub served_ended : (setting : DebugSettings) (start bytes : List ℕ) (s : ServerState) → s.session.has_ended ≡ true
-    → bytes_served setting start bytes s ≡ record { state = s; text = [] }
+pub served_ended : (bytes : List ℕ) (s : ServerState) → s.session.has_ended ≡ true
+    → bytes_served bytes s ≡ record { state = s; text = [] }
 unfolding bytes_served
-served_ended setting start [] s ended = refl
-served_ended setting start (byte ∷ bytes) s ended = rw ended refl
+served_ended [] s ended = refl
+served_ended (byte ∷ bytes) s ended = rw ended refl
 
-pub served_none : (setting : DebugSettings) (start bytes : List ℕ) (s : ServerState) → bytes ≡ []
-    → bytes_served setting start bytes s ≡ record { state = s; text = [] }
+pub served_none : (bytes : List ℕ) (s : ServerState) → bytes ≡ []
+    → bytes_served bytes s ≡ record { state = s; text = [] }
 unfolding bytes_served
-served_none setting start bytes s none = rw none refl
+served_none bytes s none = rw none refl
 
 -- pieces, one after another
-pub served_append : (setting : DebugSettings) (start first next : List ℕ) (s : ServerState)
-    → bytes_served setting start (first ++ next) s
-    ≡ then_served (bytes_served setting start first s) (bytes_served setting start next)
-served_append setting start [] next s =
-    sym (ap (λ (first : Served). then_served first (bytes_served setting start next)) (served_none setting start [] s refl))
-served_append setting start (byte ∷ more) next s = elim (cases_Bool s.session.has_ended) [
+pub served_append : (first next : List ℕ) (s : ServerState)
+    → bytes_served (first ++ next) s
+    ≡ then_served (bytes_served first s) (bytes_served next)
+served_append [] next s =
+    sym (ap (λ (first : Served). then_served first (bytes_served next)) (served_none [] s refl))
+served_append (byte ∷ more) next s = elim (cases_Bool s.session.has_ended) [
   | inl ended ↦
-      served_ended setting start ((byte ∷ more) ++ next) s ended
-      ∙ sym (served_ended setting start next s ended)
-      ∙ sym (ap (λ (first : Served). then_served first (bytes_served setting start next)) (served_ended setting start (byte ∷ more) s ended))
+      served_ended ((byte ∷ more) ++ next) s ended
+      ∙ sym (served_ended next s ended)
+      ∙ sym (ap (λ (first : Served). then_served first (bytes_served next)) (served_ended (byte ∷ more) s ended))
   | inr goes ↦
-      (let first : Served = byte_served setting start s byte in
-      served_cons setting start byte (more ++ next) s goes
+      (let first : Served = byte_served s byte in
+      served_cons byte (more ++ next) s goes
       ∙ ap (λ (then : Served). record { state = then.state; text = first.text ++ then.text })
-      (served_append setting start more next first.state)
+      (served_append more next first.state)
       ∙ ap (λ (text : List ℕ). record {
-        state = (bytes_served setting start next (bytes_served setting start more first.state).state).state;
+        state = (bytes_served next (bytes_served more first.state).state).state;
         text = text;
-      }) (sym (append_assoc first.text (bytes_served setting start more first.state).text
-      (bytes_served setting start next (bytes_served setting start more first.state).state).text))
-      ∙ sym (ap (λ (all : Served). then_served all (bytes_served setting start next)) (served_cons setting start byte more s goes)))
+      }) (sym (append_assoc first.text (bytes_served more first.state).text
+      (bytes_served next (bytes_served more first.state).state).text))
+      ∙ sym (ap (λ (all : Served). then_served all (bytes_served next)) (served_cons byte more s goes)))
 ]
 
 shown_suc : (n : ℕ) (text : List ℕ) → text_packets (suc n) text ≡ text_packet (take 1024 text) ++ text_packets n (drop 1024 text)
@@ -121,12 +120,12 @@ pub front_of_part : (a b : Option (List ℕ)) (text : List ℕ) → AddsPart a b
 front_of_part a b text part = record { rest = part.missing; front = part.front }
 
 -- the byte 3
-pub byte_stops : (setting : DebugSettings) (start : List ℕ) (s : ServerState) (reading : Reading) (byte : ℕ)
+pub byte_stops : (s : ServerState) (reading : Reading) (byte : ℕ)
     → Some piece.Stop ≡ (byte_taken s.reading byte).piece → reading ≡ (byte_taken s.reading byte).now
-    → stop_served (record s { reading = reading }) (is_some s.session.going) ≡ byte_served setting start s byte
-byte_stops setting start s reading byte stops read =
+    → stop_served (record s { reading = reading }) (is_some s.session.going) ≡ byte_served s byte
+byte_stops s reading byte stops read =
     ap (λ (r : Reading). stop_served (record s { reading = r }) (is_some s.session.going)) read
-    ∙ ap (λ (p : Option Piece). piece_served setting start (record s { reading = (byte_taken s.reading byte).now }) p) stops
+    ∙ ap (λ (p : Option Piece). piece_served (record s { reading = (byte_taken s.reading byte).now }) p) stops
 
 -- where no run is under way, nothing is answered
 pub stands_served : (s : ServerState) (x : Option (List ℕ)) → is_some s.session.going ≡ false
@@ -134,10 +133,10 @@ pub stands_served : (s : ServerState) (x : Option (List ℕ)) → is_some s.sess
 stands_served s x still =
     subst (λ (b : Bool). IsServed x x s (stop_served s b)) (sym still) (record { text = Appends-nothing x; state = refl })
 
-pub ends_served : (setting : DebugSettings) (start bytes : List ℕ) (s : ServerState) (before here : Option (List ℕ)) (all : Served)
-    → AddsAllBut before here (bytes_served setting start bytes s).text all.text → (bytes_served setting start bytes s).state ≡ all.state
-    → bytes_served setting start bytes s ≡ record { state = s; text = [] } → IsServed before here s all
-ends_served setting start bytes s before here all text state none = record {
-  text = Appends-from_all_but before here (bytes_served setting start bytes s).text all.text text (ap (λ (x : Served). x.text) none);
+pub ends_served : (bytes : List ℕ) (s : ServerState) (before here : Option (List ℕ)) (all : Served)
+    → AddsAllBut before here (bytes_served bytes s).text all.text → (bytes_served bytes s).state ≡ all.state
+    → bytes_served bytes s ≡ record { state = s; text = [] } → IsServed before here s all
+ends_served bytes s before here all text state none = record {
+  text = Appends-from_all_but before here (bytes_served bytes s).text all.text text (ap (λ (x : Served). x.text) none);
   state = sym (ap (λ (x : Served). x.state) none) ∙ state;
 }

@@ -2,6 +2,7 @@
 use Rattle.std.specs.Prelude.{◌≡◌, ℕ, List, Option}
 use Rattle.std.specs.Io.KnownBytes.{Appends}
 use Rattle.image_loader.specs.Entries.{Entry}
+use Rattle.gdb_machine.specs.Loads.{load_state}
 use Rattle.gdb_server.specs.Serving.{ServerState, Served}
 use Rattle.gdb_server.specs.declared.server.GdbServer.{GdbServer}
 use Rattle.gdb_server.specs.session.Session.{gdb_state}
@@ -12,6 +13,8 @@ server_state s images = record {
   reading = s.reader;
   has_acks = s.has_acks;
   last = s.last.items;
+  loads = load_state s.loads;
+  lacks = s.lacks;
 }
 
 -- A writer and a server after some bytes: what was written is their answer, and the server stands in

@@ -1,12 +1,13 @@
 -- What the bytes of the other side do, and what they are answered with: a packet by its request, a spoilt
 -- one by `-`, or where that is no longer sent as if it were whole; `-` by the last answer once more; the byte
--- 3 stops a run.
-use Rattle.std.specs.Prelude.{ℕ, zero, suc, ◌+◌, ◌/◌, is_some, Bool, true, false, List, [], ◌∷◌, ◌++◌, take, drop, length, codes, Option, Some, None, if◌then◌else◌}
+-- 3 stops a run. Before a `run` is answered the files are read anew.
+use Rattle.std.specs.Prelude.{ℕ, zero, suc, ◌+◌, ◌/◌, ◌||◌, not, is_some, Bool, true, false, List, [], ◌∷◌, ◌++◌, take, drop, length, codes, Option, Some, None, if◌then◌else◌}
+use Rattle.std.specs.Str.{bytes_eq}
 use Rattle.hex.specs.Hex.{encode_lower}
-use Rattle.gdb_server.specs.session.Requests.{gdb_answered}
+use Rattle.gdb_server.specs.session.Programs.{request_answered}
 use Rattle.gdb_server.specs.session.Runs.{stop_asked}
 use Rattle.gdb_server.specs.session.State.{GdbState, GdbAnswered}
-use Rattle.debug_session.specs.declared.session.DebugSettings.{DebugSettings}
+use Rattle.gdb_machine.specs.Loads.{LoadState, after_packet, no_load}
 use Rattle.gdb_packets.specs.Fixed.{is_taken_so, keeps_acks}
 use Rattle.gdb_packets.specs.Frames.{packet_frame}
 use Rattle.gdb_packets.specs.Reading.{Reading, Taken, reading_start, byte_taken}
@@ -14,13 +15,42 @@ use Rattle.gdb_packets.specs.Requests.{GdbRequest, packet_request}
 use Rattle.gdb_packets.specs.declared.reader.Piece.{Piece}
 use Rattle.gdb_packets.specs.declared.reader.Piece.TheVariants as piece
 
--- the session, the reading, whether each packet is answered by `+` or `-`, and the last answer as it
--- was written
+-- the session, the reading, whether each packet is answered by `+` or `-`, the last answer as it was written,
+-- what GDB's `load` sent last, and whether a `run` has no program, since a file can't be read
 pub record ServerState : Type 0 where
   pub session : GdbState
   pub reading : Reading
   pub has_acks : Bool
   pub last : List ℕ
+  pub loads : LoadState
+  pub lacks : Bool
+
+-- before the first byte
+abbrev pub server_before_bytes : GdbState → ServerState
+server_before_bytes session = record {
+  session = session;
+  reading = reading_start;
+  has_acks = true;
+  last = [];
+  loads = no_load;
+  lacks = false;
+}
+
+-- THE FILES
+
+-- The lines that a machine begins with are those, from the next `run` on. Where an image or the lines are others
+-- than before, they stand in place of what `load` sent.
+abbrev pub with_files : ServerState → List ℕ → Bool → ServerState
+with_files s start is_other = record s {
+  session = record s.session { start = start };
+  loads = if is_other || not (bytes_eq start s.session.start) then no_load else s.loads;
+  lacks = false;
+}
+
+abbrev pub without_files : ServerState → ServerState
+without_files s = record s { lacks = true }
+
+-- ANSWERS
 
 -- the state after some bytes, and what they are answered with
 pub record Served : Type 0 where
@@ -57,30 +87,38 @@ ack_text false = []
 abbrev pub acks_after : Bool → GdbRequest → Bool
 acks_after has asked = if has then keeps_acks asked else false
 
+-- with the packet that has come
+abbrev pub loads_now : ServerState → LoadState
+loads_now s = after_packet s.loads s.reading.packet s.session.debug.script.machine.cpu.pc
+
 abbrev pub request_served : ServerState → GdbRequest → GdbAnswered → Served
 request_served s asked a = record {
-  state = record s { session = a.state; has_acks = acks_after s.has_acks asked; last = answer_text a };
+  state = record s {
+    session = a.state;
+    has_acks = acks_after s.has_acks asked;
+    last = answer_text a;
+    loads = loads_now s;
+  };
   text = ack_text s.has_acks ++ answer_text a;
 }
 
-abbrev pub packet_served : DebugSettings → List ℕ → ServerState → Served
-packet_served setting start s = request_served s (packet_request s.reading.packet)
-    (gdb_answered setting start s.session (packet_request s.reading.packet))
+abbrev pub packet_served : ServerState → Served
+packet_served s = request_served s (packet_request s.reading.packet)
+    (request_answered s.lacks (loads_now s).kept s.session (packet_request s.reading.packet))
 
 abbrev pub spoilt_text : Bool → List ℕ
 spoilt_text true = codes "-"
 spoilt_text false = packet_frame (codes "E16")
 
-abbrev pub spoilt_served : DebugSettings → List ℕ → ServerState → Bool → Served
-spoilt_served setting start s true = packet_served setting start s
-spoilt_served setting start s false = record { state = s; text = spoilt_text s.has_acks }
+abbrev pub spoilt_served : ServerState → Bool → Served
+spoilt_served s true = packet_served s
+spoilt_served s false = record { state = s; text = spoilt_text s.has_acks }
 
 -- an answer that no packet asked for
 abbrev pub unasked_served : ServerState → GdbAnswered → Served
 unasked_served s a = record {
   state = record s { session = a.state; last = answer_text a };
-  text =
-      answer_text a;
+  text = answer_text a;
 }
 
 -- the byte 3: where no run is under way there is nothing to stop
@@ -88,28 +126,27 @@ abbrev pub stop_served : ServerState → Bool → Served
 stop_served s true = unasked_served s (stop_asked s.session)
 stop_served s false = record { state = s; text = [] }
 
-abbrev pub piece_served : DebugSettings → List ℕ → ServerState → Option Piece → Served
-piece_served setting start s None = record { state = s; text = [] }
-piece_served setting start s (Some piece.Packet) = packet_served setting start s
-piece_served setting start s (Some piece.Spoilt) = spoilt_served setting start s
+abbrev pub piece_served : ServerState → Option Piece → Served
+piece_served s None = record { state = s; text = [] }
+piece_served s (Some piece.Packet) = packet_served s
+piece_served s (Some piece.Spoilt) = spoilt_served s
     (is_taken_so s.has_acks s.reading.fits)
-piece_served setting start s (Some piece.Again) = record { state = s; text = s.last }
-piece_served setting start s (Some piece.Stop) = stop_served s (is_some s.session.going)
+piece_served s (Some piece.Again) = record { state = s; text = s.last }
+piece_served s (Some piece.Stop) = stop_served s (is_some s.session.going)
 
-abbrev pub byte_served : DebugSettings → List ℕ → ServerState → ℕ → Served
-byte_served setting start s byte =
-    piece_served setting start (record s { reading = (byte_taken s.reading byte).now })
+abbrev pub byte_served : ServerState → ℕ → Served
+byte_served s byte =
+    piece_served (record s { reading = (byte_taken s.reading byte).now })
     (byte_taken s.reading byte).piece
 
 abbrev pub then_served : Served → (ServerState → Served) → Served
 then_served first next = record {
   state = (next first.state).state;
-  text = first.text ++
-      (next first.state).text;
+  text = first.text ++ (next first.state).text;
 }
 
 -- all bytes, up to the one that ends the session
-unfoldable pub bytes_served : DebugSettings → List ℕ → List ℕ → ServerState → Served
-bytes_served setting start [] s = record { state = s; text = [] }
-bytes_served setting start (byte ∷ bytes) s = if s.session.has_ended then record { state = s; text = [] }
-    else then_served (byte_served setting start s byte) (bytes_served setting start bytes)
+unfoldable pub bytes_served : List ℕ → ServerState → Served
+bytes_served [] s = record { state = s; text = [] }
+bytes_served (byte ∷ bytes) s = if s.session.has_ended then record { state = s; text = [] }
+    else then_served (byte_served s byte) (bytes_served bytes)

@@ -3,6 +3,7 @@ pub mod Back
 pub mod Changes
 pub mod Laws
 pub mod Looks
+pub mod Programs
 pub mod Requests
 pub mod Runs
 pub mod Session

@@ -10,6 +10,7 @@ ghost use Rattle.std.specs.Option.{option_map};
 
 use crate::session::{GdbAnswer, GdbSession};
 use command_shell::RunError;
+use gdb_machine::Loads;
 use gdb_packets::{PacketReader, Piece, is_taken_so, keeps_acks, push_packet, request_of};
 use image_loader::Images;
 use profile::text_sink::TextSink;
@@ -29,26 +30,25 @@ pub struct GdbServer {
     has_acks: bool,
     // The last answer, as it was written.
     last: Vec<u8>,
+    // What GDB's `load` sent last.
+    loads: Loads,
+    // Whether a `run` has no program, since a file can't be read.
+    lacks: bool,
 }
 
 impl GdbServer {
     ghost use Rattle.image_loader.specs.Entries.{Entry};
     ghost use Rattle.gdb_server.specs.Server.{IsServed, server_state};
+    ghost use Rattle.gdb_packets.specs.Ahead.{is_run_ahead};
     ghost use Rattle.gdb_server.specs.Serving.{byte_served, packet_served, bytes_served, spoilt_served, stop_served, unasked_served};
+    ghost use Rattle.gdb_server.specs.Serving.{server_before_bytes, with_files, without_files};
     ghost use Rattle.gdb_server.specs.session.Runs.{stop_asked};
     ghost use Rattle.gdb_server.specs.session.Session.{gdb_state};
-    ghost use Rattle.gdb_packets.specs.Reading.{reading_start};
 
     /// Before the first byte.
     pub fn new(alloc: Global, session: GdbSession) -> GdbServer
-        ensures state { (images : List Entry) → server_state result images ≡ record {
-          session = gdb_state session images;
-          reading = reading_start;
-          has_acks = true;
-          last = [];
-        } }
-        ensures setting { result.session.debug.setting ≡ session.debug.setting }
-        ensures start { result.session.start.items ≡ session.start.items }
+        ensures state { (images : List Entry) → server_state result images
+            ≡ server_before_bytes (gdb_state session images) }
     {
         GdbServer {
             alloc,
@@ -56,7 +56,37 @@ impl GdbServer {
             session,
             has_acks: true,
             last: Vec::new(alloc),
+            loads: Loads::new(alloc),
+            lacks: false,
         }
+    }
+
+    /// Whether a `run` has come whole, up to its sum: the files are to be read anew before the next byte.
+    pub fn is_run_ahead(&self) -> bool
+        ensures { (images : List Entry) → result ≡ is_run_ahead (server_state self.now images).reading }
+    {
+        self.reader.is_run_ahead()
+    }
+
+    /// Takes in the lines that a machine begins with from the next `run` on. Where they, or an image, are
+    /// others than before, they stand in place of what `load` sent.
+    pub fn take_files(&mut self, start: Vec<u8>, is_other: bool)
+        ensures { (images : List Entry) → server_state self.new images
+            ≡ with_files (server_state self.old images) start.items is_other }
+    {
+        if is_other || start.as_slice() != self.session.start.as_slice() {
+            self.loads = Loads::new(self.alloc);
+        }
+        self.session.start = start;
+        self.lacks = false;
+    }
+
+    /// Takes in that a file can't be read: a `run` is an error.
+    pub fn lack_files(&mut self)
+        ensures { (images : List Entry) → server_state self.new images
+            ≡ without_files (server_state self.old images) }
+    {
+        self.lacks = true;
     }
 
     /// The session, as the packets left it.
@@ -79,13 +109,9 @@ impl GdbServer {
     ) -> Result<(), RunError>
         ensures reported { OnOk result (IsServed (W.contents sink.old) (W.contents sink.new)
             (server_state self.new images.new)
-            (bytes_served self.old.session.debug.setting self.old.session.start.items
-            bytes.now (server_state self.old images.old))) }
+            (bytes_served bytes.now (server_state self.old images.old))) }
         ensures front { OnErr result (AddsFront (W.contents sink.old) (W.contents sink.new)
-            (bytes_served self.old.session.debug.setting self.old.session.start.items
-            bytes.now (server_state self.old images.old)).text) }
-        ensures setting { self.new.session.debug.setting ≡ self.old.session.debug.setting }
-        ensures start { self.new.session.start.items ≡ self.old.session.start.items }
+            (bytes_served bytes.now (server_state self.old images.old)).text) }
         ensures errors { IfErr result IsLineError }
         ensures same_flag { OnOk result (W.has_failed sink.new ≡ W.has_failed sink.old) }
     {
@@ -106,13 +132,9 @@ impl GdbServer {
     ) -> Result<(), RunError>
         ensures reported { OnOk result (IsServed (W.contents sink.old) (W.contents sink.new)
             (server_state self.new images.new)
-            (byte_served self.old.session.debug.setting self.old.session.start.items
-            (server_state self.old images.old) byte)) }
+            (byte_served (server_state self.old images.old) byte)) }
         ensures front { OnErr result (AddsFront (W.contents sink.old) (W.contents sink.new)
-            (byte_served self.old.session.debug.setting self.old.session.start.items
-            (server_state self.old images.old) byte).text) }
-        ensures setting { self.new.session.debug.setting ≡ self.old.session.debug.setting }
-        ensures start { self.new.session.start.items ≡ self.old.session.start.items }
+            (byte_served (server_state self.old images.old) byte).text) }
         ensures errors { IfErr result IsLineError }
         ensures same_flag { OnOk result (W.has_failed sink.new ≡ W.has_failed sink.old) }
     {
@@ -129,13 +151,11 @@ impl GdbServer {
     fn take_spoilt<W: Sink>(&mut self, images: &mut Images, sink: &mut W) -> Result<(), RunError>
         ensures reported { OnOk result (IsServed (W.contents sink.old) (W.contents sink.new)
             (server_state self.new images.new)
-            (spoilt_served self.old.session.debug.setting self.old.session.start.items
-            (server_state self.old images.old) (is_taken_so self.old.has_acks self.old.reader.fits))) }
+            (spoilt_served (server_state self.old images.old)
+            (is_taken_so self.old.has_acks self.old.reader.fits))) }
         ensures front { OnErr result (AddsFront (W.contents sink.old) (W.contents sink.new)
-            (spoilt_served self.old.session.debug.setting self.old.session.start.items
-            (server_state self.old images.old) (is_taken_so self.old.has_acks self.old.reader.fits)).text) }
-        ensures setting { self.new.session.debug.setting ≡ self.old.session.debug.setting }
-        ensures start { self.new.session.start.items ≡ self.old.session.start.items }
+            (spoilt_served (server_state self.old images.old)
+            (is_taken_so self.old.has_acks self.old.reader.fits)).text) }
         ensures errors { IfErr result IsLineError }
         ensures same_flag { OnOk result (W.has_failed sink.new ≡ W.has_failed sink.old) }
     {
@@ -157,8 +177,6 @@ impl GdbServer {
             (AddsFront (W.contents sink.old) (W.contents sink.new)
             (stop_served (server_state self.old images)
             (is_some (server_state self.old images).session.going)).text) }
-        ensures setting { self.new.session.debug.setting ≡ self.old.session.debug.setting }
-        ensures start { self.new.session.start.items ≡ self.old.session.start.items }
         ensures errors { IfErr result IsLineError }
         ensures same_flag { OnOk result (W.has_failed sink.new ≡ W.has_failed sink.old) }
     {
@@ -174,8 +192,6 @@ impl GdbServer {
         ensures state { (images : List Entry) → OnOk result (server_state self.new images
             ≡ (unasked_served (server_state self.old images)
             (stop_asked (server_state self.old images).session)).state) }
-        ensures setting { self.new.session.debug.setting ≡ self.old.session.debug.setting }
-        ensures start { self.new.session.start.items ≡ self.old.session.start.items }
         ensures errors { IfErr result IsLineError }
     {
         let answer = self.session.ask_to_stop()?;
@@ -188,13 +204,9 @@ impl GdbServer {
     fn take_packet<W: Sink>(&mut self, images: &mut Images, sink: &mut W) -> Result<(), RunError>
         ensures reported { OnOk result (IsServed (W.contents sink.old) (W.contents sink.new)
             (server_state self.new images.new)
-            (packet_served self.old.session.debug.setting self.old.session.start.items
-            (server_state self.old images.old))) }
+            (packet_served (server_state self.old images.old))) }
         ensures front { OnErr result (AddsFront (W.contents sink.old) (W.contents sink.new)
-            (packet_served self.old.session.debug.setting self.old.session.start.items
-            (server_state self.old images.old)).text) }
-        ensures setting { self.new.session.debug.setting ≡ self.old.session.debug.setting }
-        ensures start { self.new.session.start.items ≡ self.old.session.start.items }
+            (packet_served (server_state self.old images.old)).text) }
         ensures errors { IfErr result IsLineError }
         ensures same_flag { OnOk result (W.has_failed sink.new ≡ W.has_failed sink.old) }
     {
@@ -221,15 +233,15 @@ impl GdbServer {
     // Answers the packet that came, and keeps the answer as it is written.
     fn answer_packet(&mut self, images: &mut Images) -> Result<(), RunError>
         ensures state { OnOk result (server_state self.new images.new
-            ≡ (packet_served self.old.session.debug.setting self.old.session.start.items
-            (server_state self.old images.old)).state) }
-        ensures setting { self.new.session.debug.setting ≡ self.old.session.debug.setting }
-        ensures start { self.new.session.start.items ≡ self.old.session.start.items }
+            ≡ (packet_served (server_state self.old images.old)).state) }
         ensures errors { IfErr result IsLineError }
     {
         let request = request_of(self.reader.packet());
         self.has_acks = self.has_acks && keeps_acks(&request);
-        let answer = self.session.answer(images, &request)?;
+        self.loads.note(self.reader.packet(), self.session.pc())?;
+        let answer = self
+            .session
+            .answer_request(images, &request, self.loads.kept(), self.lacks)?;
         let mut text = TextSink::new(self.alloc);
         push_answer(self.alloc, &mut text, &answer)?;
         self.last = text.into_bytes();

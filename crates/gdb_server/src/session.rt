@@ -8,6 +8,7 @@ mod going;
 mod laws;
 mod lines;
 mod looking;
+mod programs;
 mod running;
 mod session;
 mod stepping;

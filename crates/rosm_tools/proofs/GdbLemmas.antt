@@ -1,4 +1,5 @@
 pub mod OptionLemmas
+pub mod RenewedLemmas
 pub mod ServeLemmas
 pub mod StartLemmas
 pub mod StreamLemmas

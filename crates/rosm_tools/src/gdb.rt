@@ -3,12 +3,13 @@
 //!
 //! Promise: it serves what `gdb_server` answers, to the end of the input.
 //!
-//! `rosm_gdb [--script FILE] [--pages N] [--app N] [--rma N] [--budget N] [FILE...]`
+//! `rosm_gdb [--script FILE] [--stay] [--pages N] [--app N] [--rma N] [--budget N] [FILE...]`
 #![tactic(auto)]
 
 mod options;
 mod process;
 mod refusal;
+mod renewed;
 mod serve;
 mod start;
 mod words;

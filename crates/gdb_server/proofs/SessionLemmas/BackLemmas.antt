@@ -6,8 +6,6 @@ use Rattle.command_shell.specs.State.{ScriptState}
 use Rattle.command_shell.specs.declared.error.RunError.{RunError}
 use Rattle.debug_session.specs.PastActs.{steps_of_acts}
 use Rattle.debug_session.specs.Past.{PastState}
-use Rattle.profile.specs.Sizes.{Sizes}
-use Rattle.debug_session.specs.declared.session.DebugSettings.{DebugSettings}
 use Rattle.gdb_machine.specs.BackEnds.{first_met, met_first}
 use Rattle.gdb_machine.specs.declared.back_ends.BackEnd.{BackEnd}
 use Rattle.gdb_machine.specs.declared.stops.GdbStop.{GdbStop}
@@ -42,6 +40,7 @@ not_stepped g reason.Library other = refl
 not_stepped g (reason.Killed f) other = refl
 not_stepped g (reason.WatchedBack place) other = refl
 not_stepped g reason.Begin other = refl
+not_stepped g reason.End other = refl
 
 -- A STEP BACK
 
@@ -56,48 +55,49 @@ pub gone_so : (g : GdbState) (s t : ScriptState) (p q : PastState) → s ≡ t �
 gone_so g s t p q script past = λ i. record g { debug = record g.debug { script = script i; past = past i } }
 
 -- a step that is to be taken
-back_anew : (setting : DebugSettings) (g : GdbState) (why : GdbStop) → ((place : WatchedPlace) → why ≡ reason.WatchedBack place → ⊥)
-    → step_back_from setting g (steps_back g.debug.past) ≡ step_back_after why setting g
-back_anew setting g (reason.WatchedBack place) other = absurd (other place refl)
-back_anew setting g reason.Stepped other = refl
-back_anew setting g (reason.Ran x) other = refl
-back_anew setting g reason.Asked other = refl
-back_anew setting g (reason.Watched place) other = refl
-back_anew setting g reason.Library other = refl
-back_anew setting g (reason.Killed f) other = refl
-back_anew setting g reason.Begin other = refl
+back_anew : (g : GdbState) (why : GdbStop) → ((place : WatchedPlace) → why ≡ reason.WatchedBack place → ⊥)
+    → step_back_from g (steps_back g.debug.past) ≡ step_back_after why g
+back_anew g (reason.WatchedBack place) other = absurd (other place refl)
+back_anew g reason.Stepped other = refl
+back_anew g (reason.Ran x) other = refl
+back_anew g reason.Asked other = refl
+back_anew g (reason.Watched place) other = refl
+back_anew g reason.Library other = refl
+back_anew g (reason.Killed f) other = refl
+back_anew g reason.Begin other = refl
+back_anew g reason.End other = refl
 
-pub stays_at_begin : (setting : DebugSettings) (g : GdbState) (steps : ℕ) → ((place : WatchedPlace) → g.stop ≡ reason.WatchedBack place → ⊥)
-    → steps ≡ steps_back g.debug.past → steps ≡ 0 → gdb_stop_shown g [] reason.Begin ≡ step_back_shown setting g
-stays_at_begin setting g steps other is none =
-    sym (ap (step_back_from setting g) (sym is ∙ none)) ∙ back_anew setting g g.stop other
+pub stays_at_begin : (g : GdbState) (steps : ℕ) → ((place : WatchedPlace) → g.stop ≡ reason.WatchedBack place → ⊥)
+    → steps ≡ steps_back g.debug.past → steps ≡ 0 → gdb_stop_shown g [] reason.Begin ≡ step_back_shown g
+stays_at_begin g steps other is none =
+    sym (ap (step_back_from g) (sym is ∙ none)) ∙ back_anew g g.stop other
 
-pub steps_once : (setting : DebugSettings) (g : GdbState) (steps : ℕ) → ((place : WatchedPlace) → g.stop ≡ reason.WatchedBack place → ⊥)
-    → steps ≡ steps_back g.debug.past → 0 < steps → stepped_back g (gone_back_to setting g (steps - 1)) ≡ step_back_shown setting g
-steps_once setting g steps other is some =
+pub steps_once : (g : GdbState) (steps : ℕ) → ((place : WatchedPlace) → g.stop ≡ reason.WatchedBack place → ⊥)
+    → steps ≡ steps_back g.debug.past → 0 < steps → stepped_back g (gone_back_to g (steps - 1)) ≡ step_back_shown g
+steps_once g steps other is some =
     let split : steps ≡ suc (steps - 1) = omega (arith, some) in
-    sym (ap (step_back_from setting g) (sym is ∙ split)) ∙ back_anew setting g g.stop other
+    sym (ap (step_back_from g) (sym is ∙ split)) ∙ back_anew g g.stop other
 
 -- AS FAR AS SOMETHING STOPS IT
 
-pub back_library : (setting : DebugSettings) (g : GdbState) → is_other_list g.libraries g.debug.script ≡ true
-    → gdb_stop_shown g [] reason.Library ≡ continue_back_shown setting g
-back_library setting g is = rw is refl
+pub back_library : (g : GdbState) → is_other_list g.libraries g.debug.script ≡ true
+    → gdb_stop_shown g [] reason.Library ≡ continue_back_shown g
+back_library g is = rw is refl
 
-same_list : (setting : DebugSettings) (g : GdbState) → is_other_list g.libraries g.debug.script ≡ false
-    → continue_back_from setting g (steps_back g.debug.past) ≡ continue_back_shown setting g
-same_list setting g is = rw is refl
+same_list : (g : GdbState) → is_other_list g.libraries g.debug.script ≡ false
+    → continue_back_from g (steps_back g.debug.past) ≡ continue_back_shown g
+same_list g is = rw is refl
 
-pub begins_there : (setting : DebugSettings) (g : GdbState) (steps : ℕ) → is_other_list g.libraries g.debug.script ≡ false
-    → steps ≡ steps_back g.debug.past → steps ≡ 0 → gdb_stop_shown g [] reason.Begin ≡ continue_back_shown setting g
-begins_there setting g steps same is none =
-    sym (ap (continue_back_from setting g) (sym is ∙ none)) ∙ same_list setting g same
+pub begins_there : (g : GdbState) (steps : ℕ) → is_other_list g.libraries g.debug.script ≡ false
+    → steps ≡ steps_back g.debug.past → steps ≡ 0 → gdb_stop_shown g [] reason.Begin ≡ continue_back_shown g
+begins_there g steps same is none =
+    sym (ap (continue_back_from g) (sym is ∙ none)) ∙ same_list g same
 
-pub ends_back : (setting : DebugSettings) (g : GdbState) (steps : ℕ) → is_other_list g.libraries g.debug.script ≡ false
-    → steps ≡ steps_back g.debug.past → 0 < steps → back_to_end setting g (back_end setting.config g) ≡ continue_back_shown setting g
-ends_back setting g steps same is some =
+pub ends_back : (g : GdbState) (steps : ℕ) → is_other_list g.libraries g.debug.script ≡ false
+    → steps ≡ steps_back g.debug.past → 0 < steps → back_to_end g (back_end g) ≡ continue_back_shown g
+ends_back g steps same is some =
     let split : steps ≡ suc (steps - 1) = omega (arith, some) in
-    sym (ap (continue_back_from setting g) (sym is ∙ split)) ∙ same_list setting g same
+    sym (ap (continue_back_from g) (sym is ∙ split)) ∙ same_list g same
 
 -- an end by an equal one
 pub end_as : (r : Result BackEnd RunError) (a b : BackEnd) → a ≡ b → IfOk r (λ end. end ≡ a) → IfOk r (λ end. end ≡ b)
@@ -114,14 +114,14 @@ end_goes_on {X} f start items i item end next below is more h =
     let split = drop_more items i item below ∙ ap (λ (x : X). x ∷ rest) (sym is) in
     h ∙ ap (λ (xs : List X). first_met end (map f xs)) split ∙ sym (ap (λ (e : BackEnd). first_met e (map f rest)) more)
 
-pub byte_goes_on : (sizes : Sizes) (g there : GdbState) (start : BackEnd) (bytes : List SeenByte) (i : ℕ) (d : SeenByte) (end other next : BackEnd)
-    → i < length bytes → there ≡ g → other ≡ end_at_byte sizes there (get_or bytes i d) → next ≡ met_first end other
-    → first_met start (map (end_at_byte sizes g) bytes) ≡ first_met end (map (end_at_byte sizes g) (drop i bytes))
-    → first_met start (map (end_at_byte sizes g) bytes) ≡ first_met next (map (end_at_byte sizes g) (drop (i + 1) bytes))
-byte_goes_on sizes g there start bytes i d end other next below same found more h =
+pub byte_goes_on : (g there : GdbState) (start : BackEnd) (bytes : List SeenByte) (i : ℕ) (d : SeenByte) (end other next : BackEnd)
+    → i < length bytes → there ≡ g → other ≡ end_at_byte there (get_or bytes i d) → next ≡ met_first end other
+    → first_met start (map (end_at_byte g) bytes) ≡ first_met end (map (end_at_byte g) (drop i bytes))
+    → first_met start (map (end_at_byte g) bytes) ≡ first_met next (map (end_at_byte g) (drop (i + 1) bytes))
+byte_goes_on g there start bytes i d end other next below same found more h =
     let byte : SeenByte = get_or bytes i d in
-    end_goes_on (end_at_byte sizes g) start bytes i byte end next below (get_or_default bytes i d byte below)
-    (more ∙ ap (met_first end) (found ∙ ap (λ (s : GdbState). end_at_byte sizes s byte) same)) h
+    end_goes_on (end_at_byte g) start bytes i byte end next below (get_or_default bytes i d byte below)
+    (more ∙ ap (met_first end) (found ∙ ap (λ (s : GdbState). end_at_byte s byte) same)) h
 
 pub end_is_all : {X : Type 0} (f : X → BackEnd) (start : BackEnd) (items : List X) (i : ℕ) (end : BackEnd) → length items ≤ i
     → first_met start (map f items) ≡ first_met end (map f (drop i items)) → end ≡ first_met start (map f items)

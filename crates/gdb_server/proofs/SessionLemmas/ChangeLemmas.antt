@@ -14,7 +14,6 @@ use Rattle.gdb_server.specs.session.Requests.{act_shown, gdb_change_shown}
 use Rattle.gdb_server.specs.session.Session.{IsGdbAnswered}
 use Rattle.gdb_server.specs.session.State.{GdbState, GdbAnswered, with_past, with_script}
 use Rattle.gdb_server.specs.declared.session.session.GdbAnswer.{GdbAnswer}
-use Rattle.debug_session.specs.declared.session.DebugSettings.{DebugSettings}
 
 -- an answer of which the parts are known
 pub answer_known : (now : GdbState) (r : Result GdbAnswer RunError) (reply : Option (List ℕ)) (reported : GdbAnswered)
@@ -34,45 +33,45 @@ changed_so g s p change script past = ap (λ (x : ScriptState). with_past (with_
     ∙ ap (λ (q : PastState). with_past (with_script g (script_with_change g.debug.script change)) q) past
 
 -- a request that none of the calls of its own answers is a change
-pub other_act : (setting : DebugSettings) (start : List ℕ) (g : GdbState) (request : Request)
+pub other_act : (g : GdbState) (request : Request)
     → (request ≡ asked.Continue → ⊥) → ((n : ℕ) → request ≡ asked.ContinueWith n → ⊥) → (request ≡ asked.Step → ⊥)
     → ((n : ℕ) → request ≡ asked.StepWith n → ⊥) → ((places : PlaceRange) → request ≡ asked.StepRange places → ⊥) → ((asks : Bool) → request ≡ asked.HostAnswer asks → ⊥)
     → ((pairs : Bor (List ℕ)) → request ≡ asked.Line pairs → ⊥) → (request ≡ asked.RunProgram → ⊥) → (request ≡ asked.Restart → ⊥)
     → (request ≡ asked.StepBack → ⊥) → (request ≡ asked.ContinueBack → ⊥)
-    → gdb_change_shown g (gdb_request request) ≡ act_shown setting start g (gdb_request request)
-other_act setting start g asked.Reason c cw s sw w h l p r sb cb = refl
-other_act setting start g asked.Registers c cw s sw w h l p r sb cb = refl
-other_act setting start g (asked.SetRegisters pairs) c cw s sw w h l p r sb cb = refl
-other_act setting start g (asked.Register n) c cw s sw w h l p r sb cb = refl
-other_act setting start g (asked.SetRegister n pairs) c cw s sw w h l p r sb cb = refl
-other_act setting start g (asked.Memory range) c cw s sw w h l p r sb cb = refl
-other_act setting start g (asked.StorePairs range pairs) c cw s sw w h l p r sb cb = refl
-other_act setting start g (asked.StoreBytes range bytes) c cw s sw w h l p r sb cb = refl
-other_act setting start g asked.Continue c cw s sw w h l p r sb cb = absurd (c refl)
-other_act setting start g (asked.ContinueWith n) c cw s sw w h l p r sb cb = absurd (cw n refl)
-other_act setting start g asked.Step c cw s sw w h l p r sb cb = absurd (s refl)
-other_act setting start g (asked.StepWith n) c cw s sw w h l p r sb cb = absurd (sw n refl)
-other_act setting start g (asked.StepRange places) c cw s sw w h l p r sb cb = absurd (w places refl)
-other_act setting start g asked.StepBack c cw s sw w h l p r sb cb = absurd (sb refl)
-other_act setting start g asked.ContinueBack c cw s sw w h l p r sb cb = absurd (cb refl)
-other_act setting start g asked.Ways c cw s sw w h l p r sb cb = refl
-other_act setting start g (asked.AddPoint kind range) c cw s sw w h l p r sb cb = refl
-other_act setting start g (asked.RemovePoint kind range) c cw s sw w h l p r sb cb = refl
-other_act setting start g asked.Supported c cw s sw w h l p r sb cb = refl
-other_act setting start g asked.NoAcks c cw s sw w h l p r sb cb = refl
-other_act setting start g (asked.Description range) c cw s sw w h l p r sb cb = refl
-other_act setting start g (asked.Libraries range) c cw s sw w h l p r sb cb = refl
-other_act setting start g (asked.Thread is_own) c cw s sw w h l p r sb cb = refl
-other_act setting start g asked.IsAttached c cw s sw w h l p r sb cb = refl
-other_act setting start g asked.CurrentThread c cw s sw w h l p r sb cb = refl
-other_act setting start g asked.FirstThreads c cw s sw w h l p r sb cb = refl
-other_act setting start g asked.MoreThreads c cw s sw w h l p r sb cb = refl
-other_act setting start g (asked.Line pairs) c cw s sw w h l p r sb cb = absurd (l pairs refl)
-other_act setting start g (asked.HostAnswer asks) c cw s sw w h l p r sb cb = absurd (h asks refl)
-other_act setting start g asked.Detach c cw s sw w h l p r sb cb = refl
-other_act setting start g asked.Kill c cw s sw w h l p r sb cb = refl
-other_act setting start g asked.KillProgram c cw s sw w h l p r sb cb = refl
-other_act setting start g asked.Extended c cw s sw w h l p r sb cb = refl
-other_act setting start g asked.Restart c cw s sw w h l p r sb cb = absurd (r refl)
-other_act setting start g asked.RunProgram c cw s sw w h l p r sb cb = absurd (p refl)
-other_act setting start g asked.Unknown c cw s sw w h l p r sb cb = refl
+    → gdb_change_shown g (gdb_request request) ≡ act_shown g (gdb_request request)
+other_act g asked.Reason c cw s sw w h l p r sb cb = refl
+other_act g asked.Registers c cw s sw w h l p r sb cb = refl
+other_act g (asked.SetRegisters pairs) c cw s sw w h l p r sb cb = refl
+other_act g (asked.Register n) c cw s sw w h l p r sb cb = refl
+other_act g (asked.SetRegister n pairs) c cw s sw w h l p r sb cb = refl
+other_act g (asked.Memory range) c cw s sw w h l p r sb cb = refl
+other_act g (asked.StorePairs range pairs) c cw s sw w h l p r sb cb = refl
+other_act g (asked.StoreBytes range bytes) c cw s sw w h l p r sb cb = refl
+other_act g asked.Continue c cw s sw w h l p r sb cb = absurd (c refl)
+other_act g (asked.ContinueWith n) c cw s sw w h l p r sb cb = absurd (cw n refl)
+other_act g asked.Step c cw s sw w h l p r sb cb = absurd (s refl)
+other_act g (asked.StepWith n) c cw s sw w h l p r sb cb = absurd (sw n refl)
+other_act g (asked.StepRange places) c cw s sw w h l p r sb cb = absurd (w places refl)
+other_act g asked.StepBack c cw s sw w h l p r sb cb = absurd (sb refl)
+other_act g asked.ContinueBack c cw s sw w h l p r sb cb = absurd (cb refl)
+other_act g asked.Ways c cw s sw w h l p r sb cb = refl
+other_act g (asked.AddPoint kind range) c cw s sw w h l p r sb cb = refl
+other_act g (asked.RemovePoint kind range) c cw s sw w h l p r sb cb = refl
+other_act g asked.Supported c cw s sw w h l p r sb cb = refl
+other_act g asked.NoAcks c cw s sw w h l p r sb cb = refl
+other_act g (asked.Description range) c cw s sw w h l p r sb cb = refl
+other_act g (asked.Libraries range) c cw s sw w h l p r sb cb = refl
+other_act g (asked.Thread is_own) c cw s sw w h l p r sb cb = refl
+other_act g asked.IsAttached c cw s sw w h l p r sb cb = refl
+other_act g asked.CurrentThread c cw s sw w h l p r sb cb = refl
+other_act g asked.FirstThreads c cw s sw w h l p r sb cb = refl
+other_act g asked.MoreThreads c cw s sw w h l p r sb cb = refl
+other_act g (asked.Line pairs) c cw s sw w h l p r sb cb = absurd (l pairs refl)
+other_act g (asked.HostAnswer asks) c cw s sw w h l p r sb cb = absurd (h asks refl)
+other_act g asked.Detach c cw s sw w h l p r sb cb = refl
+other_act g asked.Kill c cw s sw w h l p r sb cb = refl
+other_act g asked.KillProgram c cw s sw w h l p r sb cb = refl
+other_act g asked.Extended c cw s sw w h l p r sb cb = refl
+other_act g asked.Restart c cw s sw w h l p r sb cb = absurd (r refl)
+other_act g asked.RunProgram c cw s sw w h l p r sb cb = absurd (p refl)
+other_act g asked.Unknown c cw s sw w h l p r sb cb = refl

@@ -147,37 +147,43 @@ pub answered_as : (now : GdbState) (r : Result GdbAnswer RunError) (a b : GdbAns
 answered_as now r a b same reported = subst (λ (x : GdbAnswered). IfOk r (λ (answer : GdbAnswer). IsGdbAnswered now answer x)) same reported
 
 -- a line of a debugging script, answered on its own
-pub line_answered : (setting own : DebugSettings) (g : GdbState) (answer : GdbAnswer) (before after : List ℕ) (here now : DebugState)
+pub line_answered : (own later : DebugSettings) (g : GdbState) (answer : GdbAnswer) (before after : List ℕ) (here now : DebugState)
     (number : ℕ) (block : List (List ℕ)) (line : List ℕ)
     → IsDebugged (Some before) (Some after) now (debug_line_answer own here number line block)
-    → own ≡ setting → here ≡ without_quit g.debug → before ≡ [] → number ≡ 0 → block ≡ [] → answer.reported.items ≡ after
+    → own ≡ g.setting → later ≡ g.setting → here ≡ without_quit g.debug → before ≡ [] → number ≡ 0 → block ≡ [] → answer.reported.items ≡ after
     → option_map (λ reply. reply.items) answer.reply ≡ Some (codes "OK")
-    → IsGdbAnswered (with_debug g now) answer (line_decoded setting g (Some line))
-line_answered setting own g answer before after here now number block line reported same begins none first alone text reply =
-    let a = subst (λ (n : ℕ). IsDebugged (Some []) (Some after) now (debug_line_answer setting (without_quit g.debug) n line [])) first
-    (subst (λ (b : List (List ℕ)). IsDebugged (Some []) (Some after) now (debug_line_answer setting (without_quit g.debug) number line b)) alone
-    (subst (λ (d : DebugState). IsDebugged (Some []) (Some after) now (debug_line_answer setting d number line block)) begins
+    → IsGdbAnswered (record (with_debug g now) { setting = later }) answer (line_decoded g (Some line))
+line_answered own later g answer before after here now number block line reported same stays begins none first alone text reply =
+    let a = subst (λ (n : ℕ). IsDebugged (Some []) (Some after) now (debug_line_answer g.setting (without_quit g.debug) n line [])) first
+    (subst (λ (b : List (List ℕ)). IsDebugged (Some []) (Some after) now (debug_line_answer g.setting (without_quit g.debug) number line b)) alone
+    (subst (λ (d : DebugState). IsDebugged (Some []) (Some after) now (debug_line_answer g.setting d number line block)) begins
     (subst (λ (u : DebugSettings). IsDebugged (Some []) (Some after) now (debug_line_answer u here number line block)) same
     (subst (λ (x : List ℕ). IsDebugged (Some x) (Some after) now (debug_line_answer own here number line block)) none reported)))) in
-    record { state = ap (with_debug g) a.state; text = text ∙ a.text; reply = reply }
+    record {
+      state = ap (λ (u : DebugSettings). record (with_debug g now) { setting = u }) stays ∙ ap (with_debug g) a.state;
+      text = text ∙ a.text;
+      reply = reply;
+    }
 
 -- the lines that a machine begins with, answered on a fresh one
-pub lines_answered : (setting own : DebugSettings) (start : List ℕ) (g : GdbState) (before after : List ℕ) (here now : DebugState)
+pub lines_answered : (own : DebugSettings) (g : GdbState) (before after : List ℕ) (here now : DebugState)
     (number : ℕ) (left : List (List ℕ)) → IsDebugged (Some before) (Some after) now (debug_lines_answer own number here left)
-    → own ≡ setting → here ≡ debug_anew setting g.debug → before ≡ [] → number ≡ 0 → left ≡ lines start
-    → IsDebugged (Some []) (Some after) now (begin_shown setting start g)
-lines_answered setting own start g before after here now number left reported same begins none first all =
-    subst (λ (l : List (List ℕ)). IsDebugged (Some []) (Some after) now (debug_lines_answer setting 0 (debug_anew setting g.debug) l)) all
-    (subst (λ (n : ℕ). IsDebugged (Some []) (Some after) now (debug_lines_answer setting n (debug_anew setting g.debug) left)) first
-    (subst (λ (d : DebugState). IsDebugged (Some []) (Some after) now (debug_lines_answer setting number d left)) begins
+    → own ≡ g.setting → here ≡ debug_anew g.setting g.debug → before ≡ [] → number ≡ 0 → left ≡ lines g.start
+    → IsDebugged (Some []) (Some after) now (begin_shown g)
+lines_answered own g before after here now number left reported same begins none first all =
+    subst (λ (l : List (List ℕ)). IsDebugged (Some []) (Some after) now (debug_lines_answer g.setting 0 (debug_anew g.setting g.debug) l)) all
+    (subst (λ (n : ℕ). IsDebugged (Some []) (Some after) now (debug_lines_answer g.setting n (debug_anew g.setting g.debug) left)) first
+    (subst (λ (d : DebugState). IsDebugged (Some []) (Some after) now (debug_lines_answer g.setting number d left)) begins
     (subst (λ (u : DebugSettings). IsDebugged (Some []) (Some after) now (debug_lines_answer u number here left)) same
     (subst (λ (x : List ℕ). IsDebugged (Some x) (Some after) now (debug_lines_answer own number here left)) none reported))))
 
 -- the session after them
-pub begun_so : (g : GdbState) (now : DebugState) (reported : DebugAnswered) (libraries : List ℕ) → now ≡ reported.state → libraries ≡ []
-    → record g { debug = now; libraries = libraries } ≡ after_begin g reported
-begun_so g now reported libraries state none =
-    ap (λ (d : DebugState). record g { debug = d; libraries = libraries }) state
+pub begun_so : (g : GdbState) (later : DebugSettings) (now : DebugState) (reported : DebugAnswered) (libraries : List ℕ) → later ≡ g.setting
+    → now ≡ reported.state → libraries ≡ []
+    → record g { setting = later; debug = now; libraries = libraries } ≡ after_begin g reported
+begun_so g later now reported libraries same state none =
+    ap (λ (u : DebugSettings). record g { setting = u; debug = now; libraries = libraries }) same
+    ∙ ap (λ (d : DebugState). record g { debug = d; libraries = libraries }) state
     ∙ ap (λ (x : List ℕ). record g { debug = reported.state; libraries = x }) none
 
 pub replied : (g : GdbState) (answer : GdbAnswer) (text : List ℕ) → answer.reported.items ≡ []

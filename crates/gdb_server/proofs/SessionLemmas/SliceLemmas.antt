@@ -14,7 +14,7 @@ use Rattle.gdb_server.specs.declared.session.stepping.StepAhead.{StepAhead}
 use Rattle.gdb_server.specs.session.Laws.{GdbSlicesAreOneRun}
 use Rattle.gdb_machine.specs.GdbBreaks.{is_among}
 use Rattle.gdb_packets.specs.Going.{has_left}
-use Rattle.gdb_server.specs.session.Steps.{StepLooks, StepsTaken, end_beside, end_of_step, is_other_list, looked_further, looked_steps, machine_end, ahead_of, printed_before, script_steps, watched_or}
+use Rattle.gdb_server.specs.session.Steps.{StepLooks, StepsTaken, end_beside, end_of_step, is_other_list, looked_further, looked_steps, machine_end, ahead_of, printed_before, script_steps, stays_here, watched_or}
 use Rattle.gdb_server.proofs.SessionLemmas.StepLemmas.{no_step, one_more}
 
 -- what ends steps is no end of a budget
@@ -26,17 +26,19 @@ if_ends : (b : Bool) (x y : Option GdbStop) → Ends x → Ends y → Ends (if b
 if_ends true x y first second = first
 if_ends false x y first second = second
 
-beside_ends : (goes : Going) (breaks reported : List ℕ) (may : Bool) (s : ScriptState) → Ends (end_beside goes breaks reported may s)
-beside_ends goes breaks reported may s =
+beside_ends : (goes : Going) (stays : Bool) (breaks reported : List ℕ) (may : Bool) (s : ScriptState)
+    → Ends (end_beside goes stays breaks reported may s)
+beside_ends goes stays breaks reported may s =
     if_ends (is_among breaks s.machine.cpu.pc) (Some (reason.Ran (stop.Break s.machine.cpu.pc))) _ refl
+    (if_ends (stays_here stays s) (Some reason.End) _ refl
     (if_ends (has_left goes s.machine.cpu.pc) (Some reason.Stepped) _ refl
-    (if_ends (may && is_other_list reported s) (Some reason.Library) None refl tt))
+    (if_ends (may && is_other_list reported s) (Some reason.Library) None refl tt)))
 
 machine_ends : (l : StepLooks) (why : GdbStop) (may : Bool) (s : ScriptState) → Ends (machine_end l why may s)
 machine_ends l why may s = by (steps_further why) refl
   where
-    by : (b : Bool) → steps_further why ≡ b → Ends (if b then end_beside l.going l.breaks l.libraries may s else Some why)
-    by true e = beside_ends l.going l.breaks l.libraries may s
+    by : (b : Bool) → steps_further why ≡ b → Ends (if b then end_beside l.going l.stays l.breaks l.libraries may s else Some why)
+    by true e = beside_ends l.going l.stays l.breaks l.libraries may s
     by false e = e
 
 watched_ends : (o : Option WatchedPlace) (other : Option GdbStop) → Ends other → Ends (watched_or o other)

@@ -19,7 +19,7 @@ use Rattle.gdb_machine.specs.GdbBreaks.{is_among}
 use Rattle.gdb_server.specs.session.Session.{IsAfterLooked, IsAfterSteps}
 use Rattle.gdb_server.specs.session.State.{GdbState, with_noted, with_script}
 use Rattle.gdb_packets.specs.Going.{has_left}
-use Rattle.gdb_server.specs.session.Steps.{StepLooks, StepsTaken, end_beside, end_of_step, is_other_list, looked_further, looked_steps, looks_at, machine_end, ahead_of, none_taken, printed_before, script_steps, watched_or}
+use Rattle.gdb_server.specs.session.Steps.{StepLooks, StepsTaken, end_beside, end_of_step, is_other_list, looked_further, looked_steps, looks_at, machine_end, ahead_of, none_taken, printed_before, script_steps, stays_here, watched_or}
 
 pub one_more : (l : StepLooks) (left : ℕ) (s : ScriptState) → looked_steps l (suc left) s
     ≡ looked_further (script_steps s 1)
@@ -168,40 +168,75 @@ machine_stands l ahead why s same none ends =
     ∙ ap (λ (o : Option WatchedPlace). watched_or o (machine_end l why ahead.may_change s)) none ∙ by (steps_further why) ends)
   where
     by : (b : Bool) → b ≡ false
-        → (if b then end_beside l.going l.breaks l.libraries ahead.may_change s else Some why) ≡ Some why
+        → (if b then end_beside l.going l.stays l.breaks l.libraries ahead.may_change s else Some why) ≡ Some why
     by b is = rw is refl
 
 pub looks_beside : (l : StepLooks) (ahead : StepAhead) (why : GdbStop) (s : ScriptState)
     → first_changed s.machine.store.bytes l.seen ≡ None → struck_after why ahead.struck ≡ None → steps_further why ≡ true
-    → end_beside l.going l.breaks l.libraries ahead.may_change s ≡ end_of_step l ahead why s
+    → end_beside l.going l.stays l.breaks l.libraries ahead.may_change s ≡ end_of_step l ahead why s
 looks_beside l ahead why s same none goes =
     sym (ap (λ (o : Option WatchedPlace). watched_or o (beyond_change l ahead why s)) same
     ∙ ap (λ (o : Option WatchedPlace). watched_or o (machine_end l why ahead.may_change s)) none ∙ by (steps_further why) goes)
   where
-    by : (b : Bool) → b ≡ true → (if b then end_beside l.going l.breaks l.libraries ahead.may_change s else Some why)
-        ≡ end_beside l.going l.breaks l.libraries ahead.may_change s
+    by : (b : Bool) → b ≡ true → (if b then end_beside l.going l.stays l.breaks l.libraries ahead.may_change s else Some why)
+        ≡ end_beside l.going l.stays l.breaks l.libraries ahead.may_change s
     by b is = rw is refl
 
-pub beside_list : (goes : Going) (breaks reported : List ℕ) (may : Bool) (s : ScriptState) → is_among breaks s.machine.cpu.pc ≡ false
-    → has_left goes s.machine.cpu.pc ≡ false → may ≡ true → is_other_list reported s ≡ true
-    → Some reason.Library ≡ end_beside goes breaks reported may s
-beside_list goes breaks reported may s no_break within may_change other =
-    by (is_among breaks s.machine.cpu.pc) (has_left goes s.machine.cpu.pc) (is_other_list reported s) no_break within other
+-- why steps end at no break, where the program isn't to stay, within the range of addresses
+beside_by : (goes : Going) (stays : Bool) (breaks reported : List ℕ) (may : Bool) (s : ScriptState) (other : Bool)
+    → is_among breaks s.machine.cpu.pc ≡ false → stays_here stays s ≡ false → has_left goes s.machine.cpu.pc ≡ false → may ≡ true
+    → is_other_list reported s ≡ other
+    → (if other then Some reason.Library else None) ≡ end_beside goes stays breaks reported may s
+beside_by goes stays breaks reported may s other no_break goes_on within may_change is =
+    by (is_among breaks s.machine.cpu.pc) (stays_here stays s) (has_left goes s.machine.cpu.pc) (is_other_list reported s) no_break goes_on within is
   where
-    by : (a b o : Bool) → a ≡ false → b ≡ false → o ≡ true → Some reason.Library
-        ≡ (if a then Some (reason.Ran (stop.Break s.machine.cpu.pc)) else (
-        if b then Some reason.Stepped else (if may && o then Some reason.Library else None)))
-    by a b o na nb is = rw (na, nb, is, may_change) refl
+    by : (a e b o : Bool) → a ≡ false → e ≡ false → b ≡ false → o ≡ other → (if other then Some reason.Library else None)
+        ≡ (if a then Some (reason.Ran (stop.Break s.machine.cpu.pc)) else (if e then Some reason.End else (
+        if b then Some reason.Stepped else (if may && o then Some reason.Library else None))))
+    by a e b o na ne nb is = rw (na, ne, nb, is, may_change) refl
 
-pub beside_nothing : (goes : Going) (breaks reported : List ℕ) (may : Bool) (s : ScriptState) → is_among breaks s.machine.cpu.pc ≡ false
-    → has_left goes s.machine.cpu.pc ≡ false → may ≡ true → is_other_list reported s ≡ false → None ≡ end_beside goes breaks reported may s
-beside_nothing goes breaks reported may s no_break within may_change same =
-    by (is_among breaks s.machine.cpu.pc) (has_left goes s.machine.cpu.pc) (is_other_list reported s) no_break within same
+pub beside_list : (goes : Going) (stays : Bool) (breaks reported : List ℕ) (may : Bool) (s : ScriptState)
+    → is_among breaks s.machine.cpu.pc ≡ false → stays_here stays s ≡ false → has_left goes s.machine.cpu.pc ≡ false → may ≡ true
+    → is_other_list reported s ≡ true → Some reason.Library ≡ end_beside goes stays breaks reported may s
+beside_list goes stays breaks reported may s no_break goes_on within may_change other =
+    beside_by goes stays breaks reported may s true no_break goes_on within may_change other
+
+pub beside_nothing : (goes : Going) (stays : Bool) (breaks reported : List ℕ) (may : Bool) (s : ScriptState)
+    → is_among breaks s.machine.cpu.pc ≡ false → stays_here stays s ≡ false → has_left goes s.machine.cpu.pc ≡ false → may ≡ true
+    → is_other_list reported s ≡ false → None ≡ end_beside goes stays breaks reported may s
+beside_nothing goes stays breaks reported may s no_break goes_on within may_change same =
+    beside_by goes stays breaks reported may s false no_break goes_on within may_change same
+
+pub beside_end : (goes : Going) (stays : Bool) (breaks reported : List ℕ) (may : Bool) (s : ScriptState)
+    → is_among breaks s.machine.cpu.pc ≡ false → stays_here stays s ≡ true → Some reason.End ≡ end_beside goes stays breaks reported may s
+beside_end goes stays breaks reported may s no_break is = by (is_among breaks s.machine.cpu.pc) (stays_here stays s) no_break is
   where
-    by : (a b o : Bool) → a ≡ false → b ≡ false → o ≡ false → None
-        ≡ (if a then Some (reason.Ran (stop.Break s.machine.cpu.pc)) else (
-        if b then Some reason.Stepped else (if may && o then Some reason.Library else None)))
-    by a b o na nb is = rw (na, nb, is, may_change) refl
+    by : (a e : Bool) → a ≡ false → e ≡ true → Some reason.End
+        ≡ (if a then Some (reason.Ran (stop.Break s.machine.cpu.pc)) else (if e then Some reason.End else (
+        if has_left goes s.machine.cpu.pc then Some reason.Stepped else (if may && is_other_list reported s then Some reason.Library else None))))
+    by a e na is = rw (na, is) refl
+
+pub beside_left : (goes : Going) (stays : Bool) (breaks reported : List ℕ) (may : Bool) (s : ScriptState)
+    → is_among breaks s.machine.cpu.pc ≡ false → stays_here stays s ≡ false → has_left goes s.machine.cpu.pc ≡ true
+    → Some reason.Stepped ≡ end_beside goes stays breaks reported may s
+beside_left goes stays breaks reported may s no_break goes_on is =
+    by (is_among breaks s.machine.cpu.pc) (stays_here stays s) (has_left goes s.machine.cpu.pc) no_break goes_on is
+  where
+    by : (a e b : Bool) → a ≡ false → e ≡ false → b ≡ true → Some reason.Stepped
+        ≡ (if a then Some (reason.Ran (stop.Break s.machine.cpu.pc)) else (if e then Some reason.End else (
+        if b then Some reason.Stepped else (if may && is_other_list reported s then Some reason.Library else None))))
+    by a e b na ne is = rw (na, ne, is) refl
+
+pub beside_same : (goes : Going) (stays : Bool) (breaks reported : List ℕ) (may : Bool) (s : ScriptState)
+    → is_among breaks s.machine.cpu.pc ≡ false → stays_here stays s ≡ false → has_left goes s.machine.cpu.pc ≡ false → may ≡ false
+    → None ≡ end_beside goes stays breaks reported may s
+beside_same goes stays breaks reported may s no_break goes_on within is =
+    by (is_among breaks s.machine.cpu.pc) (stays_here stays s) (has_left goes s.machine.cpu.pc) may no_break goes_on within is
+  where
+    by : (a e b m : Bool) → a ≡ false → e ≡ false → b ≡ false → m ≡ false → None
+        ≡ (if a then Some (reason.Ran (stop.Break s.machine.cpu.pc)) else (if e then Some reason.End else (
+        if b then Some reason.Stepped else (if m && is_other_list reported s then Some reason.Library else None))))
+    by a e b m na ne nb is = rw (na, ne, nb, is) refl
 
 -- what is known ahead of a step where steps are left, and where none is
 pub known_ahead : (left : ℕ) (place : Option WatchedPlace) → 0 < left → place ≡ (if nat_lt 0 left then place else None)

@@ -14,7 +14,6 @@ use Rattle.arm_core.specs.State.{IsCore, State}
 use Rattle.debug_session.specs.Put.{put_fault, script_after_put, script_with_bytes}
 use Rattle.command_shell.specs.State.{ScriptState}
 use Rattle.command_shell.specs.Writes.{machine_with_register}
-use Rattle.debug_session.specs.declared.session.DebugSettings.{DebugSettings}
 use Rattle.gdb_machine.specs.Changes.{core_with_change, register_write}
 use Rattle.gdb_machine.specs.Registers.{register_shown}
 use Rattle.gdb_machine.specs.declared.changes.RegisterWrite.{RegisterWrite}
@@ -57,15 +56,15 @@ register_is_set g n value (Some c) core e = record {
   refused = λ other. absurd (other refl);
 }
 
-register_answered : (setting : DebugSettings) (start : List ℕ) (g : GdbState) (n : ℕ) (pairs : List ℕ)
-    → gdb_answered setting start g (SetRegister n pairs) ≡ register_changed g (write_wanted n (decode_sized pairs 4))
+register_answered : (g : GdbState) (n : ℕ) (pairs : List ℕ)
+    → gdb_answered g (SetRegister n pairs) ≡ register_changed g (write_wanted n (decode_sized pairs 4))
 unfolding gdb_answered
-register_answered setting start g n pairs = refl
+register_answered g n pairs = refl
 
 pub registers_are_read : GdbRegistersAreRead
-registers_are_read setting start g n pairs bytes core is =
+registers_are_read g n pairs bytes core is =
     let value = from_le_bytes w32 bytes in
-    let reported = register_answered setting start g n pairs
+    let reported = register_answered g n pairs
     ∙ ap (λ (r : Result (List ℕ) FromHexError). register_changed g (write_wanted n r)) is in
     subst (λ (a : GdbAnswered). IsRegisterSet g n value a) (sym reported) (register_is_set g n value (register_write n value) core refl)
 
@@ -117,22 +116,22 @@ store_is_whole g range bytes = by (length bytes == range.count) refl
       owned = λ fits some owns. absurd (eqb-false (length bytes) range.count e fits);
     }
 
-bytes_answered : (setting : DebugSettings) (start : List ℕ) (g : GdbState) (range : ByteRange) (bytes : List ℕ)
-    → gdb_answered setting start g (StoreBytes range bytes) ≡ store_shown g range bytes
+bytes_answered : (g : GdbState) (range : ByteRange) (bytes : List ℕ)
+    → gdb_answered g (StoreBytes range bytes) ≡ store_shown g range bytes
 unfolding gdb_answered
-bytes_answered setting start g range bytes = refl
+bytes_answered g range bytes = refl
 
-pairs_answered : (setting : DebugSettings) (start : List ℕ) (g : GdbState) (range : ByteRange) (pairs : List ℕ)
-    → gdb_answered setting start g (StorePairs range pairs) ≡ decoded_stored g range (bytes_of_pairs (decode_of pairs))
+pairs_answered : (g : GdbState) (range : ByteRange) (pairs : List ℕ)
+    → gdb_answered g (StorePairs range pairs) ≡ decoded_stored g range (bytes_of_pairs (decode_of pairs))
 unfolding gdb_answered
-pairs_answered setting start g range pairs = refl
+pairs_answered g range pairs = refl
 
 pub writes_are_whole : GdbWritesAreWhole
-writes_are_whole setting start g range bytes = record {
-  plain = subst (λ (a : GdbAnswered). AreBytesWhole g range bytes a) (sym (bytes_answered setting start g range bytes))
+writes_are_whole g range bytes = record {
+  plain = subst (λ (a : GdbAnswered). AreBytesWhole g range bytes a) (sym (bytes_answered g range bytes))
       (store_is_whole g range bytes);
   in_pairs = λ pairs is. subst (λ (a : GdbAnswered). AreBytesWhole g range bytes a)
-      (sym (pairs_answered setting start g range pairs
+      (sym (pairs_answered g range pairs
       ∙ ap (λ (r : Result (List ℕ) FromHexError). decoded_stored g range (bytes_of_pairs r)) is))
       (store_is_whole g range bytes);
 }

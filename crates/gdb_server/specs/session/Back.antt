@@ -1,14 +1,12 @@
 -- Requests that go back ("Reverse Execution" in GDB's manual): a step, and as far as something stops it. The
 -- machine at a moment of its past is that which all that was done before it leads to.
 use Rattle.std.specs.Prelude.{ℕ, zero, suc, Bool, List, [], ◌++◌, map, Option, Some, None, if◌then◌else◌}
-use Rattle.profile.specs.Sizes.{Sizes}
 use Rattle.debug_session.specs.PastActs.{steps_of_acts}
 use Rattle.debug_session.specs.PastAgain.{script_at_moment}
 use Rattle.debug_session.specs.PastAnswers.{last_in_past}
 use Rattle.debug_session.specs.Past.{PastState, moment_after_past, past_until}
 use Rattle.debug_session.specs.PastFound.{PastFound}
 use Rattle.debug_session.specs.Sought.TheVariants as sought
-use Rattle.debug_session.specs.declared.session.DebugSettings.{DebugSettings}
 use Rattle.gdb_machine.specs.BackEnds.{stood_end, changed_end, first_met, the_begin}
 use Rattle.gdb_machine.specs.Watches.{first_changed, watched_bytes}
 use Rattle.gdb_machine.specs.declared.back_ends.BackEnd.{BackEnd}
@@ -25,12 +23,12 @@ abbrev pub steps_back : PastState → ℕ
 steps_back p = if p.is_kept then steps_of_acts p.acts else 0
 
 -- as it was before the step of that number; what came after is no part of the past any more
-abbrev pub gone_back_to : DebugSettings → GdbState → ℕ → GdbState
-gone_back_to setting g step = let p : PastState = past_until step g.debug.past in
+abbrev pub gone_back_to : GdbState → ℕ → GdbState
+gone_back_to g step = let p : PastState = past_until step g.debug.past in
     record g {
       debug = record g.debug {
-        script = script_at_moment g.debug.script setting.config setting.budget
-            (moment_after_past g.debug.script.images setting.config p);
+        script = script_at_moment g.debug.script g.setting.config g.setting.budget
+            (moment_after_past g.debug.script.images g.setting.config p);
         past = p;
       };
     }
@@ -46,19 +44,19 @@ abbrev pub stepped_back : GdbState → GdbState → GdbAnswered
 stepped_back g now = gdb_stop_shown now [] (changed_or (first_changed now.debug.script.machine.store.bytes
     (watched_bytes g.debug.script.machine.store.bytes g.watches)) (stop_here now))
 
-abbrev pub step_back_from : DebugSettings → GdbState → ℕ → GdbAnswered
-step_back_from setting g zero = gdb_stop_shown g [] reason.Begin
-step_back_from setting g (suc step) = stepped_back g (gone_back_to setting g step)
+abbrev pub step_back_from : GdbState → ℕ → GdbAnswered
+step_back_from g zero = gdb_stop_shown g [] reason.Begin
+step_back_from g (suc step) = stepped_back g (gone_back_to g step)
 
 -- Where a watch is struck GDB takes a step itself before it looks at the bytes, in the direction in which it goes.
 -- Here that step is gone back over already, and the request moves nothing.
-abbrev pub step_back_after : GdbStop → DebugSettings → GdbState → GdbAnswered
-step_back_after (reason.WatchedBack place) setting g = gdb_stop_shown g [] (stop_here g)
-step_back_after other setting g = step_back_from setting g (steps_back g.debug.past)
+abbrev pub step_back_after : GdbStop → GdbState → GdbAnswered
+step_back_after (reason.WatchedBack place) g = gdb_stop_shown g [] (stop_here g)
+step_back_after other g = step_back_from g (steps_back g.debug.past)
 
 -- `bs`
-abbrev pub step_back_shown : DebugSettings → GdbState → GdbAnswered
-step_back_shown setting g = step_back_after g.stop setting g
+abbrev pub step_back_shown : GdbState → GdbAnswered
+step_back_shown g = step_back_after g.stop g
 
 -- AS FAR AS SOMETHING STOPS IT
 
@@ -71,35 +69,35 @@ break_found address (Some f) = stood_end f.step address
 break_found address None = the_begin
 
 -- where a watched byte has changed last, and where the program stood at a break last
-abbrev pub end_at_byte : Sizes → GdbState → SeenByte → BackEnd
-end_at_byte sizes g byte = change_found byte.place
-    (last_in_past sizes g.debug.script g.debug.past (sought.Byte byte.place.address))
+abbrev pub end_at_byte : GdbState → SeenByte → BackEnd
+end_at_byte g byte = change_found byte.place
+    (last_in_past g.setting.config g.debug.script g.debug.past (sought.Byte byte.place.address))
 
-abbrev pub end_at_break : Sizes → GdbState → ℕ → BackEnd
-end_at_break sizes g address = break_found address
-    (last_in_past sizes g.debug.script g.debug.past (sought.Stood address))
+abbrev pub end_at_break : GdbState → ℕ → BackEnd
+end_at_break g address = break_found address
+    (last_in_past g.setting.config g.debug.script g.debug.past (sought.Stood address))
 
 -- of all these the one that is met first on the way back, or the beginning
-abbrev pub ends_of_bytes : Sizes → GdbState → List SeenByte → List BackEnd
-ends_of_bytes sizes g bytes = map (end_at_byte sizes g) bytes
+abbrev pub ends_of_bytes : GdbState → List SeenByte → List BackEnd
+ends_of_bytes g bytes = map (end_at_byte g) bytes
 
-abbrev pub ends_of_breaks : Sizes → GdbState → List ℕ → List BackEnd
-ends_of_breaks sizes g breaks = map (end_at_break sizes g) breaks
+abbrev pub ends_of_breaks : GdbState → List ℕ → List BackEnd
+ends_of_breaks g breaks = map (end_at_break g) breaks
 
-abbrev pub back_end : Sizes → GdbState → BackEnd
-back_end sizes g =
-    first_met the_begin (ends_of_bytes sizes g (watched_bytes g.debug.script.machine.store.bytes g.watches)
-    ++ ends_of_breaks sizes g g.breaks)
+abbrev pub back_end : GdbState → BackEnd
+back_end g =
+    first_met the_begin (ends_of_bytes g (watched_bytes g.debug.script.machine.store.bytes g.watches)
+    ++ ends_of_breaks g g.breaks)
 
-abbrev pub back_to_end : DebugSettings → GdbState → BackEnd → GdbAnswered
-back_to_end setting g end = gdb_stop_shown (gone_back_to setting g end.step) [] end.why
+abbrev pub back_to_end : GdbState → BackEnd → GdbAnswered
+back_to_end g end = gdb_stop_shown (gone_back_to g end.step) [] end.why
 
-abbrev pub continue_back_from : DebugSettings → GdbState → ℕ → GdbAnswered
-continue_back_from setting g zero = gdb_stop_shown g [] reason.Begin
-continue_back_from setting g (suc step) = back_to_end setting g (back_end setting.config g)
+abbrev pub continue_back_from : GdbState → ℕ → GdbAnswered
+continue_back_from g zero = gdb_stop_shown g [] reason.Begin
+continue_back_from g (suc step) = back_to_end g (back_end g)
 
 -- `bc`; of other modules GDB is told first, and it goes on by itself
-abbrev pub continue_back_shown : DebugSettings → GdbState → GdbAnswered
-continue_back_shown setting g =
+abbrev pub continue_back_shown : GdbState → GdbAnswered
+continue_back_shown g =
     if is_other_list g.libraries g.debug.script then gdb_stop_shown g [] reason.Library
-    else continue_back_from setting g (steps_back g.debug.past)
+    else continue_back_from g (steps_back g.debug.past)

@@ -19,16 +19,14 @@ use Rattle.gdb_server.specs.session.Steps.{StepLooks, looked_steps, printed_befo
 use Rattle.gdb_server.specs.session.State.{GdbAnswered, GdbState, packet_reply}
 use Rattle.command_shell_lines.specs.Requests.{request_of}
 use Rattle.debug_session.specs.Naming.{meant_request, naming_of, repeated_now}
-use Rattle.debug_session.specs.declared.session.DebugSettings.{DebugSettings}
 use Rattle.debug_lines.specs.DebugRequests.{DebugRequest, Expect, View, ViewRequest, is_script_request}
 use Rattle.debug_lines.specs.Expectations.{ExpectRequest}
 use Rattle.debug_lines.specs.Tidy.{tidied_line}
 
 -- Looking changes nothing.
 abbrev pub GdbLookingChangesNothing : Type 0
-GdbLookingChangesNothing = (setting : DebugSettings) (start : List ℕ) (g : GdbState) (asked : GdbRequest)
-    (reply : List ℕ)
-    → look_reply g asked ≡ Some reply → gdb_answered setting start g asked ≡ packet_reply g reply
+GdbLookingChangesNothing = (g : GdbState) (asked : GdbRequest) (reply : List ℕ)
+    → look_reply g asked ≡ Some reply → gdb_answered g asked ≡ packet_reply g reply
 
 -- A line of the user's is none of a script, isn't repeated, and asks for this.
 pub record LineAsks (g : GdbState) (line : List ℕ) (asked : DebugRequest) : Type 0 where
@@ -37,17 +35,17 @@ pub record LineAsks (g : GdbState) (line : List ℕ) (asked : DebugRequest) : Ty
   pub meant : meant_request (naming_of g.debug) (tidied_line line) ≡ asked
 
 -- The machine, the images, the breaks and the budget are as they were before a line of the user's.
-abbrev pub LineLeavesTheMachine : DebugSettings → GdbState → List ℕ → Type 0
-LineLeavesTheMachine setting g line = (line_decoded setting g (Some line)).state.debug.script ≡ g.debug.script
+abbrev pub LineLeavesTheMachine : GdbState → List ℕ → Type 0
+LineLeavesTheMachine g line = (line_decoded g (Some line)).state.debug.script ≡ g.debug.script
 
 -- A line of the debugger's own that looks, or that expects something, leaves them so.
-pub record LookingLineLeavesTheMachine (setting : DebugSettings) (g : GdbState) (line : List ℕ) : Type 0 where
-  pub shown : (view : ViewRequest) → LineAsks g line (View view) → LineLeavesTheMachine setting g line
-  pub expected : (e : ExpectRequest) → LineAsks g line (Expect e) → LineLeavesTheMachine setting g line
+pub record LookingLineLeavesTheMachine (g : GdbState) (line : List ℕ) : Type 0 where
+  pub shown : (view : ViewRequest) → LineAsks g line (View view) → LineLeavesTheMachine g line
+  pub expected : (e : ExpectRequest) → LineAsks g line (Expect e) → LineLeavesTheMachine g line
 
 abbrev pub LookingLinesLeaveTheMachine : Type 0
-LookingLinesLeaveTheMachine = (setting : DebugSettings) (g : GdbState) (line : List ℕ)
-    → LookingLineLeavesTheMachine setting g line
+LookingLinesLeaveTheMachine = (g : GdbState) (line : List ℕ)
+    → LookingLineLeavesTheMachine g line
 
 -- A session after a register was to be set: one that is set is read with its value, and where none is,
 -- all is as it was.
@@ -58,9 +56,9 @@ pub record IsRegisterSet (g : GdbState) (n value : ℕ) (reported : GdbAnswered)
 
 -- A register that is set by four bytes.
 abbrev pub GdbRegistersAreRead : Type 0
-GdbRegistersAreRead = (setting : DebugSettings) (start : List ℕ) (g : GdbState) (n : ℕ) (pairs bytes : List ℕ)
+GdbRegistersAreRead = (g : GdbState) (n : ℕ) (pairs bytes : List ℕ)
     → IsCore g.debug.script.machine.cpu → decode_sized pairs 4 ≡ Ok bytes
-    → IsRegisterSet g n (from_le_bytes w32 bytes) (gdb_answered setting start g (SetRegister n pairs))
+    → IsRegisterSet g n (from_le_bytes w32 bytes) (gdb_answered g (SetRegister n pairs))
 
 -- A session after bytes were to be stored: each stands where it was sent, and all others as they were; or
 -- all is as it was. Bytes of a word that is the SWIs' own are refused.
@@ -75,15 +73,14 @@ pub record AreBytesWhole (g : GdbState) (range : ByteRange) (bytes : List ℕ) (
         → reported.reply ≡ Some (codes "E0d")
 
 -- Bytes that come as they are, and as pairs of digits.
-pub record GdbWriteIsWhole (setting : DebugSettings) (start : List ℕ) (g : GdbState) (range : ByteRange)
-    (bytes : List ℕ) : Type 0 where
-  pub plain : AreBytesWhole g range bytes (gdb_answered setting start g (StoreBytes range bytes))
+pub record GdbWriteIsWhole (g : GdbState) (range : ByteRange) (bytes : List ℕ) : Type 0 where
+  pub plain : AreBytesWhole g range bytes (gdb_answered g (StoreBytes range bytes))
   pub in_pairs : (pairs : List ℕ) → decode_of pairs ≡ Ok bytes
-      → AreBytesWhole g range bytes (gdb_answered setting start g (StorePairs range pairs))
+      → AreBytesWhole g range bytes (gdb_answered g (StorePairs range pairs))
 
 abbrev pub GdbWritesAreWhole : Type 0
-GdbWritesAreWhole = (setting : DebugSettings) (start : List ℕ) (g : GdbState) (range : ByteRange)
-    (bytes : List ℕ) → GdbWriteIsWhole setting start g range bytes
+GdbWritesAreWhole = (g : GdbState) (range : ByteRange) (bytes : List ℕ)
+    → GdbWriteIsWhole g range bytes
 
 -- A run in slices is one run: where some steps were taken and there may be another, those that come after them
 -- are those that would have come without a halt.

@@ -13,7 +13,6 @@ use Rattle.gdb_server.specs.session.Looks.{look_reply}
 use Rattle.gdb_server.specs.session.Runs as runs
 use Rattle.gdb_server.specs.session.State.{GdbState, GdbAnswered, packet_reply, no_reply}
 use Rattle.gdb_server.specs.session.Stores.{store_shown}
-use Rattle.debug_session.specs.declared.session.DebugSettings.{DebugSettings}
 
 abbrev pub add_point_shown : GdbState → PointKind → ByteRange → GdbAnswered
 add_point_shown g point.Break range = changes.add_break_shown g range
@@ -44,24 +43,24 @@ gdb_change_shown g request.KillProgram = packet_reply g (codes "OK")
 gdb_change_shown g request.Detach = packet_reply (changes.at_session_end g) (codes "OK")
 gdb_change_shown g other = no_reply (changes.at_session_end g)
 
--- a request that doesn't only look; `start` are the lines that a machine begins with
-abbrev pub act_shown : DebugSettings → List ℕ → GdbState → GdbRequest → GdbAnswered
-act_shown setting start g request.Continue = runs.going_shown g going.On None
-act_shown setting start g (request.ContinueWith signal) = runs.going_shown g going.On (Some signal)
-act_shown setting start g request.Step = runs.going_shown g going.Once None
-act_shown setting start g (request.StepWith signal) = runs.going_shown g going.Once (Some signal)
-act_shown setting start g (request.StepRange places) = runs.going_shown g (going.Within places) None
-act_shown setting start g request.StepBack = back.step_back_shown setting g
-act_shown setting start g request.ContinueBack = back.continue_back_shown setting g
-act_shown setting start g (request.HostAnswer asks) = runs.host_answered g asks
-act_shown setting start g (request.Line pairs) = runs.monitor_shown setting g pairs
-act_shown setting start g request.RunProgram = runs.run_program_shown setting start g
-act_shown setting start g request.Restart = runs.restart_shown setting start g
-act_shown setting start g other = gdb_change_shown g other
+-- a request that doesn't only look
+abbrev pub act_shown : GdbState → GdbRequest → GdbAnswered
+act_shown g request.Continue = runs.going_shown g going.On None
+act_shown g (request.ContinueWith signal) = runs.going_shown g going.On (Some signal)
+act_shown g request.Step = runs.going_shown g going.Once None
+act_shown g (request.StepWith signal) = runs.going_shown g going.Once (Some signal)
+act_shown g (request.StepRange places) = runs.going_shown g (going.Within places) None
+act_shown g request.StepBack = back.step_back_shown g
+act_shown g request.ContinueBack = back.continue_back_shown g
+act_shown g (request.HostAnswer asks) = runs.host_answered g asks
+act_shown g (request.Line pairs) = runs.monitor_shown g pairs
+act_shown g request.RunProgram = runs.run_program_shown g
+act_shown g request.Restart = runs.restart_shown g
+act_shown g other = gdb_change_shown g other
 
-abbrev pub look_or_act : Option (List ℕ) → DebugSettings → List ℕ → GdbState → GdbRequest → GdbAnswered
-look_or_act (Some reply) setting start g asked = packet_reply g reply
-look_or_act None setting start g asked = act_shown setting start g asked
+abbrev pub look_or_act : Option (List ℕ) → GdbState → GdbRequest → GdbAnswered
+look_or_act (Some reply) g asked = packet_reply g reply
+look_or_act None g asked = act_shown g asked
 
-unfoldable pub gdb_answered : DebugSettings → List ℕ → GdbState → GdbRequest → GdbAnswered
-gdb_answered setting start g asked = look_or_act (look_reply g asked) setting start g asked
+unfoldable pub gdb_answered : GdbState → GdbRequest → GdbAnswered
+gdb_answered g asked = look_or_act (look_reply g asked) g asked

@@ -37,6 +37,7 @@ user_text reason.Library pc = []
 user_text (reason.Killed f) pc = []
 user_text (reason.WatchedBack place) pc = []
 user_text reason.Begin pc = []
+user_text reason.End pc = []
 
 -- the modules that GDB knows of after a stop: where it is told that there are others, those that are there
 abbrev pub libraries_after : GdbStop → GdbState → List ℕ
@@ -48,6 +49,7 @@ libraries_after (reason.Ran x) g = g.libraries
 libraries_after (reason.Killed f) g = g.libraries
 libraries_after (reason.WatchedBack place) g = g.libraries
 libraries_after reason.Begin g = g.libraries
+libraries_after reason.End g = g.libraries
 
 abbrev pub with_stop : GdbState → GdbStop → GdbState
 with_stop g why = record g { libraries = libraries_after why g; going = None; stop = why }
@@ -154,6 +156,7 @@ taken_after (reason.Ran x) g = None
 taken_after (reason.Killed f) g = None
 taken_after (reason.WatchedBack place) g = None
 taken_after reason.Begin g = None
+taken_after reason.End g = None
 
 abbrev pub step_taken : GdbState → Option GdbStop
 step_taken g = taken_after g.stop g
@@ -199,12 +202,12 @@ with_debug g d = record g { debug = d }
 abbrev pub line_done : GdbState → DebugAnswered → GdbAnswered
 line_done g a = record { state = with_debug g a.state; reported = a.text; reply = Some (codes "OK") }
 
-abbrev pub line_decoded : DebugSettings → GdbState → Option (List ℕ) → GdbAnswered
-line_decoded setting g (Some line) = line_done g (debug_line_answer setting (without_quit g.debug) 0 line [])
-line_decoded setting g None = packet_reply g (codes "E16")
+abbrev pub line_decoded : GdbState → Option (List ℕ) → GdbAnswered
+line_decoded g (Some line) = line_done g (debug_line_answer g.setting (without_quit g.debug) 0 line [])
+line_decoded g None = packet_reply g (codes "E16")
 
-abbrev pub monitor_shown : DebugSettings → GdbState → List ℕ → GdbAnswered
-monitor_shown setting g pairs = line_decoded setting g (bytes_of_pairs (decode_of pairs))
+abbrev pub monitor_shown : GdbState → List ℕ → GdbAnswered
+monitor_shown g pairs = line_decoded g (bytes_of_pairs (decode_of pairs))
 
 -- a fresh machine, and the lines of a debugging script that it begins with
 abbrev pub debug_anew : DebugSettings → DebugState → DebugState
@@ -213,8 +216,8 @@ debug_anew setting d = record (without_quit d) {
   past = past_from_start setting.keeps_past;
 }
 
-abbrev pub begin_shown : DebugSettings → List ℕ → GdbState → DebugAnswered
-begin_shown setting start g = debug_lines_answer setting 0 (debug_anew setting g.debug) (lines start)
+abbrev pub begin_shown : GdbState → DebugAnswered
+begin_shown g = debug_lines_answer g.setting 0 (debug_anew g.setting g.debug) (lines g.start)
 
 -- GDB was told of no module
 abbrev pub after_begin : GdbState → DebugAnswered → GdbState
@@ -224,10 +227,10 @@ abbrev pub begun_anew : GdbState → DebugAnswered → GdbState
 begun_anew g a = with_stop (after_begin g a) reason.Stepped
 
 -- `vRun`; the other side takes no text before the stop, so what the lines are answered is left out
-abbrev pub run_program_shown : DebugSettings → List ℕ → GdbState → GdbAnswered
-run_program_shown setting start g =
-    gdb_stop_shown (after_begin g (begin_shown setting start g)) [] reason.Stepped
+abbrev pub run_program_shown : GdbState → GdbAnswered
+run_program_shown g =
+    gdb_stop_shown (after_begin g (begin_shown g)) [] reason.Stepped
 
 -- `R`
-abbrev pub restart_shown : DebugSettings → List ℕ → GdbState → GdbAnswered
-restart_shown setting start g = no_reply (begun_anew g (begin_shown setting start g))
+abbrev pub restart_shown : GdbState → GdbAnswered
+restart_shown g = no_reply (begun_anew g (begin_shown g))

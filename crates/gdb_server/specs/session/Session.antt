@@ -10,6 +10,9 @@ use Rattle.gdb_server.specs.declared.session.session.GdbSession.{GdbSession}
 
 abbrev pub gdb_state : GdbSession → List Entry → GdbState
 gdb_state s images = record {
+  setting = s.debug.setting;
+  start = s.start.items;
+  stays = s.stays;
   debug = debug_state s.debug images;
   watches = s.watches;
   breaks = s.breaks;

@@ -15,9 +15,14 @@ use Rattle.gdb_machine.specs.declared.watches.Watch.{Watch}
 use Rattle.gdb_server.specs.declared.session.session.GdbSettings.{GdbSettings}
 use Rattle.gdb_packets.specs.declared.going.Going.{Going}
 
--- What a debugging script works on, GDB's watches, its breaks, the lines of the modules that GDB was told are there, how many steps a run may take, what the run that
--- is under way is for, if one is, why the program stands, and whether GDB is gone.
+-- What the session was made with, the lines that a machine begins with, whether the program's end is stayed at, what
+-- a debugging script works on, GDB's watches, its breaks, the lines of the modules that GDB was told are there, how
+-- many steps a run may take, what the run that is under way is for, if one is, why the program stands, and whether
+-- GDB is gone.
 pub record GdbState : Type 0 where
+  pub setting : DebugSettings
+  pub start : List ℕ
+  pub stays : Bool
   pub debug : DebugState
   pub watches : List Watch
   pub breaks : List ℕ
@@ -77,13 +82,16 @@ debug_settings setting = record {
 }
 
 -- before the first line
-abbrev pub gdb_start : DebugSettings → ℕ → List Entry → GdbState
-gdb_start setting most images = record {
-  debug = debug_start_state setting images;
+abbrev pub gdb_start : GdbSettings → List ℕ → List Entry → GdbState
+gdb_start setting start images = record {
+  setting = debug_settings setting;
+  start = start;
+  stays = setting.stays;
+  debug = debug_start_state (debug_settings setting) images;
   watches = [];
   breaks = [];
   libraries = [];
-  most = most;
+  most = setting.most;
   going = None;
   stop = reason.Stepped;
   has_ended = false;

@@ -9,7 +9,7 @@ use Rattle.command_shell.specs.MachineState.{MachineState}
 use Rattle.command_shell.specs.Run.{Run}
 use Rattle.command_shell.specs.State.{ScriptState}
 use Rattle.command_shell.specs.Stepping.{script_run, script_after_run}
-use Rattle.gdb_machine.specs.StepEnds.{is_interrupt, steps_further, struck_after}
+use Rattle.gdb_machine.specs.StepEnds.{is_exit_ahead, is_interrupt, steps_further, struck_after}
 use Rattle.gdb_machine.specs.Watches.{first_changed, struck_place, watched_bytes}
 use Rattle.gdb_machine.specs.declared.stops.GdbStop.{GdbStop}
 use Rattle.gdb_machine.specs.declared.stops.GdbStop.TheVariants as reason
@@ -40,18 +40,25 @@ script_steps s count = steps_taken s (min count s.left) (script_run s (min count
 abbrev pub printed_before : List ℕ → StepsTaken → StepsTaken
 printed_before printed taken = record taken { printed = printed ++ taken.printed }
 
--- what is looked at for each step: what the steps are for, the watches and the watched bytes as they were
--- before, GDB's breaks, and the lines of the modules that GDB was told are there
+-- what is looked at for each step: what the steps are for, whether the program's end is stayed at, the watches and
+-- the watched bytes as they were before, GDB's breaks, and the lines of the modules that GDB was told are there
 pub record StepLooks : Type 0 where
   pub going : Going
+  pub stays : Bool
   pub watches : List Watch
   pub seen : List SeenByte
   pub breaks : List ℕ
   pub libraries : List ℕ
 
 abbrev pub looks_at : GdbState → Going → List SeenByte → StepLooks
-looks_at g goes seen =
-    record { going = goes; watches = g.watches; seen = seen; breaks = g.breaks; libraries = g.libraries }
+looks_at g goes seen = record {
+  going = goes;
+  stays = g.stays;
+  watches = g.watches;
+  seen = seen;
+  breaks = g.breaks;
+  libraries = g.libraries;
+}
 
 -- whether the next step begins at a software interrupt, or where module code goes back
 abbrev pub begins_call : MachineState → Bool
@@ -78,16 +85,22 @@ ahead_of goes watches s =
 abbrev pub is_other_list : List ℕ → ScriptState → Bool
 is_other_list reported s = not (bytes_eq (script_libraries s) reported)
 
--- a break of GDB's; the end of what the steps are for; another list of modules
-abbrev pub end_beside : Going → List ℕ → List ℕ → Bool → ScriptState → Option GdbStop
-end_beside goes breaks reported may_change s =
+-- whether the program is to stay where it is, since it is about to exit
+abbrev pub stays_here : Bool → ScriptState → Bool
+stays_here stays s = stays && is_exit_ahead s.machine.cpu s.machine.store.bytes
+
+-- a break of GDB's; the program's end, where that is stayed at; the end of what the steps are for; another list
+-- of modules
+abbrev pub end_beside : Going → Bool → List ℕ → List ℕ → Bool → ScriptState → Option GdbStop
+end_beside goes stays breaks reported may_change s =
     if is_among breaks s.machine.cpu.pc then Some (reason.Ran (stop.Break s.machine.cpu.pc)) else (
+    if stays_here stays s then Some reason.End else (
     if has_left goes s.machine.cpu.pc then Some reason.Stepped else (
-    if may_change && is_other_list reported s then Some reason.Library else None))
+    if may_change && is_other_list reported s then Some reason.Library else None)))
 
 abbrev pub machine_end : StepLooks → GdbStop → Bool → ScriptState → Option GdbStop
 machine_end l why may_change s =
-    if steps_further why then end_beside l.going l.breaks l.libraries may_change s else Some why
+    if steps_further why then end_beside l.going l.stays l.breaks l.libraries may_change s else Some why
 
 abbrev pub watched_or : Option WatchedPlace → Option GdbStop → Option GdbStop
 watched_or (Some place) other = Some (reason.Watched place)

@@ -22,10 +22,8 @@ impl GdbSession {
         request: &Request<'_>,
     ) -> Result<GdbAnswer, RunError>
         ensures reported { IfOk result (λ answer. IsGdbAnswered (gdb_state self.new images.new) answer
-            (act_shown self.old.debug.setting self.old.start.items (gdb_state self.old images.old)
+            (act_shown (gdb_state self.old images.old)
             (gdb_request request.now))) }
-        ensures setting { self.new.debug.setting ≡ self.old.debug.setting }
-        ensures start { self.new.start.items ≡ self.old.start.items }
         ensures errors { IfErr result IsLineError }
     {
         match request {
@@ -67,8 +65,6 @@ impl GdbSession {
           reported = [];
           reply = option_map (λ text. text.now) reply;
         } ≡ gdb_change_shown (gdb_state self.old images) (gdb_request request.now)) }
-        ensures setting { self.new.debug.setting ≡ self.old.debug.setting }
-        ensures start { self.new.start.items ≡ self.old.start.items }
         ensures errors { IfErr result IsLineError }
     {
         match request {

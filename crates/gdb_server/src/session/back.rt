@@ -25,9 +25,7 @@ impl GdbSession {
     /// Takes a step back, unless a watch that was struck has had it taken already.
     pub(crate) fn step_back(&mut self, images: &mut Images) -> Result<GdbAnswer, RunError>
         ensures reported { IfOk result (λ answer. IsGdbAnswered (gdb_state self.new images.new) answer
-            (step_back_shown self.old.debug.setting (gdb_state self.old images.old))) }
-        ensures setting { self.new.debug.setting ≡ self.old.debug.setting }
-        ensures start { self.new.start.items ≡ self.old.start.items }
+            (step_back_shown (gdb_state self.old images.old))) }
         ensures errors { IfErr result IsLineError }
     {
         match self.stop {
@@ -59,9 +57,7 @@ impl GdbSession {
     // The machine as it was before the step of that number.
     fn go_back(&mut self, images: &mut Images, step: u64) -> Result<(), RunError>
         ensures reported { OnOk result (gdb_state self.new images.new
-            ≡ gone_back_to self.old.debug.setting (gdb_state self.old images.old) step) }
-        ensures setting { self.new.debug.setting ≡ self.old.debug.setting }
-        ensures start { self.new.start.items ≡ self.old.start.items }
+            ≡ gone_back_to (gdb_state self.old images.old) step) }
         ensures errors { IfErr result IsLineError }
     {
         let setting = self.debug.setting;
@@ -78,9 +74,7 @@ impl GdbSession {
     fn step_back_to(&mut self, images: &mut Images, step: u64) -> Result<GdbAnswer, RunError>
         ensures reported { IfOk result (λ answer. IsGdbAnswered (gdb_state self.new images.new) answer
             (stepped_back (gdb_state self.old images.old)
-            (gone_back_to self.old.debug.setting (gdb_state self.old images.old) step))) }
-        ensures setting { self.new.debug.setting ≡ self.old.debug.setting }
-        ensures start { self.new.start.items ≡ self.old.start.items }
+            (gone_back_to (gdb_state self.old images.old) step))) }
         ensures errors { IfErr result IsLineError }
     {
         let map = self.debug.session.machine().memory();
@@ -105,9 +99,7 @@ impl GdbSession {
     /// Goes back as far as something stops it, unless GDB has to be told of other modules first.
     pub(crate) fn continue_back(&mut self, images: &mut Images) -> Result<GdbAnswer, RunError>
         ensures reported { IfOk result (λ answer. IsGdbAnswered (gdb_state self.new images.new) answer
-            (continue_back_shown self.old.debug.setting (gdb_state self.old images.old))) }
-        ensures setting { self.new.debug.setting ≡ self.old.debug.setting }
-        ensures start { self.new.start.items ≡ self.old.start.items }
+            (continue_back_shown (gdb_state self.old images.old))) }
         ensures errors { IfErr result IsLineError }
     {
         let is_other = self.has_other_list()?;
@@ -126,7 +118,7 @@ impl GdbSession {
     // Where going back ends.
     fn back_end(&self, images: &mut Images) -> Result<BackEnd, RunError>
         ensures found { IfOk result (λ end. end
-            ≡ back_end self.now.debug.setting.config (gdb_state self.now images.old)) }
+            ≡ back_end (gdb_state self.now images.old)) }
         ensures images { OnOk result (images.new ≡ images.old) }
         ensures errors { IfErr result IsLineError }
     {
@@ -139,7 +131,7 @@ impl GdbSession {
     // Where a byte has changed last that is watched, or the beginning.
     fn end_at_bytes(&self, images: &mut Images, seen: &[SeenByte]) -> Result<BackEnd, RunError>
         ensures found { IfOk result (λ end. end ≡ first_met the_begin
-            (ends_of_bytes self.now.debug.setting.config (gdb_state self.now images.old) seen.now)) }
+            (ends_of_bytes (gdb_state self.now images.old) seen.now)) }
         ensures images { OnOk result (images.new ≡ images.old) }
         ensures errors { IfErr result IsLineError }
     {
@@ -154,7 +146,7 @@ impl GdbSession {
     // Where a byte has changed last, or the beginning.
     fn end_at_byte(&self, images: &mut Images, byte: &SeenByte) -> Result<BackEnd, RunError>
         ensures found { IfOk result (λ end. end
-            ≡ end_at_byte self.now.debug.setting.config (gdb_state self.now images.old) byte.now) }
+            ≡ end_at_byte (gdb_state self.now images.old) byte.now) }
         ensures images { OnOk result (images.new ≡ images.old) }
         ensures errors { IfErr result IsLineError }
     {
@@ -167,7 +159,7 @@ impl GdbSession {
     // Where the program stood at a break last, unless that is met after another end.
     fn end_at_breaks(&self, images: &mut Images, first: BackEnd) -> Result<BackEnd, RunError>
         ensures found { IfOk result (λ end. end ≡ first_met first (ends_of_breaks
-            self.now.debug.setting.config (gdb_state self.now images.old) self.now.breaks)) }
+            (gdb_state self.now images.old) self.now.breaks)) }
         ensures images { OnOk result (images.new ≡ images.old) }
         ensures errors { IfErr result IsLineError }
     {

@@ -31,8 +31,6 @@ impl GdbSession {
         ensures reported { (images : List Entry) → IfOk result (λ reply.
             packet_reply (gdb_state self.new images) reply.now
             ≡ set_register_shown (gdb_state self.old images) number pairs.now) }
-        ensures setting { self.new.debug.setting ≡ self.old.debug.setting }
-        ensures start { self.new.start.items ≡ self.old.start.items }
     {
         match wanted_write(number, pairs) {
             Some(write) => {
@@ -47,8 +45,6 @@ impl GdbSession {
         requires { CanBeMade change }
         ensures reported { (images : List Entry) → OnOk result (gdb_state self.new images
             ≡ with_change (gdb_state self.old images) change) }
-        ensures setting { self.new.debug.setting ≡ self.old.debug.setting }
-        ensures start { self.new.start.items ≡ self.old.start.items }
     {
         match change {
             RegisterWrite::Present(number, value) => {
@@ -84,8 +80,6 @@ impl GdbSession {
         ensures reported { (images : List Entry) → IfOk result (λ reply.
             packet_reply (gdb_state self.new images) reply.now
             ≡ store_pairs_shown (gdb_state self.old images) range pairs.now) }
-        ensures setting { self.new.debug.setting ≡ self.old.debug.setting }
-        ensures start { self.new.start.items ≡ self.old.start.items }
         ensures errors { IfErr result IsLineError }
     {
         match decoded(self.alloc, pairs)? {
@@ -98,8 +92,6 @@ impl GdbSession {
     pub(crate) fn add_point(&mut self, kind: PointKind, range: ByteRange) -> &'static [u8]
         ensures reported { (images : List Entry) → packet_reply (gdb_state self.new images) result.now
             ≡ add_point_shown (gdb_state self.old images) kind range }
-        ensures setting { self.new.debug.setting ≡ self.old.debug.setting }
-        ensures start { self.new.start.items ≡ self.old.start.items }
     {
         match kind {
             PointKind::Break => self.add_break(range),
@@ -112,8 +104,6 @@ impl GdbSession {
     fn add_break(&mut self, range: ByteRange) -> &'static [u8]
         ensures reported { (images : List Entry) → packet_reply (gdb_state self.new images) result.now
             ≡ add_break_shown (gdb_state self.old images) range }
-        ensures setting { self.new.debug.setting ≡ self.old.debug.setting }
-        ensures start { self.new.start.items ≡ self.old.start.items }
     {
         if range.count != 4 {
             return b"E16";
@@ -127,8 +117,6 @@ impl GdbSession {
     fn add_watch(&mut self, kind: WatchKind, range: ByteRange) -> &'static [u8]
         ensures reported { (images : List Entry) → packet_reply (gdb_state self.new images) result.now
             ≡ add_watch_shown (gdb_state self.old images) (record { kind = kind; range = range }) }
-        ensures setting { self.new.debug.setting ≡ self.old.debug.setting }
-        ensures start { self.new.start.items ≡ self.old.start.items }
     {
         match self.watches.add(Watch { kind, range }) {
             Ok(()) => b"OK",
@@ -140,8 +128,6 @@ impl GdbSession {
     pub(crate) fn remove_point(&mut self, kind: PointKind, range: ByteRange)
         ensures reported { (images : List Entry) → packet_reply (gdb_state self.new images) (codes "OK")
             ≡ remove_point_shown (gdb_state self.old images) kind range }
-        ensures setting { self.new.debug.setting ≡ self.old.debug.setting }
-        ensures start { self.new.start.items ≡ self.old.start.items }
     {
         match kind {
             PointKind::Break => self.remove_break(range),
@@ -154,8 +140,6 @@ impl GdbSession {
     fn remove_watch(&mut self, kind: WatchKind, range: ByteRange)
         ensures reported { (images : List Entry) → packet_reply (gdb_state self.new images) (codes "OK")
             ≡ remove_watch_shown (gdb_state self.old images) (record { kind = kind; range = range }) }
-        ensures setting { self.new.debug.setting ≡ self.old.debug.setting }
-        ensures start { self.new.start.items ≡ self.old.start.items }
     {
         self.watches.remove(Watch { kind, range });
     }
@@ -163,8 +147,6 @@ impl GdbSession {
     fn remove_break(&mut self, range: ByteRange)
         ensures reported { (images : List Entry) → packet_reply (gdb_state self.new images) (codes "OK")
             ≡ remove_break_shown (gdb_state self.old images) range }
-        ensures setting { self.new.debug.setting ≡ self.old.debug.setting }
-        ensures start { self.new.start.items ≡ self.old.start.items }
     {
         self.breaks.remove(range.start);
     }

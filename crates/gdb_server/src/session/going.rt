@@ -25,8 +25,6 @@ impl GdbSession {
     ) -> Result<GdbAnswer, RunError>
         ensures reported { IfOk result (λ answer. IsGdbAnswered (gdb_state self.new images.now) answer
             (going_shown (gdb_state self.old images.now) going signal)) }
-        ensures setting { self.new.debug.setting ≡ self.old.debug.setting }
-        ensures start { self.new.start.items ≡ self.old.start.items }
         ensures errors { IfErr result IsLineError }
     {
         self.renew_budget();
@@ -40,8 +38,6 @@ impl GdbSession {
     fn renew_budget(&mut self)
         ensures reported { (images : List Entry) → gdb_state self.new images
             ≡ with_whole_budget (gdb_state self.old images) }
-        ensures setting { self.new.debug.setting ≡ self.old.debug.setting }
-        ensures start { self.new.start.items ≡ self.old.start.items }
     {
         self.debug.session.set_budget(self.most);
     }
@@ -51,8 +47,6 @@ impl GdbSession {
         ensures reported { (images : List Entry) → IfOk result (λ answer.
             IsGdbAnswered (gdb_state self.new images) answer
             (halt_shown (gdb_state self.old images) signal stop)) }
-        ensures setting { self.new.debug.setting ≡ self.old.debug.setting }
-        ensures start { self.new.start.items ≡ self.old.start.items }
         ensures errors { IfErr result IsLineError }
     {
         match stop {
@@ -66,8 +60,6 @@ impl GdbSession {
         ensures reported { (images : List Entry) → IfOk result (λ answer.
             IsGdbAnswered (gdb_state self.new images) answer
             (fault_shown (gdb_state self.old images) is_own fault)) }
-        ensures setting { self.new.debug.setting ≡ self.old.debug.setting }
-        ensures start { self.new.start.items ≡ self.old.start.items }
         ensures errors { IfErr result IsLineError }
     {
         let mut reported = TextSink::new(self.alloc);
@@ -82,8 +74,6 @@ impl GdbSession {
     fn go_unhalted(&mut self, images: &Images, going: Going) -> Result<GdbAnswer, RunError>
         ensures reported { IfOk result (λ answer. IsGdbAnswered (gdb_state self.new images.now) answer
             (unhalted_answer (gdb_state self.old images.now) going)) }
-        ensures setting { self.new.debug.setting ≡ self.old.debug.setting }
-        ensures start { self.new.start.items ≡ self.old.start.items }
         ensures errors { IfErr result IsLineError }
     {
         match going {

@@ -24,9 +24,7 @@ impl GdbSession {
         pairs: &[u8],
     ) -> Result<GdbAnswer, RunError>
         ensures reported { IfOk result (λ answer. IsGdbAnswered (gdb_state self.new images.new) answer
-            (monitor_shown self.old.debug.setting (gdb_state self.old images.old) pairs.now)) }
-        ensures setting { self.new.debug.setting ≡ self.old.debug.setting }
-        ensures start { self.new.start.items ≡ self.old.start.items }
+            (monitor_shown (gdb_state self.old images.old) pairs.now)) }
         ensures errors { IfErr result IsLineError }
     {
         match decoded(self.alloc, pairs)? {
@@ -37,9 +35,7 @@ impl GdbSession {
 
     fn answer_decoded(&mut self, images: &mut Images, line: &[u8]) -> Result<GdbAnswer, RunError>
         ensures reported { IfOk result (λ answer. IsGdbAnswered (gdb_state self.new images.new) answer
-            (line_decoded self.old.debug.setting (gdb_state self.old images.old) (Some line.now))) }
-        ensures setting { self.new.debug.setting ≡ self.old.debug.setting }
-        ensures start { self.new.start.items ≡ self.old.start.items }
+            (line_decoded (gdb_state self.old images.old) (Some line.now))) }
         ensures errors { IfErr result IsLineError }
     {
         let reply = Vec::from_slice(self.alloc, b"OK")?;
@@ -61,13 +57,10 @@ impl GdbSession {
     /// `Memory`.
     pub fn begin(&mut self, images: &mut Images) -> Result<Vec<u8>, RunError>
         ensures reported { IfOk result (λ text. text.items
-            ≡ (begin_shown self.old.debug.setting self.old.start.items
-            (gdb_state self.old images.old)).text) }
+            ≡ (begin_shown (gdb_state self.old images.old)).text) }
         ensures state { OnOk result (gdb_state self.new images.new
             ≡ begun_anew (gdb_state self.old images.old)
-            (begin_shown self.old.debug.setting self.old.start.items (gdb_state self.old images.old))) }
-        ensures setting { self.new.debug.setting ≡ self.old.debug.setting }
-        ensures start { self.new.start.items ≡ self.old.start.items }
+            (begin_shown (gdb_state self.old images.old))) }
         ensures errors { IfErr result IsLineError }
     {
         let reported = self.begin_anew(images)?;
@@ -79,13 +72,10 @@ impl GdbSession {
     // A fresh machine, and the lines that it begins with.
     fn begin_anew(&mut self, images: &mut Images) -> Result<TextSink, RunError>
         ensures reported { IfOk result (λ text. sink_text_of text
-            ≡ (begin_shown self.old.debug.setting self.old.start.items
-            (gdb_state self.old images.old)).text) }
+            ≡ (begin_shown (gdb_state self.old images.old)).text) }
         ensures state { OnOk result (gdb_state self.new images.new
             ≡ after_begin (gdb_state self.old images.old)
-            (begin_shown self.old.debug.setting self.old.start.items (gdb_state self.old images.old))) }
-        ensures setting { self.new.debug.setting ≡ self.old.debug.setting }
-        ensures start { self.new.start.items ≡ self.old.start.items }
+            (begin_shown (gdb_state self.old images.old))) }
         ensures errors { IfErr result IsLineError }
     {
         self.debug.start_anew()?;
@@ -101,9 +91,7 @@ impl GdbSession {
     /// the machine begins with are answered is left out.
     pub(crate) fn run_program(&mut self, images: &mut Images) -> Result<GdbAnswer, RunError>
         ensures reported { IfOk result (λ answer. IsGdbAnswered (gdb_state self.new images.new) answer
-            (run_program_shown self.old.debug.setting self.old.start.items (gdb_state self.old images.old))) }
-        ensures setting { self.new.debug.setting ≡ self.old.debug.setting }
-        ensures start { self.new.start.items ≡ self.old.start.items }
+            (run_program_shown (gdb_state self.old images.old))) }
         ensures errors { IfErr result IsLineError }
     {
         let _shown = self.begin_anew(images)?;
@@ -113,9 +101,7 @@ impl GdbSession {
     /// Begins anew without a packet.
     pub(crate) fn restart(&mut self, images: &mut Images) -> Result<GdbAnswer, RunError>
         ensures reported { IfOk result (λ answer. IsGdbAnswered (gdb_state self.new images.new) answer
-            (restart_shown self.old.debug.setting self.old.start.items (gdb_state self.old images.old))) }
-        ensures setting { self.new.debug.setting ≡ self.old.debug.setting }
-        ensures start { self.new.start.items ≡ self.old.start.items }
+            (restart_shown (gdb_state self.old images.old))) }
         ensures errors { IfErr result IsLineError }
     {
         let _shown = self.begin(images)?;

@@ -34,8 +34,6 @@ impl GdbSession {
     pub(crate) fn first_slice(&mut self, images: &Images) -> Result<GdbAnswer, RunError>
         ensures reported { IfOk result (λ answer. IsGdbAnswered (gdb_state self.new images.now) answer
             (first_slice_shown (gdb_state self.old images.now))) }
-        ensures setting { self.new.debug.setting ≡ self.old.debug.setting }
-        ensures start { self.new.start.items ≡ self.old.start.items }
         ensures errors { IfErr result IsLineError }
     {
         let is_other = self.has_other_list()?;
@@ -72,8 +70,6 @@ impl GdbSession {
     ) -> Result<GdbAnswer, RunError>
         ensures reported { IfOk result (λ answer. IsGdbAnswered (gdb_state self.new images.now) answer
             (host_answered (gdb_state self.old images.now) asks)) }
-        ensures setting { self.new.debug.setting ≡ self.old.debug.setting }
-        ensures start { self.new.start.items ≡ self.old.start.items }
         ensures errors { IfErr result IsLineError }
     {
         let Some(going) = self.going else {
@@ -90,8 +86,6 @@ impl GdbSession {
         ensures reported { (images : List Entry) → IfOk result (λ answer.
             IsGdbAnswered (gdb_state self.new images) answer
             (stop_asked (gdb_state self.old images))) }
-        ensures setting { self.new.debug.setting ≡ self.old.debug.setting }
-        ensures start { self.new.start.items ≡ self.old.start.items }
         ensures errors { IfErr result IsLineError }
     {
         let Some(_) = self.going else {
@@ -104,8 +98,6 @@ impl GdbSession {
     pub(crate) fn slice(&mut self, images: &Images, going: Going) -> Result<GdbAnswer, RunError>
         ensures reported { IfOk result (λ answer. IsGdbAnswered (gdb_state self.new images.now) answer
             (slice_shown (gdb_state self.old images.now) going)) }
-        ensures setting { self.new.debug.setting ≡ self.old.debug.setting }
-        ensures start { self.new.start.items ≡ self.old.start.items }
         ensures errors { IfErr result IsLineError }
     {
         let mut reported = TextSink::new(self.alloc);
@@ -122,8 +114,6 @@ impl GdbSession {
         ensures reported { (images : List Entry) → IfOk result (λ answer.
             IsGdbAnswered (gdb_state self.new images) answer
             (asking (gdb_state self.old images) going (sink_text_of reported))) }
-        ensures setting { self.new.debug.setting ≡ self.old.debug.setting }
-        ensures start { self.new.start.items ≡ self.old.start.items }
         ensures errors { IfErr result IsLineError }
     {
         let reply = Vec::from_slice(self.alloc, ASK)?;
@@ -138,8 +128,6 @@ impl GdbSession {
     pub(crate) fn step(&mut self, images: &Images) -> Result<GdbAnswer, RunError>
         ensures reported { IfOk result (λ answer. IsGdbAnswered (gdb_state self.new images.now) answer
             (gdb_step_shown (gdb_state self.old images.now))) }
-        ensures setting { self.new.debug.setting ≡ self.old.debug.setting }
-        ensures start { self.new.start.items ≡ self.old.start.items }
         ensures errors { IfErr result IsLineError }
     {
         let mut reported = TextSink::new(self.alloc);
@@ -156,8 +144,6 @@ impl GdbSession {
         ensures reported { (images : List Entry) → IfOk result (λ answer.
             IsGdbAnswered (gdb_state self.new images) answer
             (gdb_stop_shown (gdb_state self.old images) (sink_text_of printed) stop)) }
-        ensures setting { self.new.debug.setting ≡ self.old.debug.setting }
-        ensures start { self.new.start.items ≡ self.old.start.items }
         ensures errors { IfErr result IsLineError }
     {
         let mut reported = printed;
@@ -174,8 +160,6 @@ impl GdbSession {
         ensures reported { (images : List Entry) → IfOk result (λ answer.
             IsGdbAnswered (gdb_state self.new images) answer
             (stop_shown_with (gdb_state self.old images) (sink_text_of reported) stop)) }
-        ensures setting { self.new.debug.setting ≡ self.old.debug.setting }
-        ensures start { self.new.start.items ≡ self.old.start.items }
         ensures errors { IfErr result IsLineError }
     {
         let machine = self.debug.session.machine();

@@ -24,6 +24,8 @@ pub struct GdbSettings {
     pub budget: u64,
     /// How many steps a run may take.
     pub most: u64,
+    /// Whether a run stays before the program's end, so that one can go back from there.
+    pub stays: bool,
 }
 
 /// A session with GDB: a session of debugging scripts, and what GDB has asked for.
@@ -39,6 +41,7 @@ pub struct GdbSession {
     // The lines of the modules that GDB was told are there.
     pub(crate) libraries: Vec<u8>,
     pub(crate) most: u64,
+    pub(crate) stays: bool,
     // What the run that is under way is for.
     pub(crate) going: Option<Going>,
     pub(crate) stop: GdbStop,
@@ -67,11 +70,10 @@ impl GdbSession {
     /// Memory ran out.
     pub fn new(alloc: Global, setting: GdbSettings, start: &[u8]) -> Result<GdbSession, AllocError>
         ensures state { IfOk result (λ session. (images : List Entry)
-            → gdb_state session images ≡ gdb_start (debug_settings setting) setting.most images) }
-        ensures setting { IfOk result (λ session. session.debug.setting ≡ debug_settings setting) }
-        ensures start { IfOk result (λ session. session.start.items ≡ start.now) }
+            → gdb_state session images ≡ gdb_start setting start.now images) }
     {
         let most = setting.most;
+        let stays = setting.stays;
         let start = Vec::from_slice(alloc, start)?;
         let debug = DebugSession::new(alloc, settings_of(setting))?;
         Ok(GdbSession {
@@ -82,6 +84,7 @@ impl GdbSession {
             breaks: GdbBreaks::new(),
             libraries: Vec::new(alloc),
             most,
+            stays,
             going: None,
             stop: GdbStop::Stepped,
             has_ended: false,
@@ -121,10 +124,8 @@ impl GdbSession {
         request: &Request<'_>,
     ) -> Result<GdbAnswer, RunError>
         ensures reported { IfOk result (λ answer. IsGdbAnswered (gdb_state self.new images.new) answer
-            (gdb_answered self.old.debug.setting self.old.start.items (gdb_state self.old images.old)
+            (gdb_answered (gdb_state self.old images.old)
             (gdb_request request.now))) }
-        ensures setting { self.new.debug.setting ≡ self.old.debug.setting }
-        ensures start { self.new.start.items ≡ self.old.start.items }
         ensures errors { IfErr result IsLineError }
     {
         match self.look(request)? {

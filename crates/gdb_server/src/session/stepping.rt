@@ -10,8 +10,8 @@ use crate::session::session::{GDB_LINE, GdbSession};
 use command_shell::{Machine, RunError};
 use debug_session::is_faulted;
 use gdb_machine::{
-    GdbStop, SeenByte, WatchedPlace, first_changed, goes_on, is_interrupt, library_lines,
-    struck_after,
+    GdbStop, SeenByte, WatchedPlace, first_changed, goes_on, is_exit_ahead, is_interrupt,
+    library_lines, struck_after,
 };
 use gdb_packets::{Going, has_left};
 use image_loader::Images;
@@ -32,7 +32,7 @@ impl GdbSession {
     ghost use Rattle.image_loader.specs.Entries.{Entry};
     ghost use Rattle.gdb_server.specs.session.Session.{gdb_state, IsAfterLooked, IsAfterSteps};
     ghost use Rattle.gdb_server.specs.session.State.{with_noted};
-    ghost use Rattle.gdb_server.specs.session.Steps.{ahead_of, end_beside, end_of_step, gdb_steps, is_other_list, struck_ahead};
+    ghost use Rattle.gdb_server.specs.session.Steps.{ahead_of, end_beside, end_of_step, gdb_steps, is_other_list, stays_here, struck_ahead};
     ghost use Rattle.gdb_server.specs.session.Steps.{looked_steps, looks_at};
 
     /// Takes so many steps, fewer where they end before, and keeps what they did.
@@ -47,8 +47,6 @@ impl GdbSession {
             IsAfterSteps (gdb_state self.old images.now) (gdb_state self.new images.now)
             (sink_text_of printed.old) (sink_text_of printed.new) stop
             (gdb_steps (gdb_state self.old images.now) going count)) }
-        ensures setting { self.new.debug.setting ≡ self.old.debug.setting }
-        ensures start { self.new.start.items ≡ self.old.start.items }
         ensures errors { IfErr result IsLineError }
     {
         let map = self.debug.session.machine().memory();
@@ -63,8 +61,6 @@ impl GdbSession {
     fn note_steps(&mut self, left: u64) -> Result<(), AllocError>
         ensures reported { (images : List Entry) → OnOk result (gdb_state self.new images
             ≡ with_noted (gdb_state self.old images) left) }
-        ensures setting { self.new.debug.setting ≡ self.old.debug.setting }
-        ensures start { self.new.start.items ≡ self.old.start.items }
     {
         let taken = left.saturating_sub(self.debug.session.left());
         let has_faulted = is_faulted(&self.debug.session);
@@ -85,8 +81,6 @@ impl GdbSession {
             (sink_text_of printed.old) (sink_text_of printed.new) stop
             (looked_steps (looks_at (gdb_state self.old images.now) going seen.now) count
             (gdb_state self.old images.now).debug.script)) }
-        ensures setting { self.new.debug.setting ≡ self.old.debug.setting }
-        ensures start { self.new.start.items ≡ self.old.start.items }
         ensures errors { IfErr result IsLineError }
     {
         let mut left = count;
@@ -152,12 +146,15 @@ impl GdbSession {
     // Why they end where no byte has changed and the machine could go on.
     fn end_beside(&self, going: Going, may_change: bool) -> Result<Option<GdbStop>, AllocError>
         ensures { (images : List Entry) → IfOk result (λ end. end
-            ≡ end_beside going (gdb_state self.now images).breaks (gdb_state self.now images).libraries
-            may_change (gdb_state self.now images).debug.script) }
+            ≡ end_beside going (gdb_state self.now images).stays (gdb_state self.now images).breaks
+            (gdb_state self.now images).libraries may_change (gdb_state self.now images).debug.script) }
     {
         let at = self.debug.session.machine().cpu().pc();
         if self.breaks.has(at) {
             return Ok(Some(GdbStop::Ran(Stop::Break(at))));
+        }
+        if self.stays_here() {
+            return Ok(Some(GdbStop::End));
         }
         if has_left(going, at) {
             return Ok(Some(GdbStop::Stepped));
@@ -171,6 +168,15 @@ impl GdbSession {
         } else {
             None
         })
+    }
+
+    // Whether the program is to stay where it is, since it is about to exit.
+    fn stays_here(&self) -> bool
+        ensures { (images : List Entry) → result ≡ stays_here (gdb_state self.now images).stays
+            (gdb_state self.now images).debug.script }
+    {
+        let machine = self.debug.session.machine();
+        self.stays && is_exit_ahead(machine.cpu(), machine.memory())
     }
 
     /// Whether other modules are there than GDB was told of last.

@@ -17,8 +17,6 @@ impl GdbSession {
     pub(crate) fn store(&mut self, range: ByteRange, bytes: &[u8]) -> &'static [u8]
         ensures reported { (images : List Entry) → packet_reply (gdb_state self.new images) result.now
             ≡ store_shown (gdb_state self.old images) range bytes.now }
-        ensures setting { self.new.debug.setting ≡ self.old.debug.setting }
-        ensures start { self.new.start.items ≡ self.old.start.items }
     {
         if bytes.len() != range.count as usize {
             return b"E16";

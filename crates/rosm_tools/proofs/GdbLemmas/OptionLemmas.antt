@@ -1,10 +1,10 @@
 -- The words that are left to be looked at, one after another.
-use Rattle.std.proofs.Common.{◌≡◌, ◌≤◌, ◌<◌, ◌+◌, ℕ, Bool, true, false, List, [], length, get_or, drop, map, refl, ◌∙◌}
+use Rattle.std.proofs.Common.{◌≡◌, ◌≤◌, ◌<◌, ◌+◌, ℕ, Bool, true, false, ◌||◌, List, [], length, get_or, drop, map, refl, sym, ap, ◌∙◌}
 use Rattle.std.specs.Prelude.{codes, if◌then◌else◌}
 use Rattle.std.specs.Str.{bytes_eq}
 use Rattle.std.proofs.lemmas.List.{at_drop_more, at_drop_all}
 use denote.Ref.{Bor}
-use Rattle.rosm_tools.specs.gdb.Options.{any_sets_budget, sets_budget, and_machine_word, and_start_path, gdb_word_after, is_machine_word, last_gdb_word, machine_words_from, start_paths_from}
+use Rattle.rosm_tools.specs.gdb.Options.{any_sets_budget, asks_to_stay, sets_budget, stays_from, and_machine_word, and_start_path, gdb_word_after, is_machine_word, last_gdb_word, machine_words_from, start_paths_from}
 use Rattle.rosm_tools.specs.declared.gdb.options.GdbWord.{GdbWord}
 
 abbrev word_texts : List (Bor (List ℕ)) → List (List ℕ)
@@ -39,7 +39,26 @@ pub last_end : (t : GdbWord) (words : List (Bor (List ℕ))) (place : ℕ) → l
     → last_gdb_word t (word_texts (drop place words)) ≡ t
 last_end t words place all = at_drop_all (λ (ws : List (Bor (List ℕ))). last_gdb_word t (word_texts ws)) words place all
 
-pub ruleset option_steps = (paths_more, paths_end, machine_more, machine_end, last_more, last_end)
+or_so : (a b c : Bool) → (a || b) || c ≡ a || (b || c)
+or_so true b c = refl
+or_so false b c = refl
+
+pub stays_more : (stays : Bool) (t : GdbWord) (words : List (Bor (List ℕ))) (place : ℕ) (d : Bor (List ℕ)) → place < length words
+    → (stays || asks_to_stay t (get_or words place d).now)
+    || stays_from (gdb_word_after t (get_or words place d).now) (word_texts (drop (place + 1) words))
+    ≡ stays || stays_from t (word_texts (drop place words))
+stays_more stays t words place d within =
+    or_so stays (asks_to_stay t (get_or words place d).now)
+    (stays_from (gdb_word_after t (get_or words place d).now) (word_texts (drop (place + 1) words)))
+    ∙ ap (λ (b : Bool). stays || b)
+    (sym (at_drop_more (λ (ws : List (Bor (List ℕ))). stays_from t (word_texts ws)) words place d within))
+
+pub stays_end : (t : GdbWord) (words : List (Bor (List ℕ))) (place : ℕ) → length words ≤ place
+    → stays_from t (word_texts (drop place words)) ≡ false
+stays_end t words place all = at_drop_all (λ (ws : List (Bor (List ℕ))). stays_from t (word_texts ws)) words place all
+
+pub ruleset option_steps =
+    (paths_more, paths_end, machine_more, machine_end, last_more, last_end, stays_more, stays_end)
 
 -- whether one of the words that are left sets the budget
 budget_by : (words : List (Bor (List ℕ))) (place : ℕ) (d : Bor (List ℕ)) → place < length words

@@ -1,5 +1,5 @@
 -- The whole run, by its parts.
-use Rattle.std.proofs.Common.{◌≡◌, ℕ, Bool, false, List, [], Option, None, Some, IfSome, refl, ap, subst, ◌∙◌}
+use Rattle.std.proofs.Common.{◌≡◌, ℕ, Bool, false, List, [], Option, None, Some, refl, ap, subst, ◌∙◌}
 use Rattle.std.proofs.lemmas.List.{append-nil}
 use Rattle.std.specs.Io.Buffered.{writer_buffer, writer_contents, writer_inner}
 use Rattle.std.specs.Io.KnownBytes.{append_known, Appends, Keeps}
@@ -9,12 +9,11 @@ use Rattle.profile.specs.declared.stop.Stop.{Stop}
 use Rattle.image_loader.specs.Entries.{Entry}
 use Rattle.gdb_server.specs.session.Runs.{begin_shown, begun_anew}
 use Rattle.gdb_server.specs.session.State.{GdbState, gdb_start}
-use Rattle.gdb_server.specs.DebugSettings.{DebugSettings}
-use Rattle.gdb_server.specs.Serving.{ServerState, Served, bytes_served}
-use Rattle.gdb_server.specs.Server.{IsServed}
+use Rattle.gdb_server.specs.Serving.{ServerState}
 use Rattle.rosm_settings.specs.ImageFiles.{AddsFiles}
-use Rattle.rosm_tools.specs.gdb.Serving.{ServesGdb, StopsWithGdb, gdb_shown, server_begun, setting_wanted, start_shown}
+use Rattle.rosm_tools.specs.gdb.Serving.{IsAllSent, ServesGdb, StopsWithGdb, gdb_shown, server_begun, settings_wanted, start_shown}
 use Rattle.rosm_tools.specs.gdb.Start.{AreFirstLines}
+use Rattle.rosm_tools.specs.gdb.Streams.{EndsWithInput}
 use Rattle.rosm_tools.specs.declared.gdb.words.WantedGdb.{WantedGdb}
 
 empty_known : (known : Option (List ℕ)) → append_known known [] ≡ known
@@ -34,68 +33,53 @@ pub files_from_none : {F : Type 0} (of_file : F → Option (List ℕ)) (none : L
 files_from_none of_file none paths images is added =
     subst (λ (o : List Entry). AddsFiles of_file o paths images) is added
 
--- the session after the lines that a machine begins with
-pub session_begun : (setting own : DebugSettings) (most : ℕ) (start first : List ℕ) (images : List Entry) (old now : GdbState)
-    → own ≡ setting → first ≡ start → old ≡ gdb_start setting most images
-    → now ≡ begun_anew old (begin_shown own first old)
-    → now ≡ begun_anew (gdb_start setting most images) (start_shown setting most start images)
-session_begun setting own most start first images old now of_setting of_start of_old is =
-    is ∙ ap (λ (u : DebugSettings). begun_anew old (begin_shown u first old)) of_setting
-    ∙ ap (λ (lines : List ℕ). begun_anew old (begin_shown setting lines old)) of_start
-    ∙ ap (λ (g : GdbState). begun_anew g (begin_shown setting start g)) of_old
+-- the session before the lines that a machine begins with
+pub session_starts : (wanted : WantedGdb) (start first : List ℕ) (images : List Entry) (old : GdbState) → first ≡ start
+    → old ≡ gdb_start (settings_wanted wanted) first images → old ≡ gdb_start (settings_wanted wanted) start images
+session_starts wanted start first images old of_start is =
+    is ∙ ap (λ (lines : List ℕ). gdb_start (settings_wanted wanted) lines images) of_start
 
--- what the lines that a machine begins with are answered
-pub start_text : (setting own : DebugSettings) (most : ℕ) (start first : List ℕ) (images : List Entry) (old : GdbState) (text : List ℕ)
-    → own ≡ setting → first ≡ start → old ≡ gdb_start setting most images
-    → text ≡ (begin_shown own first old).text → text ≡ (start_shown setting most start images).text
-start_text setting own most start first images old text of_setting of_start of_old is =
-    is ∙ ap (λ (u : DebugSettings). (begin_shown u first old).text) of_setting
-    ∙ ap (λ (lines : List ℕ). (begin_shown setting lines old).text) of_start
-    ∙ ap (λ (g : GdbState). (begin_shown setting start g).text) of_old
+-- and after them
+pub session_begun : (wanted : WantedGdb) (start : List ℕ) (images : List Entry) (old now : GdbState)
+    → old ≡ gdb_start (settings_wanted wanted) start images → now ≡ begun_anew old (begin_shown old)
+    → now ≡ begun_anew (gdb_start (settings_wanted wanted) start images) (start_shown wanted start images)
+session_begun wanted start images old now of_old is = is ∙ ap (λ (g : GdbState). begun_anew g (begin_shown g)) of_old
 
-served_text : (all : Option (List ℕ)) (reported : List ℕ → Served) (before mid after : Option (List ℕ)) (now : ServerState)
-    → IfSome all (λ bytes. IsServed before mid now (reported bytes)) → Keeps mid after
-    → IfSome all (λ bytes. Appends before after (reported bytes).text)
-served_text None reported before mid after now served kept = tt
-served_text (Some bytes) reported before mid after now served kept = Appends-kept before mid after (reported bytes).text served.text kept
+-- what they are answered
+pub start_text : (wanted : WantedGdb) (start : List ℕ) (images : List Entry) (old : GdbState) (text : List ℕ)
+    → old ≡ gdb_start (settings_wanted wanted) start images → text ≡ (begin_shown old).text
+    → text ≡ (start_shown wanted start images).text
+start_text wanted start images old text of_old is = is ∙ ap (λ (g : GdbState). (begin_shown g).text) of_old
 
-served_stop : (all : Option (List ℕ)) (reported : List ℕ → Served) (before mid : Option (List ℕ)) (now : ServerState) (last : Option Stop)
-    → IfSome all (λ bytes. IsServed before mid now (reported bytes)) → last ≡ now.session.debug.script.last
-    → IfSome all (λ bytes. last ≡ (reported bytes).state.session.debug.script.last)
-served_stop None reported before mid now last served is = tt
-served_stop (Some bytes) reported before mid now last served is =
-    is ∙ ap (λ (u : ServerState). u.session.debug.script.last) served.state
-
-served_as : (setting wanted : DebugSettings) (first start : List ℕ) (s begun : ServerState) (all before mid : Option (List ℕ))
-    (now : ServerState) → setting ≡ wanted → first ≡ start → s ≡ begun
-    → IfSome all (λ bytes. IsServed before mid now (bytes_served setting first bytes s))
-    → IfSome all (λ bytes. IsServed before mid now (bytes_served wanted start bytes begun))
-served_as setting wanted first start s begun all before mid now of_setting of_start of_state served =
-    subst (λ (u : ServerState). IfSome all (λ bytes. IsServed before mid now (bytes_served wanted start bytes u))) of_state
-    (subst (λ (lines : List ℕ). IfSome all (λ bytes. IsServed before mid now (bytes_served wanted lines bytes s))) of_start
-    (subst (λ (u : DebugSettings). IfSome all (λ bytes. IsServed before mid now (bytes_served u first bytes s))) of_setting served))
-
-pub serves_gdb : {F : Type 0} (of_file : F → Option (List ℕ)) (wanted : WantedGdb) (images : List Entry) (start first : List ℕ)
-    (setting : DebugSettings) (s now : ServerState) (input begins before mid after shown_before shown_after : Option (List ℕ)) (untold : Bool)
+pub serves_gdb : {F : Type 0} (of_file : F → Option (List ℕ)) (wanted : WantedGdb) (images : List Entry) (start : List ℕ)
+    (s now : ServerState) (input left begins before mid after shown_before shown_after : Option (List ℕ)) (untold : Bool)
     (last : Option Stop) → AddsFiles of_file [] wanted.settings.files images → AreFirstLines of_file wanted start
-    → (untold ≡ false → Appends shown_before shown_after (start_shown (setting_wanted wanted) wanted.most start images).text)
-    → setting ≡ setting_wanted wanted → first ≡ start → s ≡ server_begun (setting_wanted wanted) wanted.most start images
-    → begins ≡ before → IfSome input (λ bytes. IsServed begins mid now (bytes_served setting first bytes s)) → Keeps mid after
-    → last ≡ now.session.debug.script.last
+    → (untold ≡ false → Appends shown_before shown_after (start_shown wanted start images).text)
+    → s ≡ server_begun wanted start images → begins ≡ before → EndsWithInput of_file wanted input left begins mid s now
+    → Keeps mid after → last ≡ now.session.debug.script.last
     → ServesGdb of_file wanted input before after shown_before shown_after untold last
-serves_gdb of_file wanted images start first setting s now input begins before mid after shown_before shown_after untold last
-    files lines reported of_setting of_start of_state same served kept is =
-    let all = served_as setting (setting_wanted wanted) first start s (server_begun (setting_wanted wanted) wanted.most start images)
-    input before mid now of_setting of_start of_state
-    (subst (λ (x : Option (List ℕ)). IfSome input (λ bytes. IsServed x mid now (bytes_served setting first bytes s))) same served) in
+serves_gdb of_file wanted images start s now input left begins before mid after shown_before shown_after untold last
+    files lines reported of_state same ends kept is =
+    let all : EndsWithInput of_file wanted input left before mid (server_begun wanted start images) now =
+    subst (λ (x : Option (List ℕ)). EndsWithInput of_file wanted input left x mid (server_begun wanted start images) now) same
+    (subst (λ (u : ServerState). EndsWithInput of_file wanted input left begins mid u now) of_state ends) in
+    let state : now ≡ (gdb_shown wanted start images all.answers.answers.sent).state = all.answers.answers.served.state in
     record {
       images = images;
       start = start;
       files = files;
       lines = lines;
       first = reported;
-      text = served_text input (gdb_shown (setting_wanted wanted) wanted.most start images) before mid after now all kept;
-      stop = served_stop input (gdb_shown (setting_wanted wanted) wanted.most start images) before mid now last all is;
+      sent = all.answers.answers.sent;
+      all = record {
+        read = all.answers.read;
+        left = left;
+        are = all.answers.answers.are;
+        of_input = all.answers.of_input;
+        ends = λ goes. all.ends (ap (λ (u : ServerState). u.session.has_ended) state ∙ goes);
+      };
+      text = Appends-kept before mid after _ all.answers.answers.served.text kept;
+      stop = is ∙ ap (λ (u : ServerState). u.session.debug.script.last) state;
     }
 
 -- the last stop of what a reader shows
@@ -109,6 +93,8 @@ stops_with_gdb of_file of_reader wanted reader input before after shown_before s
   start = serves.start;
   files = serves.files;
   lines = serves.lines;
-  stop = subst (λ (all : Option (List ℕ)). IfSome all (λ bytes.
-      last ≡ (gdb_shown (setting_wanted wanted) wanted.most serves.start serves.images bytes).state.session.debug.script.last)) of_input serves.stop;
+  sent = serves.sent;
+  all = subst (λ (bytes : Option (List ℕ)). IsAllSent of_file wanted bytes serves.sent
+      (gdb_shown wanted serves.start serves.images serves.sent)) of_input serves.all;
+  stop = serves.stop;
 }

@@ -1,6 +1,6 @@
--- The words of the subcommand: `--script` with the path that follows it, and all others, which are the words of
--- `rosm`.
-use Rattle.std.specs.Prelude.{ℕ, ◌-◌, ◌^◌, take, Bool, true, false, not, List, [], ◌∷◌, Option, Some, None, codes, if◌then◌else◌}
+-- The words of the subcommand: `--script` with the path that follows it, `--stay`, and all others, which are the
+-- words of `rosm`.
+use Rattle.std.specs.Prelude.{ℕ, ◌-◌, ◌^◌, take, Bool, true, false, not, ◌&&◌, ◌||◌, List, [], ◌∷◌, Option, Some, None, codes, if◌then◌else◌}
 use Rattle.std.specs.Str.{bytes_eq}
 use Rattle.rosm_tools.specs.declared.gdb.options.GdbWord.{GdbWord}
 use Rattle.rosm_tools.specs.declared.gdb.options.GdbWord.TheVariants as taken
@@ -17,9 +17,22 @@ gdb_word_after taken.File word = taken.File
 
 -- whether a word is one of `rosm`'s
 abbrev pub is_machine_word : GdbWord → List ℕ → Bool
-is_machine_word taken.Option word = not (asks_start word)
+is_machine_word taken.Option word = not (asks_start word) && not (bytes_eq word (codes "--stay"))
 is_machine_word taken.Path word = false
 is_machine_word taken.File word = true
+
+-- whether a word asks that the program's end be stayed at, and whether one of some does
+abbrev pub asks_to_stay : GdbWord → List ℕ → Bool
+asks_to_stay taken.Option word = bytes_eq word (codes "--stay")
+asks_to_stay taken.Path word = false
+asks_to_stay taken.File word = false
+
+abbrev pub stays_from : GdbWord → List (List ℕ) → Bool
+stays_from t [] = false
+stays_from t (word ∷ rest) = asks_to_stay t word || stays_from (gdb_word_after t word) rest
+
+abbrev pub stays_wanted : List (List ℕ) → Bool
+stays_wanted words = stays_from taken.Option words
 
 abbrev pub and_machine_word : Bool → List ℕ → List (List ℕ) → List (List ℕ)
 and_machine_word true word more = word ∷ more

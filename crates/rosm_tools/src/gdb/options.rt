@@ -1,7 +1,7 @@
-//! The words that are the subcommand's own: `--script`, with the path that follows it.
+//! The words that are the subcommand's own: `--script`, with the path that follows it, and `--stay`.
 
 ghost use Rattle.std.specs.Prelude.{◌≡◌, IfOk, map};
-ghost use Rattle.rosm_tools.specs.gdb.Options.{gdb_word_after, is_machine_word, last_gdb_word, machine_words_from, start_paths_from};
+ghost use Rattle.rosm_tools.specs.gdb.Options.{asks_to_stay, gdb_word_after, is_machine_word, last_gdb_word, machine_words_from, start_paths_from, stays_from};
 ghost use Rattle.rosm_tools.specs.declared.gdb.options.GdbWord.TheVariants.{Option as expects_option};
 
 use std::alloc::{AllocError, Global};
@@ -24,11 +24,13 @@ pub struct PartedGdbWords<'a> {
     pub paths: Vec<&'a str>,
     /// The words of `rosm`.
     pub others: Vec<&'a str>,
+    /// Whether the program's end is to be stayed at.
+    pub stays: bool,
     /// What a word after the last one would be taken for.
     pub next: GdbWord,
 }
 
-/// Separates `--script FILE` from all other words; after a word `--` all are others.
+/// Separates `--script FILE` and `--stay` from all other words; after a word `--` all are others.
 ///
 /// # Errors
 ///
@@ -39,11 +41,14 @@ pub fn part_words<'a>(alloc: Global, words: &[&'a str]) -> Result<PartedGdbWords
         ≡ start_paths_from expects_option (map (λ w. w.now) words.entry.now)) }
     ensures others { IfOk result (λ p. map (λ w. w.now) p.others.items
         ≡ machine_words_from expects_option (map (λ w. w.now) words.entry.now)) }
+    ensures stays { IfOk result (λ p. p.stays
+        ≡ stays_from expects_option (map (λ w. w.now) words.entry.now)) }
     ensures next { IfOk result (λ p. p.next
         ≡ last_gdb_word expects_option (map (λ w. w.now) words.entry.now)) }
 {
     let mut paths = Vec::new(alloc);
     let mut others = Vec::new(alloc);
+    let mut stays = false;
     let mut next = GdbWord::Option;
     for word in words {
         if next == GdbWord::Path {
@@ -52,11 +57,13 @@ pub fn part_words<'a>(alloc: Global, words: &[&'a str]) -> Result<PartedGdbWords
         if is_machine_word(next, word.as_bytes()) {
             others.push(*word)?;
         }
+        stays = stays || asks_to_stay(next, word.as_bytes());
         next = gdb_word_after(next, word.as_bytes());
     }
     Ok(PartedGdbWords {
         paths,
         others,
+        stays,
         next,
     })
 }
@@ -66,9 +73,19 @@ fn is_machine_word(taken: GdbWord, word: &[u8]) -> bool
     ensures { result ≡ is_machine_word taken word.now }
 {
     match taken {
-        GdbWord::Option => word != b"--script".as_slice(),
+        GdbWord::Option => word != b"--script".as_slice() && word != b"--stay".as_slice(),
         GdbWord::Path => false,
         GdbWord::File => true,
+    }
+}
+
+// Whether a word asks that the program's end be stayed at.
+fn asks_to_stay(taken: GdbWord, word: &[u8]) -> bool
+    ensures { result ≡ asks_to_stay taken word.now }
+{
+    match taken {
+        GdbWord::Option => word == b"--stay".as_slice(),
+        GdbWord::Path | GdbWord::File => false,
     }
 }
 

@@ -46,7 +46,7 @@ fn serve_on_standard_streams<'a, R, E>(
     errors: &mut E,
 ) -> Result<Option<Stop>, GdbRefusal<'a>>
 where
-    R: AllocGlobal + fs::Files + Input + Print,
+    R: AllocGlobal + Eprint + fs::Files + Input + Print,
     E: Sink,
     ensures stop { IfOk result
         (StopsWithGdb R.File.Read.remaining R.Reader.Read.remaining wanted.entry.now) }
@@ -58,8 +58,8 @@ where
 }
 
 /// Takes in the files, answers the lines that a machine begins with, serves what the reader gives, up to
-/// its end or the end of the session, writes the answers to a stream, and gives the last stop and the
-/// stream, in which all of them stand.
+/// its end or the end of the session, with the files read anew for each `run`, writes the answers to a
+/// stream, and gives the last stop and the stream, in which all of them stand.
 ///
 /// # Errors
 ///
@@ -73,7 +73,7 @@ fn serve_to_stream<'a, F, R, W, E>(
     errors: &mut E,
 ) -> Result<(Option<Stop>, Device<W>), GdbRefusal<'a>>
 where
-    F: AllocGlobal + fs::Files,
+    F: AllocGlobal + Eprint + fs::Files,
     R: Source,
     W: Write + Drop,
     E: Sink,
@@ -91,6 +91,7 @@ where
         config: wanted.settings.config,
         budget: wanted.settings.budget,
         most: wanted.most,
+        stays: wanted.stays,
     };
     let mut session = GdbSession::new(alloc, setting, start.as_slice())?;
     let reported = session.begin(&mut images)?;
@@ -100,7 +101,7 @@ where
         return Err(GdbRefusal::Memory);
     };
     let mut writer = Device::new(buffered);
-    serve(&mut server, &mut images, reader, &mut writer)?;
+    serve(files, wanted, &mut server, &mut images, reader, &mut writer)?;
     match writer.unbuffered() {
         Ok(stream) => Ok((server.session().last(), stream)),
         Err(_) => Err(GdbRefusal::Served(ServeError::WriteFault)),

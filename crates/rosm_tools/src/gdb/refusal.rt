@@ -10,7 +10,7 @@ use std::alloc::AllocError;
 use thiserror::Error;
 
 /// The form of a command line, in one line.
-pub const USAGE: &str = "usage: rosm_gdb [--script FILE] \
+pub const USAGE: &str = "usage: rosm_gdb [--script FILE] [--stay] \
 [--pages N] [--app N] [--rma N] [--budget N] [FILE...]";
 
 /// Why GDB isn't served to its end. The text is one line.

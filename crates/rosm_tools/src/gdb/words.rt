@@ -2,7 +2,7 @@
 
 ghost use Rattle.std.specs.Prelude.{◌≡◌, map, string_bytes, option_map, IfErr, IfOk, Ok, Option, None, Result};
 ghost use Rattle.rosm_settings.specs.command_line.Settings.{settings_for};
-ghost use Rattle.rosm_tools.specs.gdb.Options.{any_sets_budget, machine_words, most_wanted, one_start_path, sets_budget, unless_path_lacks};
+ghost use Rattle.rosm_tools.specs.gdb.Options.{any_sets_budget, machine_words, most_wanted, one_start_path, sets_budget, stays_wanted, unless_path_lacks};
 ghost use Rattle.rosm_tools.specs.gdb.Endings.{AsksForGdb, IsGdbRefusalOf, IsMachineRefusal, IsRefusalOfWords, gdb_words_refused};
 
 use crate::gdb::options::{GdbWord, PartedGdbWords, part_words};
@@ -26,6 +26,8 @@ pub struct WantedGdb {
     pub settings: Settings,
     /// How many steps a run may take.
     pub most: u64,
+    /// Whether a run stays before the program's end.
+    pub stays: bool,
 }
 
 /// What the words of this process ask for, from that of the subcommand on.
@@ -67,6 +69,7 @@ fn wanted_of(alloc: Global, words: &[String]) -> Result<WantedGdb, GdbRefusal<'s
     ensures asks { IfOk result (AsksForGdb (map string_bytes words.now)) }
     ensures most { IfOk result (λ wanted. wanted.most
         ≡ most_wanted (machine_words (map string_bytes words.now)) wanted.settings.budget) }
+    ensures stays { IfOk result (λ wanted. wanted.stays ≡ stays_wanted (map string_bytes words.now)) }
     ensures refused { IfErr result (IsGdbRefusalOf (map string_bytes words.now)) }
 {
     let texts = texts_of(alloc, words)?;
@@ -84,6 +87,7 @@ fn wanted_of(alloc: Global, words: &[String]) -> Result<WantedGdb, GdbRefusal<'s
         script,
         settings,
         most,
+        stays: parted.stays,
     })
 }
 

@@ -8,11 +8,9 @@ use Rattle.gdb_server.proofs.server.GdbServer.take.Given as goal
 abbrev pub invariant-loop-byte : goal.invariant-loop-byte
 invariant-loop-byte g l = record {
   text : AddsAllBut (g.W.Sink.contents l.fn.sink) (g.W.Sink.contents l.sink)
-      (bytes_served l.fn.self.session.debug.setting l.fn.self.session.start.items (drop l.byte-index l.bytes) (server_state l.self l.images)).text
-      (bytes_served l.fn.self.session.debug.setting l.fn.self.session.start.items l.bytes (server_state l.fn.self l.fn.images)).text;
-  state : (bytes_served l.fn.self.session.debug.setting l.fn.self.session.start.items (drop l.byte-index l.bytes) (server_state l.self l.images)).state
-      ≡ (bytes_served l.fn.self.session.debug.setting l.fn.self.session.start.items l.bytes (server_state l.fn.self l.fn.images)).state;
-  setting : l.self.session.debug.setting ≡ l.fn.self.session.debug.setting;
-  start : l.self.session.start.items ≡ l.fn.self.session.start.items;
+      (bytes_served (drop l.byte-index l.bytes) (server_state l.self l.images)).text
+      (bytes_served l.bytes (server_state l.fn.self l.fn.images)).text;
+  state : (bytes_served (drop l.byte-index l.bytes) (server_state l.self l.images)).state
+      ≡ (bytes_served l.bytes (server_state l.fn.self l.fn.images)).state;
   same_flag : g.W.Sink.has_failed l.sink ≡ g.W.Sink.has_failed l.fn.sink;
 }

@@ -15,7 +15,7 @@ returns-in-Some-Stop-clause-reported g c =
     let stops : Some piece.Stop ≡ (byte_taken s.reading c.args.byte).piece = cc (c.take.ensures.piece) in
     subst (λ (x : Served). OnOk c.take_stop.result (IsServed (g.W.Sink.contents c.args.sink.now) (g.W.Sink.contents c.take_stop.new.sink)
     (server_state c.take_stop.new.self images) x))
-    (byte_stops c.args.self.now.session.debug.setting c.args.self.now.session.start.items s c.take.new.self c.args.byte stops c.take.ensures.now)
+    (byte_stops s c.take.new.self c.args.byte stops c.take.ensures.now)
     (c.take_stop.ensures.reported images)
 
 pub returns-in-Some-Stop-clause-front : goal.returns-in-Some-Stop-clause-front
@@ -24,5 +24,5 @@ returns-in-Some-Stop-clause-front g c =
     let s : ServerState = server_state c.args.self.now images in
     let stops : Some piece.Stop ≡ (byte_taken s.reading c.args.byte).piece = cc (c.take.ensures.piece) in
     subst (λ (x : Served). OnErr c.take_stop.result (AddsFront (g.W.Sink.contents c.args.sink.now) (g.W.Sink.contents c.take_stop.new.sink) x.text))
-    (byte_stops c.args.self.now.session.debug.setting c.args.self.now.session.start.items s c.take.new.self c.args.byte stops c.take.ensures.now)
+    (byte_stops s c.take.new.self c.args.byte stops c.take.ensures.now)
     (c.take_stop.ensures.front images)

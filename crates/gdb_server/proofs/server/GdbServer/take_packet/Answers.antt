@@ -19,7 +19,7 @@ returns-in_err-answer_packet-clause-front g c =
 pub returns-in_err-push_all-clause-front : goal.returns-in_err-push_all-clause-front
 returns-in_err-push_all-clause-front g c =
     let s : ServerState = server_state c.args.self.now c.args.images.now in
-    let kept : List ℕ = (packet_served c.args.self.now.session.debug.setting c.args.self.now.session.start.items s).state.last in
+    let kept : List ℕ = (packet_served s).state.last in
     let is : c.as_slice.result.now ≡ kept =
     c.as_slice.ensures.value ∙ ap (λ (u : ServerState). u.last) c.in_ok-answer_packet.ensures.state in
     at_err _ _ (front_after _ _ _ _ kept c.in_ok-acknowledge.ensures.text
@@ -29,7 +29,7 @@ returns-in_err-push_all-clause-front g c =
 pub returns-clause-reported : goal.returns-clause-reported
 returns-clause-reported g c =
     let s : ServerState = server_state c.args.self.now c.args.images.now in
-    let kept : List ℕ = (packet_served c.args.self.now.session.debug.setting c.args.self.now.session.start.items s).state.last in
+    let kept : List ℕ = (packet_served s).state.last in
     let is : c.as_slice.result.now ≡ kept =
     c.as_slice.ensures.value ∙ ap (λ (u : ServerState). u.last) c.in_ok-answer_packet.ensures.state in
     record {

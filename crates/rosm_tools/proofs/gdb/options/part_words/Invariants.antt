@@ -1,5 +1,5 @@
-use Rattle.std.proofs.Common.{◌≡◌, ◌++◌, drop, map}
-use Rattle.rosm_tools.specs.gdb.Options.{last_gdb_word, machine_words_from, start_paths_from}
+use Rattle.std.proofs.Common.{◌≡◌, ◌++◌, ◌||◌, drop, map}
+use Rattle.rosm_tools.specs.gdb.Options.{last_gdb_word, machine_words_from, start_paths_from, stays_from}
 use Rattle.rosm_tools.specs.declared.gdb.options.GdbWord.TheVariants as taken
 use Rattle.rosm_tools.proofs.gdb.options.part_words.Given as goal
 
@@ -10,6 +10,8 @@ invariant-loop-word l = record {
       ≡ start_paths_from taken.Option (map (λ w. w.now) l.words);
   others : map (λ w. w.now) l.others.items ++ machine_words_from l.next (map (λ w. w.now) (drop l.word-index l.words))
       ≡ machine_words_from taken.Option (map (λ w. w.now) l.words);
+  stays : (l.stays || stays_from l.next (map (λ w. w.now) (drop l.word-index l.words)))
+      ≡ stays_from taken.Option (map (λ w. w.now) l.words);
   next : last_gdb_word l.next (map (λ w. w.now) (drop l.word-index l.words))
       ≡ last_gdb_word taken.Option (map (λ w. w.now) l.words);
 }

@@ -8,7 +8,7 @@ returns-in_ok-reply-in_default-clause-reported c =
     let images = c.args.images.now in
     answer_known (gdb_state c.change.new.self images) c.shown_change.result _ _ c.shown_change.ensures.reported c.shown_change.ensures.reply
     (c.in_ok-reply-in_default.ensures.reported images
-    ∙ other_act c.args.self.now.debug.setting c.args.self.now.start.items (gdb_state c.args.self.now images) c.args.request.now
+    ∙ other_act (gdb_state c.args.self.now images) c.args.request.now
     c.in_default.not-Continue c.in_default.not-ContinueWith c.in_default.not-Step c.in_default.not-StepWith c.in_default.not-StepRange
     c.in_default.not-HostAnswer c.in_default.not-Line c.in_default.not-RunProgram c.in_default.not-Restart
     c.in_default.not-StepBack c.in_default.not-ContinueBack)

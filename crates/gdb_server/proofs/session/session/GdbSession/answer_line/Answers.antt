@@ -16,7 +16,7 @@ returns-in-Some-clause-reported c =
     let line : Some c.as_slice.result.now ≡ bytes_of_pairs (decode_of c.args.pairs.now) = ap Some c.as_slice.ensures.value ∙ there in
     subst (λ (a : GdbAnswered). IfOk c.answer_decoded.result
     (λ (answer : GdbAnswer). IsGdbAnswered (gdb_state c.answer_decoded.new.self c.answer_decoded.new.images) answer a))
-    (ap (line_decoded c.args.self.now.debug.setting g) line)
+    (ap (line_decoded g) line)
     c.answer_decoded.ensures.reported
 
 pub returns-in_ok-from_slice-in-None-clause-reported : goal.returns-in_ok-from_slice-in-None-clause-reported
@@ -25,5 +25,5 @@ returns-in_ok-from_slice-in-None-clause-reported c =
     let there : None ≡ bytes_of_pairs (decode_of c.args.pairs.now) = rw c.in-None.is at c.in_ok-line.ensures in
     let packet : option_map (λ reply. reply.items) c.with_reply.result.reply ≡ Some (codes "E16") = rw c.with_reply.ensures.reply (ap Some c.in_ok-from_slice-in-None.ensures.items) in
     subst (λ (a : GdbAnswered). IsGdbAnswered g c.with_reply.result a)
-    (ap (line_decoded c.args.self.now.debug.setting g) there)
+    (ap (line_decoded g) there)
     (replied g c.with_reply.result (codes "E16") c.with_reply.ensures.reported packet)

@@ -16,17 +16,16 @@ use Rattle.gdb_server.proofs.session.session.GdbSession.back_end.Goals as goal
 pub returns-clause-found : goal.returns-clause-found
 returns-clause-found c =
     let self = c.args.self.now in
-    let config = self.debug.setting.config in
     let g : GdbState = gdb_state self c.args.images.now in
     let bytes : List SeenByte = watched_bytes g.debug.script.machine.store.bytes g.watches in
     let seen : c.as_slice.result.now ≡ bytes =
     c.as_slice.ensures.value ∙ c.in_ok-seen.ensures
     ∙ ap (λ (b : Bytes). watched_bytes b g.watches)
     (c.memory-map.ensures.bytes ∙ ap (λ (m : MachineValue). (state_of m.guest).store.bytes) c.machine.ensures) in
-    let first : c.in_ok-end.end ≡ first_met the_begin (ends_of_bytes config g bytes) =
-    c.in_ok-end.ensures.found ∙ ap (λ (xs : List SeenByte). first_met the_begin (ends_of_bytes config g xs)) seen in
+    let first : c.in_ok-end.end ≡ first_met the_begin (ends_of_bytes g bytes) =
+    c.in_ok-end.ensures.found ∙ ap (λ (xs : List SeenByte). first_met the_begin (ends_of_bytes g xs)) seen in
     end_as c.end_at_breaks.result _ _
-    (ap (λ (xs : List Entry). first_met c.in_ok-end.end (ends_of_breaks config (gdb_state self xs) self.breaks)) c.in_ok-end.ensures.images
-    ∙ ap (λ (e : BackEnd). first_met e (ends_of_breaks config g self.breaks)) first
-    ∙ first_joined the_begin (ends_of_bytes config g bytes) (ends_of_breaks config g self.breaks))
+    (ap (λ (xs : List Entry). first_met c.in_ok-end.end (ends_of_breaks (gdb_state self xs) self.breaks)) c.in_ok-end.ensures.images
+    ∙ ap (λ (e : BackEnd). first_met e (ends_of_breaks g self.breaks)) first
+    ∙ first_joined the_begin (ends_of_bytes g bytes) (ends_of_breaks g self.breaks))
     c.end_at_breaks.ensures.found

@@ -9,11 +9,10 @@ use Rattle.gdb_server.proofs.session.session.GdbSession.begin_anew.Goals as goal
 
 pub returns-clause-reported : goal.returns-clause-reported
 returns-clause-reported c =
-    let setting = c.args.self.now.debug.setting in
     let g = gdb_state c.args.self.now c.args.images.now in
     let number : c.new-lines.result.number ≡ 0 = cc (c.new-lines.ensures) in
     let left : c.new-lines.result.left ≡ lines c.as_slice.result.now = cc (c.new-lines.ensures) in
-    (lines_answered setting c.go_on.new.self.setting c.args.self.now.start.items g (sink_text_of c.new-reported.result)
+    (lines_answered c.go_on.new.self.setting g (sink_text_of c.new-reported.result)
     (sink_text_of c.answer_lines.new.sink) (debug_state c.go_on.new.self c.args.images.now)
     (debug_state c.answer_lines.new.self c.answer_lines.new.images) c.new-lines.result.number c.new-lines.result.left
     c.in_ok-answer_lines.ensures.reported (c.go_on.ensures.setting ∙ c.in_ok-start_anew.ensures.setting)
@@ -22,13 +21,12 @@ returns-clause-reported c =
 
 pub returns-clause-state : goal.returns-clause-state
 returns-clause-state c =
-    let setting = c.args.self.now.debug.setting in
     let g = gdb_state c.args.self.now c.args.images.now in
-    let start = c.args.self.now.start.items in
     let number : c.new-lines.result.number ≡ 0 = cc (c.new-lines.ensures) in
     let left : c.new-lines.result.left ≡ lines c.as_slice.result.now = cc (c.new-lines.ensures) in
-    begun_so g (debug_state c.answer_lines.new.self c.answer_lines.new.images) (begin_shown setting start g) c.new.result.items
-    (lines_answered setting c.go_on.new.self.setting start g (sink_text_of c.new-reported.result)
+    begun_so g c.answer_lines.new.self.setting (debug_state c.answer_lines.new.self c.answer_lines.new.images) (begin_shown g) c.new.result.items
+    (c.answer_lines.ensures.setting ∙ c.go_on.ensures.setting ∙ c.in_ok-start_anew.ensures.setting)
+    (lines_answered c.go_on.new.self.setting g (sink_text_of c.new-reported.result)
     (sink_text_of c.answer_lines.new.sink) (debug_state c.go_on.new.self c.args.images.now)
     (debug_state c.answer_lines.new.self c.answer_lines.new.images) c.new-lines.result.number c.new-lines.result.left
     c.in_ok-answer_lines.ensures.reported (c.go_on.ensures.setting ∙ c.in_ok-start_anew.ensures.setting)

@@ -15,7 +15,7 @@ returns-then-is_other-clause-reported c =
     let images = c.args.images.now in
     let g : GdbState = gdb_state c.args.self.now images in
     answered_as _ _ _ _ (ap (λ (x : List ℕ). gdb_stop_shown g x reason.Library) c.new.ensures
-    ∙ back_library c.args.self.now.debug.setting g (sym (c.in_ok-is_other.ensures images) ∙ c.if-is_other.true))
+    ∙ back_library g (sym (c.in_ok-is_other.ensures images) ∙ c.if-is_other.true))
     (c.stopped.ensures.reported images)
 
 pub returns-then-steps-eq0-clause-reported : goal.returns-then-steps-eq0-clause-reported
@@ -23,21 +23,20 @@ returns-then-steps-eq0-clause-reported c =
     let images = c.args.images.now in
     let g : GdbState = gdb_state c.args.self.now images in
     answered_as _ _ _ _ (ap (λ (x : List ℕ). gdb_stop_shown g x reason.Begin) c.new-then-steps-eq0.ensures
-    ∙ begins_there c.args.self.now.debug.setting g c.steps_back-steps.result (sym (c.in_ok-is_other.ensures images) ∙ c.if-is_other.false)
+    ∙ begins_there g c.steps_back-steps.result (sym (c.in_ok-is_other.ensures images) ∙ c.if-is_other.false)
     (c.steps_back-steps.ensures images) (omega (arith, c.if-steps-eq0.true)))
     (c.stopped-then-steps-eq0.ensures.reported images)
 
 pub returns-clause-reported : goal.returns-clause-reported
 returns-clause-reported c =
     let images = c.args.images.now in
-    let setting = c.args.self.now.debug.setting in
     let g : GdbState = gdb_state c.args.self.now images in
     let end : BackEnd = c.in_ok-end.end in
-    let there : gdb_state c.go_back.new.self c.go_back.new.images ≡ gone_back_to setting g end.step =
-    c.in_ok-go_back.ensures.reported ∙ ap (λ (xs : List Entry). gone_back_to setting (gdb_state c.args.self.now xs) end.step) c.in_ok-end.ensures.images in
+    let there : gdb_state c.go_back.new.self c.go_back.new.images ≡ gone_back_to g end.step =
+    c.in_ok-go_back.ensures.reported ∙ ap (λ (xs : List Entry). gone_back_to (gdb_state c.args.self.now xs) end.step) c.in_ok-end.ensures.images in
     answered_as _ _ _ _ (ap (λ (x : List ℕ). gdb_stop_shown (gdb_state c.go_back.new.self c.go_back.new.images) x end.why) c.new-2.ensures
     ∙ ap (λ (s : GdbState). gdb_stop_shown s [] end.why) there
-    ∙ ap (back_to_end setting g) c.in_ok-end.ensures.found
-    ∙ ends_back setting g c.steps_back-steps.result (sym (c.in_ok-is_other.ensures images) ∙ c.if-is_other.false)
+    ∙ ap (back_to_end g) c.in_ok-end.ensures.found
+    ∙ ends_back g c.steps_back-steps.result (sym (c.in_ok-is_other.ensures images) ∙ c.if-is_other.false)
     (c.steps_back-steps.ensures images) (omega (arith, c.if-steps-eq0.false)))
     (c.stopped-2.ensures.reported c.go_back.new.images)

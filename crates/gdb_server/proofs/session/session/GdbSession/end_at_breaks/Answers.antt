@@ -24,7 +24,7 @@ loop-at-preserved c =
     let sought_there = ap (λ (xs : List Entry). last_in_past config (gdb_state self xs).debug.script (gdb_state self xs).debug.past
     (sought.Stood at)) l.invariant.images in
     record {
-      found = end_goes_on (end_at_break config (gdb_state self c.args.images.now)) c.args.first places i at l.end
+      found = end_goes_on (end_at_break (gdb_state self c.args.images.now)) c.args.first places i at l.end
           c.or_first-end.result below is
           (c.or_first-end.ensures ∙ ap (met_first l.end) (c.break_found.ensures
           ∙ ap (break_found at) (c.in_ok-found.ensures.found ∙ sought_there)))
@@ -39,5 +39,5 @@ returns-clause-found c =
     let within : length c.places-at-items.result.now ≤ l.at-index = omega arith in
     let all : length self.breaks ≤ l.at-index =
     subst (λ (xs : List ℕ). length xs ≤ l.at-index) c.places-at-items.ensures within in
-    end_is_all (end_at_break self.debug.setting.config (gdb_state self c.args.images.now)) c.args.first self.breaks l.at-index
+    end_is_all (end_at_break (gdb_state self c.args.images.now)) c.args.first self.breaks l.at-index
     l.end all l.invariant.found

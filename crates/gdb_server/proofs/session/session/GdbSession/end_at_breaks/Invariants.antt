@@ -8,7 +8,7 @@ use Rattle.gdb_server.proofs.session.session.GdbSession.end_at_breaks.Given as g
 -- what was found so far and the breaks that are left lead to the end
 abbrev pub invariant-loop-at : goal.invariant-loop-at
 invariant-loop-at l = record {
-  found : first_met l.fn.first (map (end_at_break l.self.debug.setting.config (gdb_state l.self l.fn.images)) l.self.breaks)
-      ≡ first_met l.end (map (end_at_break l.self.debug.setting.config (gdb_state l.self l.fn.images)) (drop l.at-index l.self.breaks));
+  found : first_met l.fn.first (map (end_at_break (gdb_state l.self l.fn.images)) l.self.breaks)
+      ≡ first_met l.end (map (end_at_break (gdb_state l.self l.fn.images)) (drop l.at-index l.self.breaks));
   images : l.images ≡ l.fn.images;
 }

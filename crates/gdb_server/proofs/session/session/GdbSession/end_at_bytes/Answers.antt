@@ -8,11 +8,10 @@ use Rattle.gdb_server.proofs.session.session.GdbSession.end_at_bytes.Goals as go
 pub loop-byte-preserved : goal.loop-byte-preserved
 loop-byte-preserved c =
     let self = c.args.self.now in
-    let config = self.debug.setting.config in
     let l = c.loop-byte in
     let below : l.byte-index < length c.args.seen.now = omega arith in
     record {
-      found = byte_goes_on config (gdb_state self c.args.images.now) (gdb_state self l.images) the_begin c.args.seen.now l.byte-index _
+      found = byte_goes_on (gdb_state self c.args.images.now) (gdb_state self l.images) the_begin c.args.seen.now l.byte-index _
           l.end c.in_ok-other.other c.or_first-end.result below (ap (gdb_state self) l.invariant.images) c.in_ok-other.ensures.found
           c.or_first-end.ensures l.invariant.found;
       images = c.in_ok-other.ensures.images ∙ l.invariant.images;
@@ -23,5 +22,5 @@ returns-clause-found c =
     let self = c.args.self.now in
     let l = c.loop-byte in
     let all : length c.args.seen.now ≤ l.byte-index = omega arith in
-    end_is_all (end_at_byte self.debug.setting.config (gdb_state self c.args.images.now)) the_begin c.args.seen.now l.byte-index
+    end_is_all (end_at_byte (gdb_state self c.args.images.now)) the_begin c.args.seen.now l.byte-index
     l.end all l.invariant.found

@@ -10,29 +10,29 @@ use Rattle.gdb_server.specs.session.State.{GdbState, gdb_line}
 use Rattle.gdb_server.proofs.SessionLemmas.ChangeLemmas.{changed_so}
 use Rattle.gdb_server.proofs.session.session.GdbSession.make_change.Goals as goal
 
-pub returns-in_ok-put-in-Present-clause-reported : goal.returns-in_ok-put-in-Present-clause-reported
-returns-in_ok-put-in-Present-clause-reported c images =
+pub returns-in_ok-put-in-Present : goal.returns-in_ok-put-in-Present
+returns-in_ok-put-in-Present c images =
     let g : GdbState = gdb_state c.args.self.now images in
     changed_so g (script_state c.set_register.new.self images) _ c.args.change
     (c.set_register.ensures images ∙ ap (script_with_change g.debug.script) (sym c.in-Present.is))
     (c.in_ok-put-in-Present.ensures ∙ ap (λ (n : ℕ). past_with_deed g.debug.past gdb_line (deed.Register n c.in-Present.value)) c.new-register.ensures ∙ ap (past_after_write g.debug.past) (sym c.in-Present.is))
 
-pub returns-in-Place-clause-reported : goal.returns-in-Place-clause-reported
-returns-in-Place-clause-reported c images =
+pub returns-in-Place : goal.returns-in-Place
+returns-in-Place c images =
     let g : GdbState = gdb_state c.args.self.now images in
     changed_so g (script_state c.wake.new.self images) _ c.args.change
     (c.wake.ensures images ∙ ap script_unhalted (c.set_pc.ensures images) ∙ ap (script_with_change g.debug.script) (sym c.in-Place.is))
     (c.lose.ensures ∙ ap (past_after_write g.debug.past) (sym c.in-Place.is))
 
-pub returns-in_ok-put-in-Status-clause-reported : goal.returns-in_ok-put-in-Status-clause-reported
-returns-in_ok-put-in-Status-clause-reported c images =
+pub returns-in_ok-put-in-Status : goal.returns-in_ok-put-in-Status
+returns-in_ok-put-in-Status c images =
     let g : GdbState = gdb_state c.args.self.now images in
     changed_so g (script_state c.set_psr.new.self images) _ c.args.change
     (c.set_psr.ensures images ∙ ap (script_with_change g.debug.script) (sym c.in-Status.is))
     (c.in_ok-put-in-Status.ensures ∙ ap (past_after_write g.debug.past) (sym c.in-Status.is))
 
-pub returns-in-Banked-clause-reported : goal.returns-in-Banked-clause-reported
-returns-in-Banked-clause-reported c images =
+pub returns-in-Banked : goal.returns-in-Banked
+returns-in-Banked c images =
     let g : GdbState = gdb_state c.args.self.now images in
     changed_so g (script_state c.set_register_in.new.self images) _ c.args.change
     (c.set_register_in.ensures images ∙ ap (script_with_change g.debug.script) (sym c.in-Banked.is))

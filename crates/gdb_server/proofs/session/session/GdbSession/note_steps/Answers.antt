@@ -5,8 +5,8 @@ use Rattle.gdb_server.specs.session.Session.{gdb_state}
 use Rattle.gdb_server.specs.session.State.{GdbState, gdb_line, with_past}
 use Rattle.gdb_server.proofs.session.session.GdbSession.note_steps.Goals as goal
 
-pub returns-clause-reported : goal.returns-clause-reported
-returns-clause-reported c images =
+pub returns : goal.returns
+returns c images =
     let g : GdbState = gdb_state c.args.self.now images in
     let p : PastState = g.debug.past in
     let left : ℕ = c.args.left in

@@ -6,22 +6,22 @@ use Rattle.gdb_server.specs.session.Requests.{remove_point_shown}
 use Rattle.gdb_server.specs.session.Session.{gdb_state}
 use Rattle.gdb_server.proofs.session.session.GdbSession.remove_point.Goals as goal
 
-pub returns-in-Break-clause-reported : goal.returns-in-Break-clause-reported
-returns-in-Break-clause-reported c = λ (images : List Entry).
+pub returns-in-Break : goal.returns-in-Break
+returns-in-Break c = λ (images : List Entry).
     c.remove_break.ensures.reported images
     ∙ ap (λ (k : PointKind). remove_point_shown (gdb_state c.args.self.now images) k c.args.range) (sym c.in-Break.is)
 
-pub returns-in-StoreWatch-clause-reported : goal.returns-in-StoreWatch-clause-reported
-returns-in-StoreWatch-clause-reported c = λ (images : List Entry).
+pub returns-in-StoreWatch : goal.returns-in-StoreWatch
+returns-in-StoreWatch c = λ (images : List Entry).
     c.remove_watch.ensures.reported images
     ∙ ap (λ (k : PointKind). remove_point_shown (gdb_state c.args.self.now images) k c.args.range) (sym c.in-StoreWatch.is)
 
-pub returns-in-LoadWatch-clause-reported : goal.returns-in-LoadWatch-clause-reported
-returns-in-LoadWatch-clause-reported c = λ (images : List Entry).
+pub returns-in-LoadWatch : goal.returns-in-LoadWatch
+returns-in-LoadWatch c = λ (images : List Entry).
     c.remove_watch-in-LoadWatch.ensures.reported images
     ∙ ap (λ (k : PointKind). remove_point_shown (gdb_state c.args.self.now images) k c.args.range) (sym c.in-LoadWatch.is)
 
-pub returns-in-AccessWatch-clause-reported : goal.returns-in-AccessWatch-clause-reported
-returns-in-AccessWatch-clause-reported c = λ (images : List Entry).
+pub returns-in-AccessWatch : goal.returns-in-AccessWatch
+returns-in-AccessWatch c = λ (images : List Entry).
     c.remove_watch-in-AccessWatch.ensures.reported images
     ∙ ap (λ (k : PointKind). remove_point_shown (gdb_state c.args.self.now images) k c.args.range) (sym c.in-AccessWatch.is)

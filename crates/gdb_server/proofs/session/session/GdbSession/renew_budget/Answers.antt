@@ -4,6 +4,6 @@ use Rattle.gdb_server.specs.session.Session.{gdb_state}
 use Rattle.gdb_server.specs.session.State.{with_script}
 use Rattle.gdb_server.proofs.session.session.GdbSession.renew_budget.Goals as goal
 
-pub returns-clause-reported : goal.returns-clause-reported
-returns-clause-reported c images =
+pub returns : goal.returns
+returns c images =
     ap (λ (s : ScriptState). with_script (gdb_state c.args.self.now images) s) (c.set_budget.ensures images)

@@ -11,7 +11,7 @@ use Rattle.gdb_server.proofs.session.session.GdbSession.run_program.Goals as goa
 pub returns-clause-reported : goal.returns-clause-reported
 returns-clause-reported c =
     let g : GdbState = gdb_state c.args.self.now c.args.images.now in
-    let begun_now : GdbState = after_begin g (begin_shown c.args.self.now.debug.setting c.args.self.now.start.items g) in
+    let begun_now : GdbState = after_begin g (begin_shown g) in
     subst (λ (a : GdbAnswered). IfOk c.stopped.result
     (λ (answer : GdbAnswer). IsGdbAnswered (gdb_state c.stopped.new.self c.begin_anew.new.images) answer a))
     (ap (λ (s : GdbState). gdb_stop_shown s (sink_text_of c.new.result) reason.Stepped) c.in_ok-_shown.ensures.state

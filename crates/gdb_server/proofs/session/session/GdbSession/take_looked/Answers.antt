@@ -52,8 +52,6 @@ loop-left-preserved c =
       steps = goes_further l first here now (sink_text_of c.args.printed.now) (sink_text_of c.loop-left.printed)
           (sink_text_of c.take_steps.new.sink) c.args.count c.loop-left.left c.in_ok-ran.ran.taken c.in_ok-ran.ran.stop
           c.loop-left.invariant.steps (omega (arith, c.loop-left-test.true)) refl c.in_ok-ran.ensures.ran is;
-      setting = c.loop-left.invariant.setting;
-      start = c.loop-left.invariant.start;
     }
 
 pub returns-clause-taken : goal.returns-clause-taken

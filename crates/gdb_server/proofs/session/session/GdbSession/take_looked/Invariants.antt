@@ -9,8 +9,6 @@ abbrev pub invariant-loop-left : goal.invariant-loop-left
 invariant-loop-left l = record {
   steps : AreStepsLeft (looks_at (gdb_state l.fn.self l.images) l.fn.going l.seen) (gdb_state l.fn.self l.images) (gdb_state l.self l.images)
       (sink_text_of l.fn.printed) (sink_text_of l.printed) l.fn.count l.left;
-  setting : l.self.debug.setting ≡ l.fn.self.debug.setting;
-  start : l.self.start.items ≡ l.fn.self.start.items;
 }
 
 abbrev pub decreases-loop-left : goal.decreases-loop-left

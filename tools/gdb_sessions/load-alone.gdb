@@ -1,0 +1,8 @@
+load
+break main
+continue
+kill
+run
+continue
+run
+kill

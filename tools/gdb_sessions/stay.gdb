@@ -1,0 +1,8 @@
+continue
+reverse-stepi
+stepi
+break insert
+reverse-continue
+delete
+continue
+continue
