@@ -1,10 +1,17 @@
--- Packets that are taken one after another.
-use Rattle.std.proofs.Common.{◌≡◌, ◌<◌, ◌≤◌, ◌+◌, ℕ, List, ◌∷◌, length, get_or, drop, map, ap, sym, ◌∙◌}
+-- A `run`, and packets that are taken one after another.
+use Rattle.std.proofs.Common.{◌≡◌, ◌<◌, ◌≤◌, ◌+◌, ℕ, Bool, true, false, List, [], ◌∷◌, length, get_or, drop, map, ap, subst, sym, ◌∙◌}
+use Rattle.std.specs.Prelude.{Some, Result, IfOk, codes, option_map, if◌then◌else◌}
 use Rattle.std.proofs.lemmas.List.{at_drop_all, at_drop_more}
+use Rattle.command_shell.specs.declared.error.RunError.{RunError}
+use Rattle.gdb_packets.specs.Ahead.{is_run_request}
+use Rattle.gdb_packets.specs.Requests as request
 use Rattle.gdb_packets.specs.Requests.{GdbRequest, packet_request}
-use Rattle.gdb_server.specs.session.Programs.{after_packets}
+use Rattle.gdb_server.specs.session.Programs.{after_packets, program_run_unless, request_answered, run_answered}
 use Rattle.gdb_server.specs.session.Requests.{gdb_answered}
-use Rattle.gdb_server.specs.session.State.{GdbState}
+use Rattle.gdb_server.specs.session.Session.{IsGdbAnswered}
+use Rattle.gdb_server.specs.session.State.{GdbAnswered, GdbState}
+use Rattle.gdb_server.specs.declared.session.session.GdbAnswer.{GdbAnswer}
+use Rattle.gdb_server.proofs.SessionLemmas.RunLemmas.{answered_as, replied}
 
 -- one more
 packets_more : {V : Type 0} (f : V → List ℕ) (packets : List V) (n : ℕ) (packet : V) (g : GdbState) → n < length packets
@@ -31,3 +38,45 @@ pub packets_end : {V : Type 0} (f : V → List ℕ) (packets : List V) (n : ℕ)
 unfolding after_packets
 packets_end {V} f packets n all g none before =
     sym (at_drop_all (λ (rest : List V). after_packets (map f rest) g) packets n none) ∙ before
+
+-- the program begins anew, the packets of the load are taken, and why it stands is shown
+pub runs_anew : (load : List (List ℕ)) (g begun there now : GdbState) (r : Result GdbAnswer RunError)
+    → begun ≡ (gdb_answered g request.RunProgram).state → there ≡ after_packets load begun
+    → IfOk r (λ answer. IsGdbAnswered now answer (gdb_answered there request.Reason))
+    → IfOk r (λ answer. IsGdbAnswered now answer (run_answered load g))
+runs_anew load g begun there now r starts takes reported =
+    answered_as now r (gdb_answered there request.Reason) (run_answered load g)
+    (ap (λ (s : GdbState). gdb_answered s request.Reason) (takes ∙ ap (λ (s : GdbState). after_packets load s) starts)) reported
+
+-- a file can't be read, or all can
+pub lacks_program : (lacks : Bool) (load : List (List ℕ)) (g : GdbState) (answer : GdbAnswer) → lacks ≡ true
+    → answer.reported.items ≡ [] → option_map (λ reply. reply.items) answer.reply ≡ Some (codes "E02")
+    → IsGdbAnswered g answer (program_run_unless lacks load g)
+lacks_program lacks load g answer is none packet =
+    subst (λ (b : Bool). IsGdbAnswered g answer (program_run_unless b load g)) (sym is) (replied g answer (codes "E02") none packet)
+
+pub has_program : (lacks : Bool) (load : List (List ℕ)) (g now : GdbState) (r : Result GdbAnswer RunError) → lacks ≡ false
+    → IfOk r (λ answer. IsGdbAnswered now answer (run_answered load g))
+    → IfOk r (λ answer. IsGdbAnswered now answer (program_run_unless lacks load g))
+has_program lacks load g now r is reported =
+    subst (λ (b : Bool). IfOk r (λ (answer : GdbAnswer). IsGdbAnswered now answer (program_run_unless b load g))) (sym is) reported
+
+-- a `run`, and any other request
+pub run_asked : (lacks : Bool) (load : List (List ℕ)) (g now : GdbState) (asked : GdbRequest) (r : Result GdbAnswer RunError)
+    → is_run_request asked ≡ true → IfOk r (λ answer. IsGdbAnswered now answer (program_run_unless lacks load g))
+    → IfOk r (λ answer. IsGdbAnswered now answer (request_answered lacks load g asked))
+run_asked lacks load g now asked r is reported =
+    answered_as now r (program_run_unless lacks load g) (request_answered lacks load g asked) (by (is_run_request asked) is) reported
+  where
+    by : (b : Bool) → b ≡ true
+        → program_run_unless lacks load g ≡ (if b then program_run_unless lacks load g else gdb_answered g asked)
+    by b is = rw is refl
+
+pub other_asked : (lacks : Bool) (load : List (List ℕ)) (g now : GdbState) (asked : GdbRequest) (r : Result GdbAnswer RunError)
+    → is_run_request asked ≡ false → IfOk r (λ answer. IsGdbAnswered now answer (gdb_answered g asked))
+    → IfOk r (λ answer. IsGdbAnswered now answer (request_answered lacks load g asked))
+other_asked lacks load g now asked r is reported =
+    answered_as now r (gdb_answered g asked) (request_answered lacks load g asked) (by (is_run_request asked) is) reported
+  where
+    by : (b : Bool) → b ≡ false → gdb_answered g asked ≡ (if b then program_run_unless lacks load g else gdb_answered g asked)
+    by b is = rw is refl
