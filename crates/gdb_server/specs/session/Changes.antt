@@ -4,7 +4,7 @@ use Rattle.hex.specs.Hex.{decode_of, decode_sized}
 use Rattle.command_shell.specs.Memory.{script_at, script_unhalted, script_with_bank_register, script_with_register, script_with_status}
 use Rattle.command_shell.specs.State.{ScriptState}
 use Rattle.debug_session.specs.PastNoted.{past_with_deed}
-use Rattle.debug_session.specs.Past.{PastState, unknown_past}
+use Rattle.debug_session.specs.Past.{PastState}
 use Rattle.debug_session.specs.PastDeed.TheVariants as deed
 use Rattle.arm_core.specs.declared.breaks.breaks.BreakError.{BreakError}
 use Rattle.gdb_machine.specs.ChangePackets.{break_refusal, bytes_of_pairs, watch_refusal, write_wanted}
@@ -25,13 +25,13 @@ script_with_change s (change.Place address) = script_unhalted (script_at s addre
 script_with_change s (change.Status status) = script_with_status s status
 script_with_change s (change.Banked mode n value) = script_with_bank_register s mode n value
 
--- What is kept of it. Another place and a register of another mode aren't: the past of the machine isn't known
--- after them.
+-- what is kept of it
 abbrev pub past_after_write : PastState → RegisterWrite → PastState
 past_after_write p (change.Present n value) = past_with_deed p gdb_line (deed.Register n value)
-past_after_write p (change.Place address) = unknown_past
+past_after_write p (change.Place address) =
+    past_with_deed (past_with_deed p gdb_line (deed.Place address)) gdb_line deed.Woken
 past_after_write p (change.Status status) = past_with_deed p gdb_line (deed.Status status)
-past_after_write p (change.Banked mode n value) = unknown_past
+past_after_write p (change.Banked mode n value) = past_with_deed p gdb_line (deed.Banked mode n value)
 
 abbrev pub with_change : GdbState → RegisterWrite → GdbState
 with_change g c = with_past (with_script g (script_with_change g.debug.script c)) (past_after_write g.debug.past c)

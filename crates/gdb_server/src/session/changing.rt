@@ -7,7 +7,7 @@ ghost use Rattle.command_shell.specs.Error.{IsLineError};
 use crate::session::session::{GDB_LINE, GdbSession};
 use command_shell::RunError;
 use command_shell_lines::RegisterNumber;
-use debug_session::PastDeed;
+use debug_session::{CodeAddress, PastDeed};
 use gdb_machine::{
     RegisterWrite, Watch, WatchKind, break_refusal, decoded, wanted_write, watch_refusal,
 };
@@ -55,7 +55,9 @@ impl GdbSession {
                 self.debug.session.set_register(number, value);
             }
             RegisterWrite::Place(address) => {
-                self.debug.past.lose();
+                let at = CodeAddress::new(address);
+                self.debug.past.put(GDB_LINE, PastDeed::Place(at))?;
+                self.debug.past.put(GDB_LINE, PastDeed::Woken)?;
                 self.debug.session.set_pc(address);
                 self.debug.session.wake();
             }
@@ -64,7 +66,10 @@ impl GdbSession {
                 self.debug.session.set_psr(status);
             }
             RegisterWrite::Banked(mode, number, value) => {
-                self.debug.past.lose();
+                let register = RegisterNumber::new(number);
+                self.debug
+                    .past
+                    .put(GDB_LINE, PastDeed::Banked(mode, register, value))?;
                 self.debug.session.set_register_in(mode, number, value);
             }
         }
