@@ -169,13 +169,11 @@ impl GdbServer {
     // The byte 3: a run that is under way stops at once.
     fn take_stop<W: Sink>(&mut self, sink: &mut W) -> Result<(), RunError>
         ensures reported { (images : List Entry) → OnOk result
-            (IsServed (W.contents sink.old) (W.contents sink.new)
-            (server_state self.new images)
+            (IsServed (W.contents sink.old) (W.contents sink.new) (server_state self.new images)
             (stop_served (server_state self.old images)
             (is_some (server_state self.old images).session.going))) }
         ensures front { (images : List Entry) → OnErr result
-            (AddsFront (W.contents sink.old) (W.contents sink.new)
-            (stop_served (server_state self.old images)
+            (AddsFront (W.contents sink.old) (W.contents sink.new) (stop_served (server_state self.old images)
             (is_some (server_state self.old images).session.going)).text) }
         ensures errors { IfErr result IsLineError }
         ensures same_flag { OnOk result (W.has_failed sink.new ≡ W.has_failed sink.old) }

@@ -22,8 +22,7 @@ impl GdbSession {
         request: &Request<'_>,
     ) -> Result<GdbAnswer, RunError>
         ensures reported { IfOk result (λ answer. IsGdbAnswered (gdb_state self.new images.new) answer
-            (act_shown (gdb_state self.old images.old)
-            (gdb_request request.now))) }
+            (act_shown (gdb_state self.old images.old) (gdb_request request.now))) }
         ensures errors { IfErr result IsLineError }
     {
         match request {

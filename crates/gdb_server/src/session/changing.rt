@@ -49,9 +49,8 @@ impl GdbSession {
         match change {
             RegisterWrite::Present(number, value) => {
                 let register = RegisterNumber::new(number);
-                self.debug
-                    .past
-                    .put(GDB_LINE, PastDeed::Register(register, value))?;
+                let deed = PastDeed::Register(register, value);
+                self.debug.past.put(GDB_LINE, deed)?;
                 self.debug.session.set_register(number, value);
             }
             RegisterWrite::Place(address) => {
@@ -67,9 +66,8 @@ impl GdbSession {
             }
             RegisterWrite::Banked(mode, number, value) => {
                 let register = RegisterNumber::new(number);
-                self.debug
-                    .past
-                    .put(GDB_LINE, PastDeed::Banked(mode, register, value))?;
+                let deed = PastDeed::Banked(mode, register, value);
+                self.debug.past.put(GDB_LINE, deed)?;
                 self.debug.session.set_register_in(mode, number, value);
             }
         }

@@ -124,8 +124,7 @@ impl GdbSession {
         request: &Request<'_>,
     ) -> Result<GdbAnswer, RunError>
         ensures reported { IfOk result (λ answer. IsGdbAnswered (gdb_state self.new images.new) answer
-            (gdb_answered (gdb_state self.old images.old)
-            (gdb_request request.now))) }
+            (gdb_answered (gdb_state self.old images.old) (gdb_request request.now))) }
         ensures errors { IfErr result IsLineError }
     {
         match self.look(request)? {
