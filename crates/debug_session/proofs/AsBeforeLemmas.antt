@@ -151,17 +151,17 @@ one_line : (n : ℕ) (c : DebugSettings) (number : ℕ) (d : DebugState) (line :
 unfolding some_lines_answer with_note
 one_line n c number d line rest quit plain is = rw (quit, is, plain) refl
 
-is_none_of : (o : Option AsmError) → is_none o ≡ true → o ≡ None
-is_none_of None is = refl
-is_none_of (Some e) is = absurd (cc)
+no_others : (o : Option AsmError) (more : List AsmError → List AsmError) → is_none o ≡ true → with_others [] more o ≡ []
+no_others None more is = refl
+no_others (Some e) more is = absurd (cc)
 
-no_error : (n origin : ℕ) (lines : List (List ℕ)) → next_error [] lines origin ≡ None → further_errors n lines origin [] ≡ []
+no_error : (n origin : ℕ) (lines : List (List ℕ)) → is_none (next_error [] lines origin) ≡ true → further_errors n lines origin [] ≡ []
 unfolding further_errors
 no_error zero origin lines is = refl
-no_error (suc n) origin lines is = rw is refl
+no_error (suc n) origin lines is = no_others (next_error [] lines origin) (further_errors n lines origin) is
 
 no_errors : (block : List (List ℕ)) (origin : ℕ) → is_none (next_error [] block origin) ≡ true → block_errors block origin ≡ []
-no_errors block origin is = no_error 21 origin block (is_none_of (next_error [] block origin) is)
+no_errors block origin is = no_error 21 origin block is
 
 -- no block has errors, and so none had
 none_failed : (number : ℕ) (r : Request) (block : List (List ℕ)) → is_assembled r block ≡ true → failed_with_block [] number r block ≡ []
