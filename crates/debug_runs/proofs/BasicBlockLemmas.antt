@@ -26,7 +26,7 @@ use Rattle.debug_runs.specs.declared.basic_blocks.BasicBlock.{BasicBlock}
 use Rattle.debug_runs.specs.declared.running.RunEnd.{RunEnd}
 use Rattle.debug_runs.specs.declared.running.RunGoal.{RunGoal}
 use Rattle.debug_runs.proofs.PlainLemmas.{and_true}
-use Rattle.debug_runs.proofs.SilentLemmas.{elsewhere}
+use Rattle.debug_runs.proofs.BlockStepLemmas.{behind_inner, behind_last}
 use Rattle.debug_runs.proofs.BlockRunLemmas.{IsCalmFor, behind_behind, block_behind}
 
 -- THE WORDS OF A BLOCK
@@ -92,6 +92,19 @@ block_more modes labels g reported stays c most left n s mid now t u v e untold 
     (behind_behind modes labels g reported most (most - left) n e s mid now t u v before
     (subst (λ (k : ℕ). RunsOnBehind modes labels g reported k mid u n e now v) back one))
 
+-- none of it
+pub none_more : (modes : StepModes) (labels : List ImageLabels) (g : RunGoal) (reported : Option ℕ) (stays : Bool) (c : BasicBlock) (most left n : ℕ) (s mid now : ScriptState)
+    (t u : CountTable) → n ≡ 0 → is_step_shown reported ≡ false → left ≤ most → mid.machine.halt ≡ None → IsCalmFor stays modes.watches
+    → IsBasicBlock stays mid.machine.store.bytes mid.machine.cpu.pc c → IsAfterBlock g c mid now n
+    → RunsOnBehind modes labels g reported most s t (most - left) None mid u → RunsOnBehind modes labels g reported most s t (most - left) None now u
+unfolding block_places
+none_more modes labels g reported stays c most left n s mid now t u none untold below unhalted calm block after before =
+    let few : 0 ≤ left = omega arith in
+    let same : left - 0 ≡ left = omega arith in
+    subst (λ (k : ℕ). RunsOnBehind modes labels g reported most s t (most - k) None now u) same
+    (block_more modes labels g reported stays c most left 0 s mid now t u u None untold few below unhalted calm block
+    (subst (λ (k : ℕ). IsAfterBlock g c mid now k) none after) refl refl before)
+
 -- WHAT IS TAKEN OF A BLOCK
 
 pub none_taken : (g : RunGoal) (c : BasicBlock) (s : ScriptState) → s.machine.halt ≡ None → IsAfterBlock g c s s 0
@@ -153,12 +166,28 @@ block_there empty m n c same block = subst (λ (x : MachineValue). IsBasicBlock 
 
 -- COUNTING THEM
 
+-- the word that a count goes on to
+pub next_if_last : (c : BasicBlock) (j m : ℕ) → j + 1 ≡ c.count → m ≡ 0 → m ≡ next_word_of c j
+next_if_last c j m last is =
+    let same : suc j ≡ c.count = omega (arith, last) in
+    is ∙ sym (behind_last c j same)
+
+pub next_if_inner : (c : BasicBlock) (j m : ℕ) → j + 1 ≢ c.count → m ≡ j + 1 → m ≡ next_word_of c j
+next_if_inner c j m inner is =
+    let other : suc j ≡ c.count → ⊥ = λ same. inner (omega (arith, same)) in
+    let one : m ≡ suc j = omega (arith, is) in
+    one ∙ sym (behind_inner c j other)
+
 -- one step counted, the next word
 pub count_on : (c : BasicBlock) (j n m : ℕ) (t u : CountTable) → u ≡ step_counted t (c.start + 4 * j) → m ≡ suc n
     → steps_counted (block_places c (next_word_of c j) n) u ≡ steps_counted (block_places c j m) t
 unfolding block_places
 count_on c j n m t u one more =
     ap (steps_counted (block_places c (next_word_of c j) n)) one ∙ ap (λ (k : ℕ). steps_counted (block_places c j k) t) (sym more)
+
+pub count_none : (c : BasicBlock) (j n : ℕ) (t : CountTable) → n ≡ 0 → t ≡ steps_counted (block_places c j n) t
+unfolding block_places
+count_none c j n t none = ap (λ (k : ℕ). steps_counted (block_places c j k) t) (sym none)
 
 -- a word that is loaded ends within the addresses
 near_by : (far mapped : Bool) (v w : ℕ) → ok_unless_fault (if far then Some AddressException else (if mapped then None else Some DataUnmapped)) v ≡ Ok w → far ≡ false

@@ -19,7 +19,7 @@ use Rattle.debug_tables.proofs.FlowLemmas.{step_keeps}
 use Rattle.debug_tables.specs.Routines.{routine_end}
 use Rattle.debug_tables.specs.WordFlows.{KeepsToFlow, KeepsToFlowIfDone, word_flow}
 use Rattle.debug_tables.specs.WordWatches.{is_unchanged_word, mapped_word, watch_hit, watched_change}
-use Rattle.debug_tables.specs.declared.watches.WatchHit.{WatchHit}
+use Rattle.command_shell.specs.declared.watches.WatchHit.{WatchHit}
 use Rattle.debug_tables.specs.declared.step_words.WordFlow.{WordFlow}
 use Rattle.debug_tables.specs.declared.step_words.WordFlow.TheVariants.{Straight, Branches, Anywhere, Stores}
 use Rattle.debug_runs.specs.BasicBlocks.{HasFlow, IsBasicBlock, stays_short, next_word_of}
@@ -101,12 +101,10 @@ same_short (goal.Frames count) e m next same short = ap (λ (t : Tables). not (l
 same_short (goal.Routine count) e m next same short =
     ap (λ (t : Tables). not (length t.frames == count) || nat_le e routine_end) same ∙ short
 
-behind_inner : (c : BasicBlock) (j : ℕ) → suc j < c.count → next_word_of c j ≡ suc j
-behind_inner c j inner =
-    let other : suc j ≡ c.count → ⊥ = λ same. omega (arith, same, inner) in
-    ap (λ (t : Bool). if t then 0 else suc j) (ne_eqb (suc j) c.count other)
+pub behind_inner : (c : BasicBlock) (j : ℕ) → (suc j ≡ c.count → ⊥) → next_word_of c j ≡ suc j
+behind_inner c j other = ap (λ (t : Bool). if t then 0 else suc j) (ne_eqb (suc j) c.count other)
 
-behind_last : (c : BasicBlock) (j : ℕ) → suc j ≡ c.count → next_word_of c j ≡ 0
+pub behind_last : (c : BasicBlock) (j : ℕ) → suc j ≡ c.count → next_word_of c j ≡ 0
 behind_last c j last = ap (λ (t : Bool). if t then 0 else suc j) (eq-eqb (suc j) c.count last)
 
 -- what a step leaves there
@@ -122,7 +120,8 @@ stepped_inner stays pc c g b k j m next block on takes inner =
     let inside = block.inside in
     let below : c.start + 4 * suc j < 2 ^ 26 = omega (arith, inside, inner) in
     let at : next.cpu.pc ≡ c.start + 4 * suc j = keeps.0.1 ∙ next_word c.start j m.cpu.pc block.aligned below on.at in
-    let behind = behind_inner c j inner in
+    let other : suc j ≡ c.count → ⊥ = λ same. omega (arith, same, inner) in
+    let behind = behind_inner c j other in
     record {
       calm = λ is. keeps.0.0;
       on = λ some other. record {

@@ -130,7 +130,6 @@ fn stays_short(goal: RunGoal, machine: &Machine, end: u32) -> bool
 }
 
 // Counts so many steps that begin at the words of a block, the first at its first word.
-#[tactic(auto, using(crate::proofs::BasicBlockLemmas::count_on))]
 fn count_basic_block(
     counts: &mut StepCounts,
     block: BasicBlock,

@@ -4,7 +4,7 @@ use Rattle.swi_dispatch_guest.specs.GuestState.{state_of}
 use Rattle.command_shell.specs.Session.{script_state}
 use Rattle.command_shell.specs.State.{ScriptState}
 use Rattle.debug_runs.specs.BasicBlocks.{RunsOnBehind}
-use Rattle.debug_runs.proofs.BasicBlockLemmas.{block_more, block_there, calm_if_empty}
+use Rattle.debug_runs.proofs.BasicBlockLemmas.{block_more, block_there, calm_if_empty, none_more}
 use Rattle.debug_runs.proofs.BlockRunLemmas.{none_behind}
 use Rattle.debug_runs.proofs.basic_blocks.take_basic_blocks.Goals as goal
 
@@ -50,12 +50,10 @@ returns-then-taken-eq0 c images labels reported untold =
     let s = script_state c.args.session.now images in
     let mid = script_state c.loop-left.session images in
     let now = script_state c.take_basic_block-taken.new.session images in
-    let none = c.if-taken-eq0.true in
-    let more = block_more c.args.modes.now labels c.args.goal reported (not c.is_empty.result) c.basic_block_ahead-block.result c.args.most c.loop-left.left c.take_basic_block-taken.result s mid now
-    c.args.counts.now c.loop-left.counts _ _ untold c.take_basic_block-taken.ensures.count c.loop-left.invariant.few c.loop-left.invariant.unhalted
+    none_more c.args.modes.now labels c.args.goal reported (not c.is_empty.result) c.basic_block_ahead-block.result c.args.most c.loop-left.left c.take_basic_block-taken.result s mid now
+    c.args.counts.now c.loop-left.counts c.if-taken-eq0.true untold c.loop-left.invariant.few c.loop-left.invariant.unhalted
     (calm_if_empty c.is_empty.result c.args.modes.now.watches (λ is. c.is_empty.ensures.0 is)) (block_there c.is_empty.result _ _ c.basic_block_ahead-block.result c.machine.ensures c.basic_block_ahead-block.ensures)
-    (c.take_basic_block-taken.ensures.taken images) refl refl (c.loop-left.invariant.so_far images labels reported untold) in
-    ?
+    (c.take_basic_block-taken.ensures.taken images) (c.loop-left.invariant.so_far images labels reported untold)
 
 pub returns-in-Some : goal.returns-in-Some
 returns-in-Some c images labels reported untold =
