@@ -5,7 +5,7 @@ use Rattle.address_map.specs.Memory.{bytes_of}
 use Rattle.debug_tables.specs.declared.step_words.WordFlow.TheVariants.{Branches, Anywhere, Stores}
 use Rattle.debug_runs.specs.BasicBlocks.{IsBasicBlock}
 use Rattle.debug_runs.proofs.BasicBlockLemmas.{loaded_below, one_more, whole_block}
-use Rattle.debug_runs.proofs.basic_blocks.basic_block_ahead.Goals.{in_default-word_flow-via-in-Stores+else-stays, in_default-word_flow-via-in-Branches+then-to-row+else-at-lt, in_default-word_flow-via-in-Branches+else-to-row, in_default-word_flow-via-in_default-word_flow}
+use Rattle.debug_runs.proofs.basic_blocks.basic_block_ahead.Goals.{in_default-word_flow-via-in-Stores+else-stays, in_default-word_flow-via-in-Branches+then-to-row+else-at-lt-ADDRESS_LIMIT, in_default-word_flow-via-in-Branches+else-to-row, in_default-word_flow-via-in_default-word_flow}
 use Rattle.debug_runs.proofs.basic_blocks.basic_block_ahead.Goals as goal
 
 pub loop-row-preserved : goal.loop-row-preserved
@@ -52,7 +52,7 @@ returns-in_default-word_flow c =
     let below = loaded_below b (start + 4 * n) c.in-Ok.word four there in
     let quiet : c.args.stays ≡ true → c.word_flow.result ≢ Stores = elim c.in_default-word_flow.branch [
       | in_default-word_flow-via-in-Stores+else-stays w ↦ λ is same. (let no : true ≡ false = sym is ∙ w.if-stays.false in absurd (cc))
-      | in_default-word_flow-via-in-Branches+then-to-row+else-at-lt w ↦ λ is same. (let no : Branches w.in-Branches.to ≡ Stores = sym w.in-Branches.is ∙ same in absurd (cc))
+      | in_default-word_flow-via-in-Branches+then-to-row+else-at-lt-ADDRESS_LIMIT w ↦ λ is same. (let no : Branches w.in-Branches.to ≡ Stores = sym w.in-Branches.is ∙ same in absurd (cc))
       | in_default-word_flow-via-in-Branches+else-to-row w ↦ λ is same. (let no : Branches w.in-Branches.to ≡ Stores = sym w.in-Branches.is ∙ same in absurd (cc))
       | in_default-word_flow-via-in_default-word_flow w ↦ λ is same. w.in_default-word_flow.not-Stores same
     ] in
