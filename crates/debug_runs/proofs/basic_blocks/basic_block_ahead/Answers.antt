@@ -36,10 +36,12 @@ returns-in-Branches c =
     let four : (start + 4 * n) % 4 ≡ 0 = omega (arith, aligned) in
     let there : word_loaded b (start + 4 * n) ≡ Ok c.in-Ok.word = sym c.load_word.ensures ∙ c.in-Ok.is in
     let below = loaded_below b (start + 4 * n) c.in-Ok.word four there in
+    let near = c.if-at-lt-ADDRESS_LIMIT.true in
     subst (λ (x : Bytes). IsBasicBlock c.args.stays x c.args.machine.now.guest.cpu.pc (record { start = start; count = n + 1; is_loop = true }))
     c.memory-memory.ensures.bytes
     (whole_block c.args.stays b c.args.machine.now.guest.cpu.pc n (record { start = start; count = n + 1; is_loop = true }) c.in-Ok.word (Branches c.in-Branches.to)
-    c.loop-row.invariant.start aligned refl (omega (arith, below)) there (sym c.word_flow.ensures ∙ c.in-Branches.is) (λ is same. absurd (cc)) (λ loop. (ap Branches c.if-to-eq-start.true, omega arith)) c.loop-row.invariant.straight)
+    c.loop-row.invariant.start aligned refl (omega (arith, below)) there (sym c.word_flow.ensures ∙ c.in-Branches.is) (λ is same. absurd (cc))
+    (λ loop. (ap Branches c.if-to-row.true, omega (arith, near))) c.loop-row.invariant.straight)
 
 pub returns-in_default-word_flow : goal.returns-in_default-word_flow
 returns-in_default-word_flow c =
