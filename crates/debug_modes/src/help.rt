@@ -19,8 +19,9 @@ lines of a debugging script:
   RESET                                      a fresh machine; images, labels, breaks, modes stay
   BACK, BACK n, BACK TO n, BACK UNTIL a      the machine as it was, n steps before, at a step
   UNDO, WHEN                                 as before the last line; how many steps were taken
-  LAST CHANGE x                              x is a, WORD a, BYTE a, R0, R13_svc, FLAGS
+  LAST CHANGE x                              x is a, WORD a, BYTE a, BLOCK a, R0, R13_svc, FLAGS
   LAST CLAIM a, LAST FREE a                  what made the block round a, or took it away
+  LAST STEPS n                               the last n steps, as TRACE shows them
   FORGET name, REPEAT n line                 an image goes; a line, n times
   TRACE line, TRACE n, TRACE ON, TRACE OFF   steps shown one by one; TRACE LIMIT n of a line
   STEP                                       STEP 1

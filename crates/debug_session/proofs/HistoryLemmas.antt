@@ -15,6 +15,7 @@ use Rattle.debug_lines.specs.DebugRequests as own
 use Rattle.debug_lines.specs.SteppingRequests as stepping
 use Rattle.debug_history.specs.Answers.{PastAnswered, back_until, last_in_past, past_answered, past_asked, past_command, past_gone_back, past_shown, undone}
 use Rattle.debug_history.specs.Laws.{IsPastOf}
+use Rattle.debug_history.specs.Lines.{last_steps_asked}
 use Rattle.debug_history.specs.LineKinds.{asks_nothing, is_refused_block}
 use Rattle.debug_history.specs.Noted.{is_faulted, past_after_request}
 use Rattle.debug_history.specs.Acts.{moment_after_acts}
@@ -31,11 +32,8 @@ use Rattle.command_shell_lines.specs.FailedBlocks.{block_reason}
 use Rattle.debug_modes.specs.Modes.{answer_of_line}
 use Rattle.debug_modes.specs.expectations.Checks.{check_answer, status_after_pattern}
 use Rattle.debug_modes.specs.expectations.Halted.{halting_fault}
-use Rattle.debug_modes.specs.expectations.reports.Reports.{report_of_refusal, with_refusal, answer_in}
-use Rattle.debug_session.specs.DebugScript.{answer_or_refused, checked_answer, plain_line_answer, past_line_by, put_done, put_found, script_line_answer_in, seen_of, set_pc_by, state_after_line, state_with_answer, stepping_line_answer, stepping_now, write_done, with_block_noted}
-use Rattle.debug_runs.specs.Lines.{stepping_answer}
-use Rattle.debug_runs.proofs.PlainLemmas.{lines_are}
-use Rattle.debug_runs.proofs.TracedLemmas.{last_is_run, same_line}
+use Rattle.debug_modes.specs.expectations.reports.Reports.{report_of_refusal, with_refusal}
+use Rattle.debug_session.specs.DebugScript.{answer_or_refused, checked_answer, plain_line_answer, past_line_by, past_line_or_steps, put_done, put_found, script_line_answer_in, seen_of, set_pc_by, state_after_line, state_with_answer, stepping_line_answer, stepping_now, write_done}
 use Rattle.debug_session.specs.DebugState.{DebugAnswered, DebugState}
 use Rattle.debug_session.specs.History.{HistoryChangesNoAnswer, IsSameButPast, IsUnhaltedWhereFresh, PastIsOfTheMachine}
 use Rattle.debug_session.specs.declared.session.DebugSettings.{DebugSettings}
@@ -195,6 +193,11 @@ past_kept c d number words (Some command) was =
     if_kept d.past.is_kept (past_asked d.labels c.config c.budget d.script d.past command)
     (past_shown d.script d.past no_history_text) (command_kept d.labels c d.script d.past command was) was
 
+looked_kept : (c : DebugSettings) (d : DebugState) (number : ℕ) (words : List ℕ) (o : Option ℕ) → IsKept d
+    → IsKept (past_line_or_steps c d number words o).state
+looked_kept c d number words None was = past_kept c d number words (past_command d.labels d.script.machine words) was
+looked_kept c d number words (Some count) was = was
+
 -- EACH LINE
 
 pub past_is_of_the_machine : PastIsOfTheMachine
@@ -221,7 +224,7 @@ past_is_of_the_machine c d number words block (own.Expect expected) up was =
     checked_kept c d number words (check_answer (seen_of d) expected) was
 past_is_of_the_machine c d number words block (own.Repeat count line) up was = was
 past_is_of_the_machine c d number words block own.NotKnown up was =
-    past_kept c d number words (past_command d.labels d.script.machine words) was
+    looked_kept c d number words (last_steps_asked words) was
 
 -- WITH ANOTHER PAST
 
@@ -289,6 +292,13 @@ unknown_same : (c : DebugSettings) (d : DebugState) (p : PastState) (number : �
 unknown_same c d p number words None none = record { text = refl; state = refl }
 unknown_same c d p number words (Some command) none = absurd (cc)
 
+looked_same : (c : DebugSettings) (d : DebugState) (p : PastState) (number : ℕ) (words : List ℕ) (o : Option ℕ) → o ≡ None
+    → past_command d.labels d.script.machine words ≡ None
+    → Same p (past_line_or_steps c (record d { past = p }) number words o) (past_line_or_steps c d number words o)
+looked_same c d p number words None steps none =
+    unknown_same c d p number words (past_command d.labels d.script.machine words) none
+looked_same c d p number words (Some count) steps none = absurd (cc)
+
 pub history_changes_no_answer : HistoryChangesNoAnswer
 history_changes_no_answer c d p number words block (own.Script r) none =
     let noted : DebugState = with_block_noted d number r block in
@@ -316,4 +326,4 @@ history_changes_no_answer c d p number words block (own.Expect expected) none =
     checked_same c d p number words (check_answer (seen_of d) expected)
 history_changes_no_answer c d p number words block (own.Repeat count line) none = record { text = refl; state = refl }
 history_changes_no_answer c d p number words block own.NotKnown none =
-    unknown_same c d p number words (past_command d.labels d.script.machine words) (none refl)
+    looked_same c d p number words (last_steps_asked words) (none refl).0 (none refl).1

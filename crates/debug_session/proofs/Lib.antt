@@ -4,6 +4,7 @@ pub mod AsBeforeLemmas
 pub mod FailLemmas
 pub mod HistoryLemmas
 pub mod JoinLemmas
+pub mod LastStepsLemmas
 pub mod LineLemmas
 pub mod NamingLemmas
 pub mod OwnLemmas

@@ -30,6 +30,7 @@ use Rattle.debug_modes.specs.Modes.{takes_over}
 use Rattle.debug_session.specs.Stepping.{modes_after, note_of, stepping_in_modes}
 use Rattle.debug_lines.specs.Tidy.{tidied_line}
 use Rattle.debug_history.specs.Answers.{PastAnswered, past_line_answered}
+use Rattle.debug_history.specs.Lines.{last_steps_asked}
 use Rattle.debug_history.specs.LineKinds.{asks_nothing, is_refused_block, takes_steps}
 use Rattle.debug_history.specs.Noted.{is_faulted, past_after_request, past_after_stepping, past_with_deed, steps_before}
 use Rattle.debug_history.specs.Past.{PastState, past_from_start, past_with_images, unknown_past}
@@ -45,6 +46,7 @@ use Rattle.debug_modes.specs.expectations.Why.{why_text}
 use Rattle.debug_modes.specs.expectations.views.Banks.{banks_text}
 use Rattle.debug_modes.specs.expectations.views.Words.{memory_words_text}
 use Rattle.debug_session.specs.DebugState.{DebugAnswered, DebugState, debug_answer, debug_start_state, then_debugged}
+use Rattle.debug_session.specs.LastSteps.{last_steps_answer}
 use Rattle.debug_session.specs.Naming.{labels_with_block, meant_request, naming_of, repeated_now}
 use Rattle.debug_modes.specs.OwnAnswers.{forget_text, put_text, reasoned_text}
 use Rattle.debug_labels.specs.Reasons.{refusal_reason}
@@ -296,9 +298,14 @@ past_line_by c d number line (Some a) =
     view_answer c (record d { script = a.script; past = a.past }) a.text
 past_line_by c d number line None = unknown_answer c d number line
 
+-- `LAST STEPS n` is a view, too.
+abbrev pub past_line_or_steps : DebugSettings → DebugState → ℕ → List ℕ → Option ℕ → DebugAnswered
+past_line_or_steps c d number line (Some count) = view_answer c d (last_steps_answer c d count)
+past_line_or_steps c d number line None =
+    past_line_by c d number line (past_line_answered d.labels c.config c.budget d.script d.past line)
+
 abbrev pub past_line_answer : DebugSettings → DebugState → ℕ → List ℕ → DebugAnswered
-past_line_answer c d number line = past_line_by c d number line
-    (past_line_answered d.labels c.config c.budget d.script d.past line)
+past_line_answer c d number line = past_line_or_steps c d number line (last_steps_asked line)
 
 -- A line at that number that is no REPEAT: its words, made tidy, what it asks for, and the lines of
 -- its block.

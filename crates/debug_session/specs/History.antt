@@ -4,6 +4,7 @@ use Rattle.std.specs.Prelude.{◌≡◌, ℕ, true, List, None}
 use Rattle.debug_tables.specs.run_meter.State.{ScriptState}
 use Rattle.debug_history.specs.Answers.{past_command}
 use Rattle.debug_history.specs.Laws.{IsPastOf}
+use Rattle.debug_history.specs.Lines.{last_steps_asked}
 use Rattle.debug_history.specs.Past.{PastState}
 use Rattle.debug_lines.specs.DebugRequests.{DebugRequest, NotKnown}
 use Rattle.debug_session.specs.DebugScript.{simple_request_answer}
@@ -29,6 +30,6 @@ pub record IsSameButPast (p : PastState) (a b : DebugAnswered) : Type 0 where
 abbrev pub HistoryChangesNoAnswer : Type 0
 HistoryChangesNoAnswer = (c : DebugSettings) (d : DebugState) (p : PastState) (number : ℕ) (words : List ℕ)
     (block : List (List ℕ)) (request : DebugRequest)
-    → (request ≡ NotKnown → past_command d.labels d.script.machine words ≡ None)
+    → (request ≡ NotKnown → last_steps_asked words ≡ None × past_command d.labels d.script.machine words ≡ None)
     → IsSameButPast p (simple_request_answer c (record d { past = p }) number words request block)
     (simple_request_answer c d number words request block)

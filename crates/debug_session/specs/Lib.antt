@@ -18,6 +18,7 @@ pub mod DebugState
 pub mod ExitStatus
 pub mod Failing
 pub mod History
+pub mod LastSteps
 pub mod Looking
 pub mod Naming
 pub mod Refusals

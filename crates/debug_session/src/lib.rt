@@ -5,6 +5,7 @@
 #![tactic(auto)]
 
 mod answering;
+mod last_steps;
 pub mod laws;
 mod looking;
 mod own_lines;

@@ -5,7 +5,7 @@ ghost use Rattle.std.specs.Prelude.{◌≡◌, List, IfOk, OnOk};
 ghost use Rattle.debug_session.specs.Failing.{EndsAtOnce};
 
 use crate::session::DebugSession;
-use debug_history::PastSetting;
+use debug_history::{PastSetting, last_steps_asked};
 use debug_labels::place_views::{line_on, names_on};
 use debug_modes::expectations::reports::push_refusal;
 use debug_modes::{refusal_line, unknown_line};
@@ -37,6 +37,10 @@ impl DebugSession {
         ensures setting { self.new.setting ≡ self.old.setting }
         ensures ends { EndsAtOnce W.has_failed sink.old sink.new result }
     {
+        if let Some(count) = last_steps_asked(words) {
+            let text = self.last_steps(images, count)?;
+            return Ok(self.view(sink, text)?);
+        }
         let setting = PastSetting {
             alloc: self.alloc,
             config: self.setting.config,

@@ -1,0 +1,90 @@
+//! The steps that were taken last, shown as a trace shows them.
+
+ghost use Rattle.std.specs.Prelude.{◌≡◌, ◌++◌, List, IfErr, IfOk, OnOk};
+ghost use Rattle.debug_history.specs.Acts.{moment_after_deed, moment_of_script};
+ghost use Rattle.debug_history.specs.Again.{IsAtMoment};
+ghost use Rattle.debug_session.specs.LastSteps.{last_steps_answer, text_of_deed};
+ghost use Rattle.debug_session.specs.Session.{debug_state};
+ghost use Rattle.debug_tables.specs.run_meter.Error.{IsLineError};
+ghost use Rattle.debug_tables.specs.run_meter.Session.{script_state};
+
+use crate::session::DebugSession;
+use debug_history::{PastDeed, deed_again, is_faulted};
+use debug_modes::refused_line;
+use debug_runs::{StepCounts, answer_stepping};
+use debug_tables::StepModes;
+use debug_tables::run_meter::{RunError, Session};
+use image_loader::Images;
+use profile::Stop;
+
+impl DebugSession {
+    /// The last so many of the steps that were taken, as TRACE shows them. All that was done to the machine
+    /// is done again on one of its own.
+    ///
+    /// # Errors
+    ///
+    /// `Memory` where the host has none for a fresh machine or the text.
+    pub(crate) fn last_steps(&self, images: &mut Images, count: u32) -> Result<Vec<u8>, RunError>
+        ensures text { IfOk result (λ text. text.items
+            ≡ last_steps_answer self.now.setting (debug_state self.now images.old) count) }
+        ensures images { OnOk result (images.new ≡ images.old) }
+        ensures errors { IfErr result IsLineError }
+    {
+        let counted = u64::from(count).saturating_sub(u64::from(is_faulted(&self.session)));
+        let mut skipped = self.past.steps().saturating_sub(counted);
+        let mut session = Session::on_fresh_machine(self.alloc, self.setting.config, 0)?;
+        let mut text = Vec::new(self.alloc);
+        let acts = self.past.acts();
+        for act in acts {
+            self.show_deed(&mut session, images, &act.deed, skipped, &mut text)?;
+            skipped = skipped.saturating_sub(act.deed.steps());
+        }
+        if text.is_empty() {
+            return Ok(refused_line(self.alloc, b"NoHistory")?);
+        }
+        Ok(text)
+    }
+
+    // Does something again, and shows its steps but for the first so many.
+    fn show_deed(
+        &self,
+        session: &mut Session,
+        images: &mut Images,
+        deed: &PastDeed,
+        skipped: u64,
+        text: &mut Vec<u8>,
+    ) -> Result<(), RunError>
+        ensures moment { let s = script_state session.old images.old in
+            OnOk result (IsAtMoment s (script_state session.new images.new)
+            (moment_after_deed s.images s.sizes deed.now (moment_of_script s))) }
+        ensures text { let s = script_state session.old images.old in
+            OnOk result (text.new.items ≡ text.old.items
+            ++ text_of_deed self.now.labels s skipped deed.now (moment_of_script s)) }
+        ensures errors { IfErr result IsLineError }
+    {
+        if session.machine().stop().is_some() {
+            return deed_again(session, images, deed);
+        }
+        let Some((command, count)) = deed.steps_behind(skipped) else {
+            return deed_again(session, images, deed);
+        };
+        deed_again(session, images, &PastDeed::Steps(skipped))?;
+        session.set_budget(count);
+        session.set_last(Stop::Budget);
+        let modes = StepModes::new();
+        let mut counts = StepCounts::new(self.alloc);
+        let shown = answer_stepping(
+            self.alloc,
+            session,
+            images,
+            &modes,
+            &mut counts,
+            &self.labels,
+            &command,
+            Some(count),
+        )?;
+        text.extend_from_slice(shown.text.as_slice())?;
+        let left = session.left();
+        deed_again(session, images, &PastDeed::Steps(left))
+    }
+}
