@@ -1,6 +1,7 @@
 pub use Rattle.command_shell.proofs.CallLemmas as ShellCallLemmas
 pub mod ActLemmas
 pub mod AgainLemmas
+pub mod AheadLemmas
 pub mod CallNotedLemmas
 pub mod LineNotedLemmas
 pub mod LinesLemmas

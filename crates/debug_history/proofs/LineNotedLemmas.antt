@@ -34,7 +34,7 @@ use Rattle.command_shell_lines.specs.Requests.{Request, Areas, Asm, Boot, Break,
 use Rattle.debug_history.specs.Acts.{PastMoment, fresh_moment, moment_after_acts, moment_after_boot, moment_after_program, moment_after_word, moment_of_script}
 use Rattle.debug_history.specs.Laws.{IsPastOf, NotedIsDone}
 use Rattle.debug_history.specs.Noted.{past_with_deed}
-use Rattle.debug_history.specs.Past.{PastState, moment_after_past, past_with_images, past_with_other_images, unknown_past}
+use Rattle.debug_history.specs.Past.{PastState, moment_after_past, past_from_start, past_with_images, past_with_other_images}
 use Rattle.debug_history.specs.declared.act.PastDeed.TheVariants as deed
 use Rattle.debug_history.proofs.CallNotedLemmas.{IsCallOf, call_noted}
 use Rattle.debug_history.proofs.NotedLemmas.{deed_noted, nothing_noted, run_noted}
@@ -183,15 +183,21 @@ unfolding moment_after_acts
 start_moment images other sizes [] m e = refl
 start_moment images other sizes (act ∷ rest) m e = absurd (some_acts (length rest) e)
 
-at_start : (p : PastState) (s : ScriptState) (b : Bool) → (length p.acts == 0) ≡ b → IsPastOf s p
-    → (now : ScriptState) → SameBut s (record { state = now; text = [] }) → IsPastOf now (if b then p else unknown_past)
-at_start p s true e was now same = λ k.
-    same.0 ∙ was k ∙ start_moment s.images now.images s.sizes p.acts (fresh_moment s.sizes) e
+no_acts : (acts : List Act) → (length acts == 0) ≡ true → acts ≡ []
+no_acts [] e = refl
+no_acts (act ∷ rest) e = absurd (some_acts (length rest) e)
+
+at_start : (p : PastState) (s : ScriptState) (k b : Bool) → p.is_kept ≡ k → (length p.acts == 0) ≡ b → IsPastOf s p
+    → (now : ScriptState) → SameBut s (record { state = now; text = [] }) → IsPastOf now (past_from_start (k && b))
+at_start p s true true kept e was now same = λ _.
+    same.0 ∙ was kept ∙ start_moment s.images now.images s.sizes p.acts (fresh_moment s.sizes) e
     ∙ sym (λ i. moment_after_acts now.images (same.1 i) p.acts (fresh_moment (same.1 i)))
-at_start p s false e was now same = λ k. absurd (cc)
+    ∙ ap (λ (acts : List Act). moment_after_acts now.images now.sizes acts (fresh_moment now.sizes)) (no_acts p.acts e)
+at_start p s true false kept e was now same = λ k. absurd (cc)
+at_start p s false b kept e was now same = λ k. absurd (cc)
 
 pub images_noted : (s : ScriptState) (p : PastState) (a : Answered) → IsPastOf s p → SameBut s a → IsPastOf a.state (past_with_other_images p)
-images_noted s p a was same = at_start p s (length p.acts == 0) refl was a.state same
+images_noted s p a was same = at_start p s p.is_kept (length p.acts == 0) refl refl was a.state same
 
 -- an image that isn't there doesn't go
 none_less : (es : List Entry) (name : List ℕ) → is_some (bytes_of_image es name) ≡ false → without_entry es name ≡ es

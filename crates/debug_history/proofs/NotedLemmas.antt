@@ -39,7 +39,7 @@ one_more images sizes acts act m = acts_joined images sizes acts (act ∷ []) m
 
 noted_by : (s now : ScriptState) (p : PastState) (act : Act) (b c : Bool) → b ≡ p.is_kept → now.images ≡ s.images → now.sizes ≡ s.sizes
     → IsPastOf s p → moment_of_script now ≡ moment_after_deed s.images s.sizes act.deed (moment_of_script s)
-    → IsPastOf now (if b then (if c then record p { acts = p.acts ++ act ∷ [] } else unknown_past) else p)
+    → IsPastOf now (if b then (if c then record p { acts = p.acts ++ act ∷ []; ahead = [] } else unknown_past) else p)
 noted_by s now p act true true e images sizes was moment = λ kept.
     moment ∙ ap (moment_after_deed s.images s.sizes act.deed) (was kept)
     ∙ sym (one_more s.images s.sizes p.acts act (fresh_moment s.sizes))

@@ -5,7 +5,8 @@ use Rattle.std.specs.List.{last_or}
 use Rattle.std.proofs.lemmas.Bool.Decides.{nat_tests}
 use Rattle.std.proofs.lemmas.List.{append-nil, drop_all, drop_more, take-append-drop, take_more}
 use Rattle.debug_history.specs.Acts.{steps_of_acts, steps_of_deed}
-use Rattle.debug_history.specs.Past.{acts_before_line, acts_until, first_steps}
+use Rattle.debug_history.specs.Cutting.{acts_behind_by}
+use Rattle.debug_history.specs.Past.{act_behind, acts_before_line, acts_from, acts_until, first_steps}
 use Rattle.debug_history.specs.declared.act.Act.{Act}
 use Rattle.debug_history.proofs.ActLemmas.{steps_joined, steps_of_none}
 
@@ -18,7 +19,7 @@ IsCutFrom acts step i left = acts_until step acts ≡ take i acts ++ acts_until 
 fits : (n left : ℕ) → n ≤ left → nat_le n left ≡ true
 fits n left h = grind (arith, nat_tests, h)
 
-kept_by : (act : Act) (rest : List Act) (left : ℕ) → steps_of_deed act.deed ≤ left
+pub kept_by : (act : Act) (rest : List Act) (left : ℕ) → steps_of_deed act.deed ≤ left
     → acts_until left (act ∷ rest) ≡ act ∷ acts_until (left - steps_of_deed act.deed) rest
 unfolding acts_until
 kept_by act rest left h =
@@ -28,7 +29,7 @@ kept_by act rest left h =
 less : (n left : ℕ) → left < n → nat_le n left ≡ false
 less n left h = grind (arith, nat_tests, h)
 
-cut_by : (act : Act) (rest : List Act) (left : ℕ) → left < steps_of_deed act.deed
+pub cut_by : (act : Act) (rest : List Act) (left : ℕ) → left < steps_of_deed act.deed
     → acts_until left (act ∷ rest) ≡ first_steps act.line left
 unfolding acts_until
 cut_by act rest left h =
@@ -65,6 +66,49 @@ cut_nowhere acts step i left all h =
     h ∙ ap (λ (xs : List Act). take i acts ++ acts_until left xs) none
     ∙ ap (λ (xs : List Act). take i acts ++ xs) (until_none left ∙ sym none)
     ∙ take-append-drop i acts
+
+-- and those behind the cut
+abbrev pub IsCutBehind : List Act → ℕ → ℕ → ℕ → Type 0
+IsCutBehind acts step i left = acts_from step acts ≡ acts_from left (drop i acts)
+
+passed_by : (act : Act) (rest : List Act) (left : ℕ) → steps_of_deed act.deed ≤ left
+    → acts_from left (act ∷ rest) ≡ acts_from (left - steps_of_deed act.deed) rest
+unfolding acts_from
+passed_by act rest left h =
+    let n : ℕ = steps_of_deed act.deed in
+    ap (λ (b : Bool). if b then acts_from (left - n) rest else act_behind left act ∷ rest) (fits n left h)
+
+split_by : (act : Act) (rest : List Act) (left : ℕ) → left < steps_of_deed act.deed
+    → acts_from left (act ∷ rest) ≡ act_behind left act ∷ rest
+unfolding acts_from
+split_by act rest left h =
+    let n : ℕ = steps_of_deed act.deed in
+    ap (λ (b : Bool). if b then acts_from (left - n) rest else act_behind left act ∷ rest) (less n left h)
+
+pub behind_goes_on : (acts : List Act) (step i left : ℕ) (act : Act) → i < length acts → act ≡ get_or acts i act
+    → steps_of_deed act.deed ≤ left → IsCutBehind acts step i left → IsCutBehind acts step (i + 1) (left - steps_of_deed act.deed)
+behind_goes_on acts step i left act below is few h =
+    let split = drop_more acts i act below ∙ ap (λ (a : Act). a ∷ drop (i + 1) acts) (sym is) in
+    h ∙ ap (acts_from left) split ∙ passed_by act (drop (i + 1) acts) left few
+
+behind_is : (acts : List Act) (i left : ℕ) (act : Act) → drop i acts ≡ act ∷ drop (i + 1) acts
+    → act_behind left act ∷ drop (i + 1) acts ≡ acts_behind_by acts i act.line (steps_of_deed act.deed - left) left
+behind_is acts i zero act split = sym split
+behind_is acts i (suc left) act split = refl
+
+pub behind_here : (acts : List Act) (step i left : ℕ) (act : Act) → i < length acts → act ≡ get_or acts i act
+    → left < steps_of_deed act.deed → IsCutBehind acts step i left
+    → acts_from step acts ≡ acts_behind_by acts i act.line (steps_of_deed act.deed - left) left
+behind_here acts step i left act below is more h =
+    let split = drop_more acts i act below ∙ ap (λ (a : Act). a ∷ drop (i + 1) acts) (sym is) in
+    h ∙ ap (acts_from left) split ∙ split_by act (drop (i + 1) acts) left more ∙ behind_is acts i left act split
+
+from_none : (left : ℕ) → acts_from left [] ≡ []
+unfolding acts_from
+from_none left = refl
+
+pub behind_nowhere : (acts : List Act) (step i left : ℕ) → length acts ≤ i → IsCutBehind acts step i left → acts_from step acts ≡ []
+behind_nowhere acts step i left all h = h ∙ ap (acts_from left) (drop_all i acts all) ∙ from_none left
 
 -- HOW MANY STEPS ARE LEFT
 

@@ -1,6 +1,6 @@
 -- What lines are answered that have to do with the past, and what they leave.
 use Rattle.std.specs.Option.{option_map, option_or}
-use Rattle.std.specs.Prelude.{ℕ, Bool, true, false, ◌&&◌, ◌-◌, nat_le, List, Option, Some, None, if◌then◌else◌}
+use Rattle.std.specs.Prelude.{ℕ, Bool, true, false, ◌&&◌, ◌-◌, ◌++◌, nat_le, List, Option, Some, None, if◌then◌else◌}
 use Rattle.profile.specs.Sizes.{Sizes}
 use Rattle.command_shell.specs.State.{ScriptState}
 use Rattle.debug_labels.specs.Labels.{ImageLabels}
@@ -28,15 +28,15 @@ pub record PastAnswered : Type 0 where
 abbrev pub past_shown : ScriptState → PastState → List ℕ → PastAnswered
 past_shown s p text = record { script = s; past = p; text = text }
 
--- the machine as it was before the step of that number
+-- the machine as it was before the step of that number, or is to be
 abbrev pub past_gone_back : List ImageLabels → Sizes → ℕ → ScriptState → PastState → ℕ → PastAnswered
 past_gone_back labels sizes budget s p step =
     let now = script_at_moment s sizes budget (moment_after_past s.images sizes (past_until step p)) in
     record { script = now; past = past_until step p; text = text_with_step (where_text labels now.machine) step }
 
--- where it isn't known that so many steps were counted, nothing is changed
+-- where it isn't known that so many steps were counted, or lie ahead, nothing is changed
 abbrev pub back_to : List ImageLabels → Sizes → ℕ → ScriptState → PastState → ℕ → PastAnswered
-back_to labels sizes budget s p step = if nat_le step (steps_of_acts p.acts)
+back_to labels sizes budget s p step = if nat_le step (steps_of_acts (p.acts ++ p.ahead))
     then past_gone_back labels sizes budget s p step else past_shown s p no_history_text
 
 abbrev pub back_by : List ImageLabels → Sizes → ℕ → ScriptState → PastState → ℕ → PastAnswered

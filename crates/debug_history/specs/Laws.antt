@@ -10,7 +10,7 @@ use Rattle.debug_history.specs.Answers.{PastAnswered, past_answered}
 use Rattle.debug_history.specs.declared.lines.PastCommand.TheVariants.{Last, When}
 use Rattle.debug_labels.specs.Labels.{ImageLabels}
 use Rattle.debug_history.specs.Noted.{is_faulted, past_after_request}
-use Rattle.debug_history.specs.Past.{PastState, acts_before_line, acts_until, moment_after_past}
+use Rattle.debug_history.specs.Past.{PastState, acts_before_line, acts_until, moment_after_past, past_until}
 use Rattle.debug_history.specs.Search.{last_found, passes, value_in}
 use Rattle.debug_history.specs.declared.act.Act.{Act}
 use Rattle.debug_history.specs.declared.search.PastFound.{PastFound}
@@ -42,6 +42,12 @@ BackToNowIsNothing = (acts : List Act) → acts_until (steps_of_acts acts) acts 
 abbrev pub BackCountsSteps : Type 0
 BackCountsSteps = (acts : List Act) (step : ℕ) → step ≤ steps_of_acts acts
     → steps_of_acts (acts_until step acts) ≡ step
+
+-- Going anywhere from a moment leads where going there at once leads: so what was gone back by lies ahead.
+abbrev pub BackAndAhead : Type 0
+BackAndAhead = (images : List Entry) (sizes : Sizes) (p : PastState) (first second : ℕ)
+    → moment_after_past images sizes (past_until second (past_until first p))
+    ≡ moment_after_past images sizes (past_until second p)
 
 -- all acts are of one line, and acts of other lines end by another
 abbrev pub AllOfLine : ℕ → List Act → Type 0

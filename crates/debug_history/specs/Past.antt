@@ -7,28 +7,29 @@ use Rattle.profile.specs.Sizes.{Sizes}
 use Rattle.debug_history.specs.Acts.{PastMoment, fresh_moment, moment_after_acts, steps_act, steps_of_acts, steps_of_deed}
 use Rattle.debug_history.specs.declared.act.Act.{Act}
 
--- what was done, where it is known
+-- what was done, where it is known, and what lies ahead: what was gone back by since something was done last
 pub record PastState : Type 0 where
   pub is_kept : Bool
   pub acts : List Act
+  pub ahead : List Act
 
 -- that of a machine as it was made, where it is to be kept; and one that is not known
 abbrev pub past_from_start : Bool → PastState
-past_from_start is_kept = record { is_kept = is_kept; acts = [] }
+past_from_start is_kept = record { is_kept = is_kept; acts = []; ahead = [] }
 
 abbrev pub unknown_past : PastState
 unknown_past = past_from_start false
 
--- one act more; the steps in all are counted below 2^64
+-- one act more, and none ahead; the steps in all are counted below 2^64
 abbrev pub past_with_act : PastState → Act → PastState
 past_with_act p act = if p.is_kept then (
     if nat_lt (steps_of_acts p.acts + steps_of_deed act.deed) (2 ^ 64)
-    then record p { acts = p.acts ++ act ∷ [] } else unknown_past) else p
+    then record p { acts = p.acts ++ act ∷ []; ahead = [] } else unknown_past) else p
 
 -- Steps load modules from images by their names, so that with other images the past is not known any
 -- more, unless nothing was done yet.
 abbrev pub past_with_other_images : PastState → PastState
-past_with_other_images p = if length p.acts == 0 then p else unknown_past
+past_with_other_images p = past_from_start (p.is_kept && (length p.acts == 0))
 
 -- where they may be others
 abbrev pub past_with_images : Bool → PastState → PastState
@@ -45,8 +46,22 @@ acts_until step [] = []
 acts_until step (act ∷ rest) = if nat_le (steps_of_deed act.deed) step
     then act ∷ acts_until (step - steps_of_deed act.deed) rest else first_steps act.line step
 
+-- And the acts behind it: of steps in which it lies there are those that are left.
+abbrev pub act_behind : ℕ → Act → Act
+act_behind zero act = act
+act_behind (suc count) act = steps_act act.line (steps_of_deed act.deed - suc count)
+
+unfoldable pub acts_from : ℕ → List Act → List Act
+acts_from step [] = []
+acts_from step (act ∷ rest) = if nat_le (steps_of_deed act.deed) step
+    then acts_from (step - steps_of_deed act.deed) rest else act_behind step act ∷ rest
+
+-- at a moment that was before, or that lies ahead
 abbrev pub past_until : ℕ → PastState → PastState
-past_until step p = record p { acts = acts_until step p.acts }
+past_until step p = record p {
+  acts = acts_until step (p.acts ++ p.ahead);
+  ahead = acts_from step (p.acts ++ p.ahead);
+}
 
 -- The acts before those at the end that are all of one line.
 unfoldable pub acts_before_line : ℕ → List Act → List Act
@@ -56,7 +71,7 @@ acts_before_line line (act ∷ rest) = let before = acts_before_line line rest i
 
 -- the past without what its last line did
 abbrev pub past_before_line : ℕ → PastState → PastState
-past_before_line line p = record p { acts = acts_before_line line p.acts }
+past_before_line line p = record p { acts = acts_before_line line p.acts; ahead = [] }
 
 -- the line of the last act
 abbrev pub line_of_last_act : List Act → Option ℕ

@@ -104,7 +104,7 @@ impl Past {
                 Some(step) => self.back(setting, session, images, labels, step),
                 None => Ok(no_history(setting.alloc)?),
             },
-            PastCommand::BackTo(step) if u64::from(step) <= steps => {
+            PastCommand::BackTo(step) if u64::from(step) <= self.all_steps() => {
                 self.back(setting, session, images, labels, u64::from(step))
             }
             PastCommand::BackTo(_) => Ok(no_history(setting.alloc)?),
@@ -162,12 +162,8 @@ impl Past {
             IfOk result (λ text. text.items ≡ a.text) }
         ensures errors { IfErr result IsLineError }
     {
-        match self.last(
-            setting.alloc,
-            images,
-            setting.config,
-            Sought::Stood(address),
-        )? {
+        let sought = Sought::Stood(address);
+        match self.last(setting.alloc, images, setting.config, sought)? {
             Some(found) => self.back(setting, session, images, labels, found.step),
             None => Ok(Vec::from_slice(setting.alloc, b"refused NotThere\n")?),
         }

@@ -1,6 +1,6 @@
 //! Laws of going back.
 
-ghost use Rattle.debug_history.specs.Laws.{BackCountsSteps, BackLeavesFewerSteps, BackThenStep, BackToNowIsNothing, LastIsTheGreatest, LookingBackChangesNothing, NotedIsDone, UndoIsUndo};
+ghost use Rattle.debug_history.specs.Laws.{BackAndAhead, BackCountsSteps, BackLeavesFewerSteps, BackThenStep, BackToNowIsNothing, LastIsTheGreatest, LookingBackChangesNothing, NotedIsDone, UndoIsUndo};
 ghost use Rattle.debug_history.specs.Steps.{RunsAreTheirSteps};
 
 /// A run is its steps: so runs to breaks and runs in pieces come to the machine that steps taken one by
@@ -24,6 +24,11 @@ pub fn back_then_step()
 pub fn back_goes_where_asked()
     ensures now { BackToNowIsNothing }
     ensures counted { BackCountsSteps }
+{}
+
+/// Going back and then elsewhere, to a moment that lies ahead too, leads where going there at once leads.
+pub fn back_and_ahead()
+    ensures { BackAndAhead }
 {}
 
 /// Undoing a line leaves what was done before it.

@@ -101,7 +101,7 @@ impl Past {
                 self.put_call(line, call, taken, has_faulted)
             }
             ScriptCommand::Hex(_) | ScriptCommand::Asm(_, _) => {
-                self.change_images();
+                self.change_images_if(true);
                 Ok(())
             }
             _ => Ok(()),

@@ -1,12 +1,12 @@
 //! The past of a machine, and how the machine goes back.
 
-ghost use Rattle.std.specs.Prelude.{◌≡◌, ◌≤◌, ◌<◌, ◌^◌, length, take, Some, IfSome, OnOk, IfErr};
+ghost use Rattle.std.specs.Prelude.{◌≡◌, ◌≤◌, ◌<◌, ◌^◌, ◌++◌, length, take, Some, IfOk, IfSome, OnErr, OnOk, IfErr};
 ghost use Rattle.command_shell.specs.Error.{IsLineError};
 ghost use Rattle.command_shell.specs.Session.{script_state};
 ghost use Rattle.debug_history.specs.Acts.{steps_of_acts};
 ghost use Rattle.debug_history.specs.Again.{script_at_moment};
-ghost use Rattle.debug_history.specs.Cutting.{acts_cut};
-ghost use Rattle.debug_history.specs.Past.{acts_before_line, acts_until, line_of_last_act};
+ghost use Rattle.debug_history.specs.Cutting.{acts_behind, acts_cut};
+ghost use Rattle.debug_history.specs.Past.{acts_before_line, acts_from, acts_until, line_of_last_act};
 
 use crate::act::{Act, PastDeed};
 use crate::again::acts_again;
@@ -16,29 +16,40 @@ use profile::{Config, Stop};
 use std::alloc::{AllocError, Global};
 use std::marker::Model;
 
-/// What was done to a machine since it was made, as far as it is known.
+/// What was done to a machine since it was made, as far as it is known, and what lies ahead: what the machine
+/// went back by since something was done to it last.
 #[derive(Drop)]
 pub struct Past {
     is_kept: bool,
+    // What was done, and then what lies ahead.
     acts: Vec<Act>,
-    // How many steps were counted in all.
+    // How many of these were done.
+    done: usize,
+    // How many steps those counted, and how many all count.
     steps: u64,
+    all_steps: u64,
 }
 
 impl Model for Past {
-    ghost use Rattle.std.specs.Prelude.{◌≡◌};
+    ghost use Rattle.std.specs.Prelude.{◌≡◌, ◌≤◌, drop, length, take};
     ghost use Rattle.debug_history.specs.Acts.{steps_of_acts};
     ghost use Rattle.debug_history.specs.Past.{PastState};
 
     ghost Value = { PastState };
 
-    ghost view = { λ p. record { is_kept = p.is_kept; acts = p.acts.items } };
+    ghost view = { λ p. record {
+      is_kept = p.is_kept;
+      acts = take p.done p.acts.items;
+      ahead = drop p.done p.acts.items;
+    } };
 
-    ghost invariant = { λ p. p.steps ≡ steps_of_acts p.acts.items };
+    ghost invariant = { λ p. (p.done ≤ length p.acts.items)
+        × (p.steps ≡ steps_of_acts (take p.done p.acts.items))
+        × (p.all_steps ≡ steps_of_acts p.acts.items) };
 }
 
 impl Past {
-    ghost use Rattle.debug_history.specs.Past.{moment_after_past, past_before_line, past_from_start, past_until, past_with_act, past_with_images, past_with_other_images, unknown_past};
+    ghost use Rattle.debug_history.specs.Past.{moment_after_past, past_before_line, past_from_start, past_until, past_with_act, past_with_images, unknown_past};
 
     /// That of a machine as it was made, where it is to be kept.
     #[tactic(auto, unfolding(crate::specs::Acts::steps_of_acts))]
@@ -48,7 +59,9 @@ impl Past {
         Past {
             is_kept,
             acts: Vec::new(alloc),
+            done: 0,
             steps: 0,
+            all_steps: 0,
         }
     }
 
@@ -59,7 +72,9 @@ impl Past {
     {
         self.is_kept = is_kept;
         self.acts.clear();
+        self.done = 0;
         self.steps = 0;
+        self.all_steps = 0;
     }
 
     /// The machine was changed in a way that isn't kept.
@@ -69,25 +84,17 @@ impl Past {
         self.begin(false);
     }
 
-    /// The images may be others now.
+    /// The images are others now, if these are.
     pub fn change_images_if(&mut self, are_others: bool)
         ensures { self.new ≡ past_with_images are_others self.old }
     {
         if are_others {
-            self.change_images();
+            let is_kept = self.is_kept && self.acts().is_empty();
+            self.begin(is_kept);
         }
     }
 
-    /// The images are others now.
-    pub(crate) fn change_images(&mut self)
-        ensures { self.new ≡ past_with_other_images self.old }
-    {
-        if !self.acts.is_empty() {
-            self.lose();
-        }
-    }
-
-    /// This was done to the machine.
+    /// This was done to the machine; what lay ahead is forgotten.
     ///
     /// # Errors
     ///
@@ -99,17 +106,17 @@ impl Past {
         if !self.is_kept {
             return Ok(());
         }
-        match self.steps.checked_add(act.deed.steps()) {
-            None => {
-                self.lose();
-                Ok(())
-            }
-            Some(steps) => {
-                self.acts.push(act)?;
-                self.steps = steps;
-                Ok(())
-            }
-        }
+        self.acts.truncate(self.done);
+        self.all_steps = self.steps;
+        let Some(steps) = self.steps.checked_add(act.deed.steps()) else {
+            self.lose();
+            return Ok(());
+        };
+        self.acts.push(act)?;
+        self.done = self.acts.len();
+        self.steps = steps;
+        self.all_steps = steps;
+        Ok(())
     }
 
     /// Whether it is known.
@@ -123,7 +130,7 @@ impl Past {
     pub fn acts(&self) -> &[Act]
         ensures { result.now ≡ self.now.acts }
     {
-        self.acts.as_slice()
+        &self.acts.as_slice()[..self.done]
     }
 
     /// How many steps were counted.
@@ -137,32 +144,39 @@ impl Past {
     pub fn last_line(&self) -> Option<u64>
         ensures { result ≡ line_of_last_act self.now.acts }
     {
-        last_line_of(self.acts.as_slice())
+        last_line_of(self.acts())
     }
 
-    // What came after a moment is forgotten.
-    #[tactic(auto, using(crate::proofs::ActLemmas::until_steps))]
-    fn forget_after(&mut self, step: u64)
-        ensures { self.new ≡ past_until step self.old }
+    /// How many steps were counted before the last moment that lies ahead, or that the machine stands at.
+    pub fn all_steps(&self) -> u64
+        ensures { result ≡ steps_of_acts (self.now.acts ++ self.now.ahead) }
     {
-        if step < self.steps {
-            keep_until(&mut self.acts, step);
-            self.steps = step;
-        }
+        self.all_steps
     }
 
-    // What a line did last is forgotten.
-    #[tactic(auto, using(crate::proofs::PastLemmas::fewer_taken))]
+    // What comes after a moment lies ahead.
+    fn move_to(&mut self, step: u64) -> Result<(), AllocError>
+        ensures { OnOk result (self.new ≡ past_until step self.old) }
+    {
+        let done = split_at(&mut self.acts, step)?;
+        self.steps = count_steps(&self.acts.as_slice()[..done]);
+        self.done = done;
+        Ok(())
+    }
+
+    // What a line did last is forgotten, and what lies ahead.
     fn forget_line(&mut self, line: u64)
         ensures { self.new ≡ past_before_line line self.old }
     {
-        let count = count_before_line(self.acts.as_slice(), line);
-        self.acts.truncate(count);
+        let done = count_before_line(self.acts(), line);
+        self.acts.truncate(done);
+        self.done = done;
         self.steps = count_steps(self.acts.as_slice());
+        self.all_steps = self.steps;
     }
 
     /// The session's machine becomes as it was before the step of that number, and what came after
-    /// that is forgotten. The session then has the whole budget; its breaks stay.
+    /// that lies ahead. The session then has the whole budget; its breaks stay.
     ///
     /// # Errors
     ///
@@ -181,7 +195,7 @@ impl Past {
             (moment_after_past s.images config (past_until step self.old))) }
         ensures errors { IfErr result IsLineError }
     {
-        self.forget_after(step);
+        self.move_to(step)?;
         self.stand_there(session, images, config, budget)
     }
 
@@ -231,18 +245,20 @@ impl Past {
     }
 }
 
-// Where acts are cut: so many stay, and so many steps of the next one, which a line took.
+// Where acts are cut: behind so many, and so many steps of the next one, which a line took; so many follow.
 #[derive(Clone, Copy, Debug)]
 struct Cut {
     index: usize,
     line: u64,
     left: u64,
+    rest: u64,
 }
 
 // Where acts are cut by a moment within them, if it is.
 fn cut_at(acts: &[Act], step: u64) -> Option<Cut>
     ensures within { IfSome result (λ cut. cut.index < length acts.now) }
     ensures until { acts_until step acts.now ≡ acts_cut acts.now result }
+    ensures from { acts_from step acts.now ≡ acts_behind acts.now result }
 {
     let mut left = step;
     for (index, act) in acts.iter().enumerate() {
@@ -252,6 +268,7 @@ fn cut_at(acts: &[Act], step: u64) -> Option<Cut>
                 index,
                 line: act.line,
                 left,
+                rest: count - left,
             });
         }
         left -= count;
@@ -259,28 +276,25 @@ fn cut_at(acts: &[Act], step: u64) -> Option<Cut>
     None
 }
 
-// Acts after a moment go.
-fn keep_until(acts: &mut Vec<Act>, step: u64)
-    ensures { acts.new.items ≡ acts_until step acts.old.items }
+// Acts are cut by a moment: steps within which it lies become two acts. Answers how many come before it.
+fn split_at(acts: &mut Vec<Act>, step: u64) -> Result<usize, AllocError>
+    ensures items { OnOk result (acts.new.items
+        ≡ acts_until step acts.old.items ++ acts_from step acts.old.items) }
+    ensures count { IfOk result (λ count. count ≡ length (acts_until step acts.old.items)) }
+    ensures same { OnErr result (acts.new.items ≡ acts.old.items) }
 {
-    if let Some(cut) = cut_at(acts.as_slice(), step) {
-        keep_first(acts, cut);
-    }
-}
-
-fn keep_first(acts: &mut Vec<Act>, cut: Cut)
-    requires { cut.index < length acts.old.items }
-    ensures { acts.new.items ≡ acts_cut acts.old.items (Some cut) }
-{
+    let Some(cut) = cut_at(acts.as_slice(), step) else {
+        return Ok(acts.len());
+    };
     if cut.left == 0 {
-        acts.truncate(cut.index);
-    } else {
-        acts[cut.index] = Act {
-            line: cut.line,
-            deed: PastDeed::Steps(cut.left),
-        };
-        acts.truncate(cut.index + 1);
+        return Ok(cut.index);
     }
+    let line = cut.line;
+    let deed = PastDeed::Steps(cut.left);
+    acts.insert(cut.index, Act { line, deed })?;
+    let deed = PastDeed::Steps(cut.rest);
+    acts[cut.index + 1] = Act { line, deed };
+    Ok(cut.index + 1)
 }
 
 // How many acts come before those at the end that are all of one line.

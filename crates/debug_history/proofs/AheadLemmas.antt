@@ -1,0 +1,239 @@
+-- What lies ahead of a moment leads where it led before.
+use Rattle.std.proofs.Common.{◌≡◌, ◌<◌, ◌≤◌, ◌^◌, ℕ, Bool, true, false, zero, suc, ◌+◌, ◌-◌, ◌&&◌, ◌==◌, List, [], ◌∷◌, ◌++◌, length, take, drop, refl, sym, ◌∙◌, ap, arith, append_assoc, if◌then◌else◌}
+use Rattle.std.specs.Prelude.{nat_le, set}
+use Rattle.std.proofs.Math.Seq.{drop-append_seam, take-append_seam, take-length}
+use Rattle.std.proofs.lemmas.Bool.Decides.{nat_tests}
+use Rattle.std.proofs.lemmas.List.{append-nil, drop_all, drop_more, length-take-le, set_at, take-append-drop}
+use Rattle.image_loader.specs.Entries.{Entry}
+use Rattle.profile.specs.Sizes.{Sizes}
+use Rattle.debug_history.specs.Acts.{PastMoment, moment_after_acts, moment_after_deed, moment_after_steps, steps_act, steps_of_acts, steps_of_deed}
+use Rattle.debug_history.specs.Cutting.{acts_behind_by}
+use Rattle.debug_history.specs.Past.{PastState, act_behind, acts_from, acts_until, first_steps, past_until, past_with_act, unknown_past}
+use Rattle.debug_history.specs.Laws.{BackAndAhead}
+use Rattle.debug_history.specs.Steps.{steps_after}
+use Rattle.debug_history.specs.declared.act.Act.{Act}
+use Rattle.debug_history.specs.declared.act.PastDeed.{PastDeed}
+use Rattle.debug_history.specs.declared.act.PastDeed.TheVariants as deed
+use Rattle.debug_history.proofs.PastLemmas.{cut_by, kept_by}
+use Rattle.debug_history.proofs.StepLemmas.{none_left, steps_added}
+
+-- HOW MANY STEPS BOTH PARTS COUNT
+
+both_by : (act : Act) (rest : List Act) (k : ℕ) (b : Bool) → nat_le (steps_of_deed act.deed) k ≡ b
+    → steps_of_acts (acts_until (k - steps_of_deed act.deed) rest ++ acts_from (k - steps_of_deed act.deed) rest) ≡ steps_of_acts rest
+    → steps_of_acts ((if b then act ∷ acts_until (k - steps_of_deed act.deed) rest else first_steps act.line k)
+    ++ (if b then acts_from (k - steps_of_deed act.deed) rest else act_behind k act ∷ rest)) ≡ steps_of_deed act.deed + steps_of_acts rest
+unfolding steps_of_acts
+both_by act rest k true e more = ap (λ (j : ℕ). steps_of_deed act.deed + j) more
+both_by act rest zero false e more = refl
+both_by act rest (suc j) false e more =
+    let n : ℕ = steps_of_deed act.deed in
+    let r : ℕ = steps_of_acts rest in
+    let below : suc j < n = grind (arith, nat_tests, e) in
+    let all : suc j + ((n - suc j) + r) ≡ n + r = omega (arith, below) in
+    all
+
+pub both_count : (acts : List Act) (k : ℕ) → steps_of_acts (acts_until k acts ++ acts_from k acts) ≡ steps_of_acts acts
+unfolding acts_until acts_from steps_of_acts
+both_count [] k = refl
+both_count (act ∷ rest) k =
+    both_by act rest k (nat_le (steps_of_deed act.deed) k) refl (both_count rest (k - steps_of_deed act.deed))
+
+-- WHERE THEY LEAD
+
+first_leads : (images : List Entry) (sizes : Sizes) (line k : ℕ) (m : PastMoment)
+    → moment_after_acts images sizes (first_steps line k) m ≡ moment_after_steps images k m
+unfolding moment_after_acts
+first_leads images sizes line zero m = sym (none_left images m)
+first_leads images sizes line (suc k) m = refl
+
+none_of_both : (f : Bool) (a b n : ℕ) → a + b ≡ n → ((f && (a == 0)) && (b == 0)) ≡ (f && (n == 0))
+none_of_both f a b n e = grind (arith, nat_tests, e)
+
+steps_both : (images : List Entry) (a b n : ℕ) (m : PastMoment) → a + b ≡ n
+    → moment_after_steps images b (moment_after_steps images a m) ≡ moment_after_steps images n m
+steps_both images a b n m e =
+    let same = sym (steps_added images a b m.machine) ∙ ap (λ (k : ℕ). steps_after images k m.machine) e in
+    λ i. record { machine = same i; is_fresh = none_of_both m.is_fresh a b n e i }
+
+pair_leads : (images : List Entry) (sizes : Sizes) (line a b : ℕ) (rest : List Act) (m : PastMoment)
+    → moment_after_acts images sizes (steps_act line a ∷ (steps_act line b ∷ rest)) m
+    ≡ moment_after_acts images sizes rest (moment_after_steps images b (moment_after_steps images a m))
+unfolding moment_after_acts
+pair_leads images sizes line a b rest m = refl
+
+one_leads : (images : List Entry) (sizes : Sizes) (line n : ℕ) (rest : List Act) (m : PastMoment)
+    → moment_after_acts images sizes (steps_act line n ∷ rest) m ≡ moment_after_acts images sizes rest (moment_after_steps images n m)
+unfolding moment_after_acts
+one_leads images sizes line n rest m = refl
+
+-- steps that became two acts, up to a moment: before the cut, between it and their end, or behind that
+cut_leads : (images : List Entry) (sizes : Sizes) (line a b c n : ℕ) (rest : List Act) (m : PastMoment) (x y : Bool)
+    → a + b ≡ c → 0 < b → nat_le a n ≡ x → nat_le c n ≡ y
+    → moment_after_acts images sizes (acts_until n (steps_act line a ∷ (steps_act line b ∷ rest))) m
+    ≡ moment_after_acts images sizes (acts_until n (steps_act line c ∷ rest)) m
+cut_leads images sizes line a b c n rest m false y all some e f =
+    let one : n < a = grind (arith, nat_tests, e) in
+    let two : n < c = omega (arith, one, all) in
+    ap (λ (xs : List Act). moment_after_acts images sizes xs m)
+    (cut_by (steps_act line a) (steps_act line b ∷ rest) n one ∙ sym (cut_by (steps_act line c) rest n two))
+cut_leads images sizes line a b c n rest m true false all some e f =
+    let one : a ≤ n = grind (arith, nat_tests, e) in
+    let two : n < c = grind (arith, nat_tests, f) in
+    let less : n - a < b = omega (arith, one, two, all) in
+    let sum : a + (n - a) ≡ n = omega (arith, one) in
+    ap (λ (xs : List Act). moment_after_acts images sizes xs m)
+    (kept_by (steps_act line a) (steps_act line b ∷ rest) n one
+    ∙ ap (λ (xs : List Act). steps_act line a ∷ xs) (cut_by (steps_act line b) rest (n - a) less))
+    ∙ one_leads images sizes line a (first_steps line (n - a)) m
+    ∙ first_leads images sizes line (n - a) (moment_after_steps images a m)
+    ∙ steps_both images a (n - a) n m sum
+    ∙ sym (first_leads images sizes line n m)
+    ∙ ap (λ (xs : List Act). moment_after_acts images sizes xs m) (sym (cut_by (steps_act line c) rest n two))
+cut_leads images sizes line a b c n rest m true true all some e f =
+    let one : a ≤ n = grind (arith, nat_tests, e) in
+    let two : c ≤ n = grind (arith, nat_tests, f) in
+    let fits : b ≤ n - a = omega (arith, one, two, all) in
+    let left : (n - a) - b ≡ n - c = omega (arith, one, two, all) in
+    ap (λ (xs : List Act). moment_after_acts images sizes xs m)
+    (kept_by (steps_act line a) (steps_act line b ∷ rest) n one
+    ∙ ap (λ (xs : List Act). steps_act line a ∷ xs) (kept_by (steps_act line b) rest (n - a) fits))
+    ∙ pair_leads images sizes line a b (acts_until ((n - a) - b) rest) m
+    ∙ (λ i. moment_after_acts images sizes (acts_until (left i) rest) (steps_both images a b c m all i))
+    ∙ sym (one_leads images sizes line c (acts_until (n - c) rest) m)
+    ∙ ap (λ (xs : List Act). moment_after_acts images sizes xs m) (sym (kept_by (steps_act line c) rest n two))
+
+-- only steps count more than one
+count_most : (b : Bool) (j : ℕ) → suc j < (if b then 1 else 0) → zero ≡ suc j
+count_most true j h = absurd (omega (arith, h))
+count_most false j h = absurd (omega (arith, h))
+
+within_leads : (images : List Entry) (sizes : Sizes) (line j n : ℕ) (d : PastDeed) (rest : List Act) (m : PastMoment)
+    → suc j < steps_of_deed d
+    → moment_after_acts images sizes (acts_until n (steps_act line (suc j) ∷ (steps_act line (steps_of_deed d - suc j) ∷ rest))) m
+    ≡ moment_after_acts images sizes (acts_until n (record { line = line; deed = d } ∷ rest)) m
+within_leads images sizes line j n (deed.Steps count) rest m h =
+    let all : suc j + (count - suc j) ≡ count = omega (arith, h) in
+    let some : 0 < count - suc j = omega (arith, h) in
+    cut_leads images sizes line (suc j) (count - suc j) count n rest m (nat_le (suc j) n) (nat_le count n) all some refl refl
+within_leads images sizes line j n deed.FaultingStep rest m h = absurd (omega (arith, h))
+within_leads images sizes line j n (deed.Boot name) rest m h = absurd (omega (arith, h))
+within_leads images sizes line j n (deed.Call number true) rest m h = absurd (omega (arith, h))
+within_leads images sizes line j n (deed.Call number false) rest m h = absurd (omega (arith, h))
+within_leads images sizes line j n (deed.Load text true) rest m h = absurd (omega (arith, h))
+within_leads images sizes line j n (deed.Load text false) rest m h = absurd (omega (arith, h))
+within_leads images sizes line j n (deed.Register number value) rest m h = absurd (omega (arith, h))
+within_leads images sizes line j n (deed.Word address value) rest m h = absurd (omega (arith, h))
+within_leads images sizes line j n (deed.Banked mode number value) rest m h = absurd (omega (arith, h))
+within_leads images sizes line j n (deed.Place address) rest m h = absurd (omega (arith, h))
+within_leads images sizes line j n (deed.Routine address link) rest m h = absurd (omega (arith, h))
+within_leads images sizes line j n (deed.Status status) rest m h = absurd (omega (arith, h))
+within_leads images sizes line j n deed.Woken rest m h = absurd (omega (arith, h))
+
+-- the same act before others that lead where these lead
+head_by : (images : List Entry) (sizes : Sizes) (act : Act) (xs ys : List Act) (n : ℕ) (m : PastMoment) (b : Bool)
+    → ((x : PastMoment) → moment_after_acts images sizes (acts_until (n - steps_of_deed act.deed) xs) x
+    ≡ moment_after_acts images sizes (acts_until (n - steps_of_deed act.deed) ys) x)
+    → moment_after_acts images sizes (if b then act ∷ acts_until (n - steps_of_deed act.deed) xs else first_steps act.line n) m
+    ≡ moment_after_acts images sizes (if b then act ∷ acts_until (n - steps_of_deed act.deed) ys else first_steps act.line n) m
+unfolding moment_after_acts
+head_by images sizes act xs ys n m true more = more (moment_after_deed images sizes act.deed m)
+head_by images sizes act xs ys n m false more = refl
+
+same_head : (images : List Entry) (sizes : Sizes) (act : Act) (xs ys : List Act) (n : ℕ) (m : PastMoment)
+    → ((x : PastMoment) → moment_after_acts images sizes (acts_until (n - steps_of_deed act.deed) xs) x
+    ≡ moment_after_acts images sizes (acts_until (n - steps_of_deed act.deed) ys) x)
+    → moment_after_acts images sizes (acts_until n (act ∷ xs)) m ≡ moment_after_acts images sizes (acts_until n (act ∷ ys)) m
+unfolding acts_until
+same_head images sizes act xs ys n m more = head_by images sizes act xs ys n m (nat_le (steps_of_deed act.deed) n) more
+
+ahead_by : (images : List Entry) (sizes : Sizes) (act : Act) (rest : List Act) (k n : ℕ) (m : PastMoment) (b : Bool)
+    → nat_le (steps_of_deed act.deed) k ≡ b
+    → ((x : PastMoment) → moment_after_acts images sizes (acts_until (n - steps_of_deed act.deed)
+    (acts_until (k - steps_of_deed act.deed) rest ++ acts_from (k - steps_of_deed act.deed) rest)) x
+    ≡ moment_after_acts images sizes (acts_until (n - steps_of_deed act.deed) rest) x)
+    → moment_after_acts images sizes (acts_until n ((if b then act ∷ acts_until (k - steps_of_deed act.deed) rest else first_steps act.line k)
+    ++ (if b then acts_from (k - steps_of_deed act.deed) rest else act_behind k act ∷ rest))) m
+    ≡ moment_after_acts images sizes (acts_until n (act ∷ rest)) m
+ahead_by images sizes act rest k n m true e more =
+    same_head images sizes act (acts_until (k - steps_of_deed act.deed) rest ++ acts_from (k - steps_of_deed act.deed) rest) rest n m more
+ahead_by images sizes act rest zero n m false e more = refl
+ahead_by images sizes act rest (suc j) n m false e more =
+    let below : suc j < steps_of_deed act.deed = grind (arith, nat_tests, e) in
+    within_leads images sizes act.line j n act.deed rest m below
+
+ahead_leads : (images : List Entry) (sizes : Sizes) (acts : List Act) (k n : ℕ) (m : PastMoment)
+    → moment_after_acts images sizes (acts_until n (acts_until k acts ++ acts_from k acts)) m
+    ≡ moment_after_acts images sizes (acts_until n acts) m
+unfolding acts_until acts_from
+ahead_leads images sizes [] k n m = refl
+ahead_leads images sizes (act ∷ rest) k n m =
+    let c : ℕ = steps_of_deed act.deed in
+    ahead_by images sizes act rest k n m (nat_le c k) refl (ahead_leads images sizes rest (k - c) (n - c))
+
+pub back_and_ahead : BackAndAhead
+back_and_ahead images sizes p first second =
+    ahead_leads images sizes (p.acts ++ p.ahead) first second (record { machine = _; is_fresh = true })
+
+-- HOW THEY ARE KEPT
+
+-- a cut before an act
+pub cut_between : (acts : List Act) (i line rest left : ℕ) → left ≡ 0
+    → acts ≡ (take i acts ++ first_steps line left) ++ acts_behind_by acts i line rest left
+cut_between acts i line rest zero none =
+    sym (take-append-drop i acts) ∙ ap (λ (xs : List Act). xs ++ drop i acts) (sym (append-nil (take i acts)))
+cut_between acts i line rest (suc left) none = absurd (omega (arith, none))
+
+pub count_between : (acts : List Act) (i line left : ℕ) → i < length acts → left ≡ 0 → i ≡ length (take i acts ++ first_steps line left)
+count_between acts i line zero below none =
+    let within : i ≤ length acts = omega (arith, below) in
+    sym (length-take-le i acts within) ∙ ap length (sym (append-nil (take i acts)))
+count_between acts i line (suc left) below none = absurd (omega (arith, none))
+
+-- a cut within an act
+last_length : (xs : List Act) (x : Act) → length (xs ++ x ∷ []) ≡ length xs + 1
+last_length [] x = refl
+last_length (y ∷ xs) x = let more = last_length xs x in omega (arith, more)
+
+front_length : (acts : List Act) (i : ℕ) (act : Act) → i < length acts → length (take i acts ++ act ∷ []) ≡ i + 1
+front_length acts i act below =
+    let within : i ≤ length acts = omega (arith, below) in
+    last_length (take i acts) act ∙ ap (λ (n : ℕ). n + 1) (length-take-le i acts within)
+
+set_behind : (acts : List Act) (i : ℕ) (act one two : Act) → i < length acts
+    → set (take i acts ++ one ∷ drop i acts) (i + 1) two ≡ (take i acts ++ one ∷ []) ++ two ∷ drop (i + 1) acts
+set_behind acts i act one two below =
+    let split = drop_more acts i act below in
+    ap (λ (xs : List Act). set (take i acts ++ one ∷ xs) (i + 1) two) split
+    ∙ ap (λ (xs : List Act). set xs (i + 1) two) (sym (append_assoc (take i acts) (one ∷ []) _))
+    ∙ set_at (take i acts ++ one ∷ []) _ (drop (i + 1) acts) two (i + 1) (front_length acts i one below)
+
+pub cut_within : (acts : List Act) (i line rest left : ℕ) → i < length acts → 0 < left
+    → set (take i acts ++ steps_act line left ∷ drop i acts) (i + 1) (steps_act line rest)
+    ≡ (take i acts ++ first_steps line left) ++ acts_behind_by acts i line rest left
+cut_within acts i line rest zero below some = absurd (omega (arith, some))
+cut_within acts i line rest (suc left) below some =
+    set_behind acts i (steps_act line rest) (steps_act line (suc left)) (steps_act line rest) below
+
+pub count_within : (acts : List Act) (i line left : ℕ) → i < length acts → 0 < left → i + 1 ≡ length (take i acts ++ first_steps line left)
+count_within acts i line zero below some = absurd (omega (arith, some))
+count_within acts i line (suc left) below some = sym (front_length acts i (steps_act line (suc left)) below)
+
+-- the acts before a place and those behind it
+pub parted : (front back items : List Act) (n : ℕ) → items ≡ front ++ back → n ≡ length front → take n items ≡ front
+parted front back items n all count =
+    (λ i. take (count i) (all i)) ∙ take-append_seam front back
+
+pub parted_behind : (front back items : List Act) (n : ℕ) → items ≡ front ++ back → n ≡ length front → drop n items ≡ back
+parted_behind front back items n all count =
+    (λ i. drop (count i) (all i)) ∙ drop-append_seam front back
+
+both_length : (xs ys : List Act) → length xs ≤ length (xs ++ ys)
+both_length [] ys = omega arith
+both_length (x ∷ xs) ys = let more = both_length xs ys in omega (arith, more)
+
+pub front_within : (front back items : List Act) (n : ℕ) → items ≡ front ++ back → n ≡ length front → n ≤ length items
+front_within front back items n all count =
+    let sum = both_length front back in
+    let same = ap length all in
+    omega (arith, count, sum, same)
