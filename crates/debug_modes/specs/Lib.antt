@@ -3,4 +3,5 @@ pub mod Changes
 pub mod Counting
 pub mod Modes
 pub mod OwnAnswers
+pub mod ViewTexts
 pub mod expectations

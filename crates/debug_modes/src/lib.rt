@@ -12,8 +12,10 @@ mod help;
 mod modes;
 mod own_answers;
 mod stub_lines;
+mod view_texts;
 
 pub use answers::refused_line;
 pub use help::HELP;
 pub use modes::DebugModes;
 pub use own_answers::{forget_text, form_line, put_text, refusal_line, text_of, unknown_line};
+pub use view_texts::view_text;

@@ -3,7 +3,6 @@
 use Rattle.std.specs.Prelude.{ℕ, zero, suc, ◌+◌, ◌-◌, ◌&&◌, ◌||◌, Bool, true, false, not, List, [], ◌∷◌, ◌++◌, length, codes, Option, Some, None, Result, Ok, Err, is_some, nat_lt, option_map, if◌then◌else◌}
 use Rattle.std.specs.Str.Lines.{lines}
 use Rattle.image_loader.specs.Entries.{Entry, bytes_of_image, without_entry}
-use Rattle.debug_tables.specs.byte_writes.Find.{find_text}
 use Rattle.debug_tables.specs.byte_writes.Put.{script_after_put}
 use Rattle.command_shell_lines.specs.debug_words.NamedBytes.{bytes_written, named_bytes, or_no_bytes}
 use Rattle.profile.specs.FaultNames.{fault_name}
@@ -19,7 +18,7 @@ use Rattle.command_shell_lines.specs.Requests.{Request, Asm, Hex, request_of}
 use Rattle.debug_modes.specs.expectations.Checks.{Seen, check_answer, status_after_pattern}
 use Rattle.debug_modes.specs.expectations.Halted.{halted_at_text, halting_fault}
 use Rattle.debug_modes.specs.expectations.Endings.{ending_of, output_of}
-use Rattle.debug_lines.specs.DebugRequests.{DebugRequest, Script, Stepping, Mode, Remark, SetPc, SetPsr, Put, Write, Forget, Counts, Reset, Quit, Expect, Repeat, NotKnown, debug_opens_block, debug_request, is_script_request, ViewRequest, View, Words, Where, Banks, Stack, Frames, Labels, Dump, Why, Help, Find, Form}
+use Rattle.debug_lines.specs.DebugRequests.{DebugRequest, Script, Stepping, Mode, Remark, SetPc, SetPsr, Put, Write, Forget, Counts, Reset, Quit, Expect, Repeat, NotKnown, debug_opens_block, debug_request, is_script_request, View}
 use Rattle.debug_tables.specs.run_meter.MachineState.{MachineState, stop_of}
 use Rattle.debug_lines.specs.ModeRequests.{ModeRequest}
 use Rattle.debug_lines.specs.SteppingRequests.{SteppingRequest, stepping_in}
@@ -27,6 +26,7 @@ use Rattle.debug_modes.specs.Changes.{ModeAnswer, mode_answer}
 use Rattle.debug_modes.specs.Counting.{counts_text}
 use Rattle.command_shell_lines.specs.FailedBlocks.{FailedBlockPlace, block_reason, failed_after}
 use Rattle.debug_modes.specs.Modes.{takes_over}
+use Rattle.debug_modes.specs.ViewTexts.{view_text}
 use Rattle.debug_session.specs.Stepping.{modes_after, note_of, stepping_in_modes}
 use Rattle.debug_lines.specs.Tidy.{tidied_line}
 use Rattle.debug_history.specs.Answers.{PastAnswered, past_line_answered}
@@ -37,20 +37,11 @@ use Rattle.debug_history.specs.Past.{PastState, past_from_start, past_with_image
 use Rattle.debug_history.specs.declared.act.PastDeed.{PastDeed}
 use Rattle.debug_history.specs.declared.act.PastDeed.TheVariants.{Place, Status}
 use Rattle.debug_labels.specs.Labels.{ImageLabels, without_labels}
-use Rattle.debug_labels.specs.Views.{labels_text}
-use Rattle.debug_labels.specs.place_views.Frames.{frames_text}
-use Rattle.debug_labels.specs.place_views.Places.{naming_on, where_text}
-use Rattle.debug_labels.specs.place_views.Stack.{stack_words_text}
-use Rattle.debug_modes.specs.expectations.Dump.{dump_text}
-use Rattle.debug_modes.specs.expectations.Why.{why_text}
-use Rattle.debug_modes.specs.expectations.views.Banks.{banks_text}
-use Rattle.debug_modes.specs.expectations.views.Words.{memory_words_text}
 use Rattle.debug_session.specs.DebugState.{DebugAnswered, DebugState, debug_answer, debug_start_state, then_debugged}
 use Rattle.debug_session.specs.LastSteps.{last_steps_answer}
 use Rattle.debug_session.specs.Naming.{labels_with_block, meant_request, naming_of, repeated_now}
 use Rattle.debug_modes.specs.OwnAnswers.{forget_text, put_text, reasoned_text}
 use Rattle.debug_labels.specs.Reasons.{refusal_reason}
-use Rattle.debug_modes.specs.declared.help.TheConstants.{HELP}
 use Rattle.debug_session.specs.declared.session.DebugSettings.{DebugSettings}
 use Rattle.debug_lines.specs.declared.status.StatusPattern.{StatusPattern}
 use Rattle.debug_modes.specs.expectations.reports.Reports.{answer_in, fail_text, pass_text, report_of_refusal, summary_text, with_fail, with_pass, with_refusal}
@@ -176,21 +167,6 @@ script_line_answer c d number request block =
     (line_in_modes_answer c (with_block_noted d number request block) number request block)
 
 -- LINES OF ITS OWN
-
--- what a line shows that only looks
-abbrev pub view_text : List ImageLabels → MachineState → ViewRequest → List ℕ
-view_text labels s (Words address count) = memory_words_text s.store.bytes address count
-view_text labels s Where = where_text labels s
-view_text labels s Banks = banks_text s.cpu
-view_text labels s (Stack count) = stack_words_text (naming_on labels s) s.cpu s.store.bytes count
-view_text labels s Frames = frames_text labels s
-view_text labels s Labels = labels_text (naming_on labels s)
-view_text labels s (Dump address count) = dump_text s.store.bytes address count
-view_text labels s Why = why_text s.cpu s.store.bytes
-view_text labels s Help = HELP.now
-view_text labels s (Find address count named) =
-    find_text s.store.bytes address count (or_no_bytes (named_bytes named))
-view_text labels s (Form form) = form ++ codes "\n"
 
 -- a view: its text is the answer
 abbrev pub view_answer : DebugSettings → DebugState → List ℕ → DebugAnswered

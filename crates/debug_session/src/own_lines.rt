@@ -5,25 +5,20 @@ ghost use Rattle.std.specs.Option.{option_map};
 ghost use Rattle.image_loader.specs.Entries.{bytes_of_image};
 ghost use Rattle.debug_session.specs.Failing.{EndsAtOnce};
 ghost use Rattle.debug_modes.specs.expectations.Halted.{halted_at_text, halting_fault};
-ghost use Rattle.profile.specs.Output.{Writes};
 
 use crate::session::DebugSession;
 use command_shell_lines::Origin;
 use command_shell_lines::debug_words::bytes_written;
 use debug_history::{CodeAddress, PastDeed};
-use debug_labels::place_views::{names_on, show_frames, show_stack, show_where};
 use debug_lines::{DebugView, Expectation, StatusPattern};
 use debug_modes::expectations::reports::{push_answer, push_fail, push_pass};
-use debug_modes::expectations::{
-    SeenMachine, check, halting_fault, push_halted, show_banks, show_dump, show_why, show_words,
-    status_with,
-};
-use debug_modes::{HELP, forget_text, form_line, put_text, refused_line, text_of};
+use debug_modes::expectations::{SeenMachine, check, halting_fault, push_halted, status_with};
+use debug_modes::{forget_text, form_line, put_text, refused_line, text_of, view_text};
 use debug_tables::byte_writes::{find_text, put_bytes};
 use debug_tables::run_meter::RunError;
 use image_loader::Images;
 use profile::text_sink::TextSink;
-use profile::{Fault, Sink, WriteFault, push_all};
+use profile::{Fault, Sink, WriteFault};
 use std::alloc::AllocError;
 
 impl DebugSession {
@@ -31,48 +26,14 @@ impl DebugSession {
     ghost use Rattle.debug_history.specs.Past.{past_from_start};
     ghost use Rattle.debug_history.specs.declared.act.PastDeed.TheVariants.{Place};
     ghost use Rattle.debug_tables.specs.run_meter.Memory.{script_at, script_started_anew};
+    ghost use Rattle.debug_modes.specs.ViewTexts.{view_text};
     ghost use Rattle.debug_modes.specs.expectations.Checks.{check_answer};
     ghost use Rattle.debug_lines.specs.Expectations.{expect_request_of};
     ghost use Rattle.debug_lines.specs.DebugRequests.{Find, Form, view_request_of};
-    ghost use Rattle.debug_session.specs.DebugScript.{checked_answer, forget_answer, machine_change_answer, put_answer, reset_answer, seen_of, set_pc_answer, set_psr_answer, view_text, view_answer, write_answer};
+    ghost use Rattle.debug_session.specs.DebugScript.{checked_answer, forget_answer, machine_change_answer, put_answer, reset_answer, seen_of, set_pc_answer, set_psr_answer, view_answer, write_answer};
     ghost use Rattle.debug_session.specs.DebugState.{IsDebugged};
     ghost use Rattle.debug_session.specs.Session.{debug_state};
     ghost use Rattle.debug_tables.specs.run_meter.MachineState.{stop_of};
-    ghost use Rattle.debug_tables.specs.run_meter.GuestState.{state_of};
-
-    /// Writes what a line shows that only looks.
-    fn show_view<W: Sink>(&self, sink: &mut W, view: DebugView) -> Result<(), WriteFault>
-        ensures { Writes W.contents W.has_failed sink.old sink.new result
-            (view_text self.now.labels (state_of self.now.session.machine.guest) (view_request_of view)) }
-    {
-        let machine = self.session.machine();
-        let labels = &self.labels;
-        match view {
-            DebugView::Words(address, count) => {
-                show_words(machine, address.address(), count, sink)
-            }
-            DebugView::Where => show_where(labels, machine, sink),
-            DebugView::Banks => show_banks(machine, sink),
-            DebugView::Stack(count) => show_stack(labels, machine, count, sink),
-            DebugView::Frames => show_frames(labels, machine, sink),
-            DebugView::Labels => names_on(labels, machine).show_labels(sink),
-            DebugView::Dump(address, count) => show_dump(machine, address, count, sink),
-            DebugView::Why => show_why(machine, sink),
-            DebugView::Help => push_all(sink, HELP),
-        }
-    }
-
-    // What such a line shows.
-    fn view_text(&self, view: DebugView) -> Result<Vec<u8>, AllocError>
-        ensures { IfOk result (λ text. text.items
-            ≡ view_text self.now.labels (state_of self.now.session.machine.guest) (view_request_of view)) }
-    {
-        let mut text = TextSink::new(self.alloc);
-        match self.show_view(&mut text, view) {
-            Ok(()) => Ok(text.into_bytes()),
-            Err(_) => Err(AllocError),
-        }
-    }
 
     /// Answers a line that only looks.
     pub(crate) fn look<W: Sink>(&mut self, sink: &mut W, view: DebugView) -> Result<(), RunError>
@@ -84,7 +45,8 @@ impl DebugSession {
         ensures setting { self.new.setting ≡ self.old.setting }
         ensures ends { EndsAtOnce W.has_failed sink.old sink.new result }
     {
-        let text = self.view_text(view)?;
+        let machine = self.session.machine();
+        let text = view_text(self.alloc, &self.labels, machine, view)?;
         Ok(self.view(sink, text)?)
     }
 
