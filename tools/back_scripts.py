@@ -214,6 +214,8 @@ def made(choice: random.Random) -> Script:
             lines.append(changing(choice))
         elif kind < 30:
             lines.append(going_back(choice))
+            if choice.randrange(3) == 0:
+                lines.append(f"BACK TO {choice.randrange(20)}")
         elif kind < 35:
             lines.append(choice.choice(QUESTIONS))
         elif kind < 39:

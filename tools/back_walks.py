@@ -88,6 +88,7 @@ class Entry:
     when: str = ""
     shown: str = ""
     path: list[Unit] = field(default_factory=list)
+    ahead: list[Unit] = field(default_factory=list)
     now: list[Unit] = field(default_factory=list)
     is_known: bool = True
 
@@ -196,6 +197,7 @@ class Walk:
         self.singles = singles
         self.is_known, self.has_stub = True, False
         self.path = [singles.begin(script, self.read)]
+        self.ahead: list[Unit] = []
         self.is_there = True
         self.entries = entries
         self.wrong: list[str] = []
@@ -205,15 +207,15 @@ class Walk:
 
     def walk(self, entry: Entry) -> None:
         text = entry.text
-        entry.path = [*self.path]
+        entry.path, entry.ahead = [*self.path], [*self.ahead]
         total = steps_of(self.path)
         if text == "RESET":
-            self.path, self.is_known, self.is_there = self.path[:1], True, False
+            self.path, self.ahead, self.is_known, self.is_there = self.path[:1], [], True, False
         elif text in back_scripts.LOSING:
             # an image that is added where nothing is done, or where all was undone, loses nothing
             is_first = text.startswith("ASM") and len(self.path) == 1
-            if not is_first and not entry.answer.startswith("refused"):
-                self.is_known = False
+            if not entry.answer.startswith("refused"):
+                self.is_known, self.ahead = self.is_known and is_first, []
         elif text.startswith(("STUB", "UNSTUB")):
             self.has_stub = text.startswith("STUB")
         elif not self.is_known:
@@ -251,9 +253,10 @@ class Walk:
             self.singles.done(unit)
             self.is_there = True
         self.path.append(unit)
+        self.ahead = []
 
     def go_back(self, entry: Entry, total: int) -> None:
-        """Cuts the path where the line says that it went; that this is right is looked at later."""
+        """Cuts the path where the line says that it went, and what lies ahead; that this is right is looked at later."""
         self.is_there = False
         words = entry.text.upper().split()
         found = re.search(r" step (\d+)\n$", entry.answer)
@@ -261,8 +264,11 @@ class Walk:
             last = self.path[-1].line
             while self.path[-1].line == last:
                 self.path.pop()
+            self.ahead = []
         elif words[0] == "BACK" and found:
-            self.path = until(self.path, int(found[1]))
+            whole = [*self.path, *self.ahead]
+            self.path = until(whole, int(found[1]))
+            self.ahead = whole[len(self.path) :]
 
     # what is looked at once all that was shown is known
 
@@ -309,6 +315,7 @@ class Walk:
 
     def wanted_back(self, entry: Entry) -> str:
         words, total = entry.text.upper().split(), steps_of(entry.path)
+        whole = [*entry.path, *entry.ahead]
         if words[0] == "UNDO":
             if len(entry.path) == 1:
                 return NO_HISTORY
@@ -326,12 +333,12 @@ class Walk:
             if goal is None:
                 return "refused NotThere\n"
         elif words[1:2] == ["TO"]:
-            goal = int(words[2])
+            goal, total = int(words[2]), steps_of(whole)
         else:
             goal = total - int(words[1] if words[1:] else 1)
         if not 0 <= goal <= total:
             return NO_HISTORY
-        where = self.behind(until(entry.path, goal)).parts[1].partition("\n")[0]
+        where = self.behind(until(whole, goal)).parts[1].partition("\n")[0]
         return f"{where} step {goal}\n"
 
     def differences(self) -> list[str]:
