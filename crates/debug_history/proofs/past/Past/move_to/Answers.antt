@@ -17,7 +17,8 @@ count_steps-self-inside-requires c =
 pub invariant_of-self-2 : goal.invariant_of-self-2
 invariant_of-self-2 c =
     let items : List Act = c.split_at.new.acts.items in
-    let both = ap steps_of_acts c.in_ok-done.ensures.items ∙ both_count c.self.inside.acts.items c.args.step in
-    (front_within _ _ items c.in_ok-done.done c.in_ok-done.ensures.items c.in_ok-done.ensures.count,
-     c.count_steps-self-inside.ensures ∙ ap (λ (xs : List Act). steps_of_acts (take c.in_ok-done.done xs)) c.as_slice.ensures.value,
-     c.self.invariant.2 ∙ sym both)
+    let both = ap steps_of_acts c.in_ok-done.ensures.items ∙ both_count c.self.inside.acts.items c.args.step in (
+      front_within _ _ items c.in_ok-done.done c.in_ok-done.ensures.items c.in_ok-done.ensures.count,
+      c.count_steps-self-inside.ensures ∙ ap (λ (xs : List Act). steps_of_acts (take c.in_ok-done.done xs)) c.as_slice.ensures.value,
+      c.self.invariant.2 ∙ sym both,
+    )
