@@ -34,7 +34,7 @@ sent_append files [] next s = refl
 sent_append files (x ∷ more) next s =
     let head : Served = bytes_served (x.byte ∷ []) (renewed_before files x.found s) in
     let rest : Served = sent_served files more head.state in
-    ap (λ (then : Served). record { state = then.state; text = head.text ++ then.text }) (sent_append files more next head.state)
+    ap (λ (later : Served). record { state = later.state; text = head.text ++ later.text }) (sent_append files more next head.state)
     ∙ ap (λ (text : List ℕ). record { state = (sent_served files next rest.state).state; text = text })
     (sym (append_assoc head.text rest.text (sent_served files next rest.state).text))
 
@@ -143,10 +143,12 @@ unread [] = []
 unread (byte ∷ bytes) = record { byte = byte; found = None } ∷ unread bytes
 
 unread_bytes : (bytes : List ℕ) → map (λ x. x.byte) (unread bytes) ≡ bytes
+unfolding unread
 unread_bytes [] = refl
 unread_bytes (byte ∷ bytes) = ap (λ (xs : List ℕ). byte ∷ xs) (unread_bytes bytes)
 
 unread_found : {F : Type 0} (of_file : F → Option (List ℕ)) (wanted : WantedGdb) (bytes : List ℕ) → AreAllFound of_file wanted (unread bytes)
+unfolding unread
 unread_found of_file wanted [] = tt
 unread_found of_file wanted (byte ∷ bytes) = (tt, unread_found of_file wanted bytes)
 
