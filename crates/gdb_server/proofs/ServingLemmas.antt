@@ -5,6 +5,7 @@ use Rattle.std.proofs.lemmas.Bool.{cases_Bool, cases_lt}
 use Rattle.std.proofs.lemmas.List.{append-nil, take_min}
 use Rattle.std.proofs.Math.Seq.{drop-cons}
 use Rattle.gdb_machine.specs.Loads.{LoadState}
+use Rattle.gdb_packets.specs.Fixed.{keeps_acks}
 use Rattle.gdb_packets.specs.Reading.{Reading, byte_taken}
 use Rattle.gdb_packets.specs.Requests.{GdbRequest, packet_request}
 use Rattle.gdb_packets.specs.declared.reader.Piece.{Piece}
@@ -146,6 +147,13 @@ ends_served bytes s before here all text state none = record {
   text = Appends-from_all_but before here (bytes_served bytes s).text all.text text (ap (λ (x : Served). x.text) none);
   state = sym (ap (λ (x : Served). x.state) none) ∙ state;
 }
+
+-- whether `+` and `-` are sent from there on
+pub acks_kept : (has now : Bool) (asked : GdbRequest) → has ≡ true → now ≡ keeps_acks asked → now ≡ acks_after has asked
+acks_kept has now asked is kept = subst (λ (b : Bool). now ≡ acks_after b asked) (sym is) kept
+
+pub acks_gone : (has now : Bool) (asked : GdbRequest) → has ≡ false → now ≡ false → now ≡ acks_after has asked
+acks_gone has now asked is none = subst (λ (b : Bool). now ≡ acks_after b asked) (sym is) none
 
 -- a packet that was answered, with the answer as it was written
 pub packet_kept : (s : ServerState) (session : GdbState) (acks : Bool) (last begins written : List ℕ) (loads : LoadState) (answer : GdbAnswer)

@@ -1,5 +1,5 @@
 -- A `run`, and packets that are taken one after another.
-use Rattle.std.proofs.Common.{◌≡◌, ◌<◌, ◌≤◌, ◌+◌, ℕ, Bool, true, false, List, [], ◌∷◌, length, get_or, drop, map, ap, subst, sym, ◌∙◌}
+use Rattle.std.proofs.Common.{◌≡◌, ◌<◌, ◌≤◌, ◌+◌, ℕ, Bool, true, false, List, [], ◌∷◌, length, get_or, drop, map, refl, ap, subst, sym, ◌∙◌}
 use Rattle.std.specs.Prelude.{Some, Result, IfOk, codes, option_map, if◌then◌else◌}
 use Rattle.std.proofs.lemmas.List.{at_drop_all, at_drop_more}
 use Rattle.command_shell.specs.declared.error.RunError.{RunError}
