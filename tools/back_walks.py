@@ -77,7 +77,8 @@ class Unit:
 
 @dataclass
 class Entry:
-    """A line that was asked, where an address it names stands, and what has to be compared of it."""
+    """A line that was asked, where an address it names stands, and what has to be compared of it: what was done
+    before it and behind it, and what lay ahead then."""
 
     text: str
     number: int
@@ -90,6 +91,7 @@ class Entry:
     path: list[Unit] = field(default_factory=list)
     ahead: list[Unit] = field(default_factory=list)
     now: list[Unit] = field(default_factory=list)
+    left: list[Unit] = field(default_factory=list)
     is_known: bool = True
 
 
@@ -203,7 +205,7 @@ class Walk:
         self.wrong: list[str] = []
         for entry in entries:
             self.walk(entry)
-            entry.now, entry.is_known = [*self.path], self.is_known
+            entry.now, entry.left, entry.is_known = [*self.path], [*self.ahead], self.is_known
 
     def walk(self, entry: Entry) -> None:
         text = entry.text
@@ -225,7 +227,7 @@ class Walk:
         elif back_scripts.takes_steps(text) and self.has_stub and self.may_be_stubbed(entry):
             self.is_known = False
         elif back_scripts.takes_steps(text) or back_scripts.is_change(text):
-            now = re.fullmatch(r"step (\d+)\n", entry.when)
+            now = re.fullmatch(r"step (\d+)( of \d+)?\n", entry.when)
             taken = int(now[1]) - total if now else 0
             if not now or taken < 0 or taken > 2 * BUDGET:
                 self.wrong.append(f"{text}: WHEN {entry.when!r} behind step {total}")
@@ -357,7 +359,9 @@ class Walk:
             found = entry.answer[:6] if wanted == "? line" else entry.answer
             if wanted is not None and found != wanted:
                 self.wrong.append(f"{entry.text}: {entry.answer!r}, and not {wanted!r}")
-            when = f"step {steps_of(entry.now)}\n" if entry.is_known else NO_HISTORY
+            count, left = steps_of(entry.now), steps_of(entry.left)
+            when = f"step {count} of {count + left}\n" if left else f"step {count}\n"
+            when = when if entry.is_known else NO_HISTORY
             if entry.when != when:
                 self.wrong.append(f"{entry.text}: WHEN {entry.when!r}, and not {when!r}")
             if entry.shown and entry.is_known and entry.shown != (there := self.behind(entry.now).parts[1]):

@@ -68,7 +68,8 @@ past_asked labels sizes budget s p (BackTo step) = back_to labels sizes budget s
 past_asked labels sizes budget s p (BackUntil address) =
     back_until labels sizes budget s p (last_in_past sizes s p (sought.Stood address))
 past_asked labels sizes budget s p Undo = undone sizes budget s p (line_of_last_act p.acts)
-past_asked labels sizes budget s p When = past_shown s p (when_text (steps_of_acts p.acts))
+past_asked labels sizes budget s p When =
+    past_shown s p (when_text (steps_of_acts p.acts) (steps_of_acts (p.acts ++ p.ahead)))
 past_asked labels sizes budget s p (Last x) =
     past_shown s p (last_seen_text x (steps_of_acts p.acts) (last_in_past sizes s p x))
 

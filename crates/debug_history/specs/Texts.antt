@@ -1,5 +1,5 @@
 -- The texts of what lines are answered that have to do with the past.
-use Rattle.std.specs.Prelude.{ℕ, ◌-◌, ◌++◌, length, take, drop, List, codes, Option, Some, None, Bool, true, false}
+use Rattle.std.specs.Prelude.{ℕ, ◌-◌, ◌++◌, nat_lt, length, take, drop, List, [], codes, Option, Some, None, Bool, true, false, if◌then◌else◌}
 use Rattle.std.specs.Fmt.{decimal}
 use Rattle.arm_core.specs.declared.psr.Mode.{Mode}
 use Rattle.arm_core.specs.declared.psr.Mode.TheVariants.{User, FastInterrupt, Interrupt, Supervisor}
@@ -25,9 +25,10 @@ abbrev pub text_with_step : List ℕ → ℕ → List ℕ
 text_with_step place step =
     take (length place - 1) place ++ (codes " step " ++ (decimal step ++ codes "\n"))
 
--- `step 36`
-abbrev pub when_text : ℕ → List ℕ
-when_text steps = codes "step " ++ (decimal steps ++ codes "\n")
+-- `step 36`, or `step 36 of 39` where three steps lie ahead
+abbrev pub when_text : ℕ → ℕ → List ℕ
+when_text steps all = codes "step " ++ (decimal steps
+    ++ ((if nat_lt steps all then codes " of " ++ decimal all else []) ++ codes "\n"))
 
 -- `undone line 14, at step 0`
 abbrev pub undone_text : ℕ → ℕ → List ℕ

@@ -112,7 +112,7 @@ impl Past {
                 self.back_until(setting, session, images, labels, address.address())
             }
             PastCommand::Undo => self.undo_last(setting, session, images),
-            PastCommand::When => Ok(when_line(setting.alloc, steps)?),
+            PastCommand::When => Ok(when_line(setting.alloc, steps, self.all_steps())?),
             PastCommand::Last(sought) => {
                 let found = self.last(setting.alloc, images, setting.config, sought)?;
                 Ok(last_seen_line(setting.alloc, &sought, steps, found)?)

@@ -30,11 +30,15 @@ pub(crate) fn push_step(place: &mut Vec<u8>, step: u64) -> Result<(), AllocError
 /// # Errors
 ///
 /// Memory ran out.
-pub(crate) fn when_line(alloc: Global, steps: u64) -> Result<Vec<u8>, AllocError>
-    ensures { IfOk result (λ text. text.items ≡ when_text steps) }
+pub(crate) fn when_line(alloc: Global, steps: u64, all: u64) -> Result<Vec<u8>, AllocError>
+    ensures { IfOk result (λ text. text.items ≡ when_text steps all) }
 {
     let mut text = Vec::from_slice(alloc, b"step ")?;
     push_number(&mut text, steps)?;
+    if all > steps {
+        text.extend_from_slice(b" of ")?;
+        push_number(&mut text, all)?;
+    }
     text.push(b'\n')?;
     Ok(text)
 }
