@@ -1,7 +1,7 @@
 //! Labels and places as text.
 
 ghost use Rattle.std.specs.Prelude.{◌≡◌, Some};
-ghost use Rattle.std.specs.List.{flat_map};
+ghost use Rattle.std.specs.List.{flat_map, list_any};
 ghost use Rattle.profile.specs.Output.{Writes};
 ghost use Rattle.debug_labels.specs.Places.{place_of, shown_of_place_label};
 ghost use Rattle.debug_labels.specs.Views.{label_line, labels_text, first_names_of, has_labels, hinted_text, label_hint, last_names_text, labels_text_from, labels_text_of, no_label_text, place_line, spaced_name, spaced_place_text};
@@ -78,11 +78,17 @@ fn push_last_names<W: Sink>(images: &[LabelledImage], sink: &mut W) -> Result<()
     ensures { Writes W.contents W.has_failed sink.old sink.new result (last_names_text images.now) }
 {
     let last = &images[images.len() - images.len().min(HINTED_IMAGES)..];
-    if last.iter().any(|image| image.has_labels()) {
+    if have_labels(last) {
         push_hinted(last, sink)
     } else {
         push_all(sink, b" (the last blocks have none; LABELS lists all)")
     }
+}
+
+fn have_labels(images: &[LabelledImage]) -> bool
+    ensures { result ≡ list_any has_labels images.now }
+{
+    images.iter().any(|image| image.labels.len() > 0)
 }
 
 // Labels of some images, and which line lists all.
@@ -130,12 +136,6 @@ fn show_images<W: Sink>(
 }
 
 impl LabelledImage {
-    fn has_labels(&self) -> bool
-        ensures { result ≡ has_labels self.now }
-    {
-        self.labels.len() > 0
-    }
-
     fn push_first_names<W: Sink>(&self, sink: &mut W) -> Result<(), WriteFault>
         ensures { Writes W.contents W.has_failed sink.old sink.new result (first_names_of self.now) }
     {
