@@ -1,11 +1,12 @@
 -- A line that goes back or looks into the past, and one that is none of the language.
-use Rattle.std.proofs.Common.{◌≡◌, ℕ, List, [], Option, Some, None, ap, subst, ◌∙◌}
+use Rattle.std.proofs.Common.{◌≡◌, ℕ, List, [], Option, Some, None, ap, subst, sym, ◌∙◌}
 use Rattle.std.specs.Prelude.{unwrap_or}
 use Rattle.std.specs.Option.{option_map}
 use Rattle.debug_tables.specs.run_meter.State.{ScriptState}
-use Rattle.debug_history.specs.Answers.{PastAnswered, past_after_past, script_after_past}
+use Rattle.debug_history.specs.Answers.{PastAnswered, past_after_past, past_line_answered, script_after_past}
 use Rattle.debug_history.specs.Past.{PastState}
-use Rattle.debug_session.specs.DebugScript.{past_line_by, unknown_answer, view_answer}
+use Rattle.debug_session.specs.DebugScript.{past_line_by, past_line_or_steps, unknown_answer, view_answer}
+use Rattle.debug_session.specs.LastSteps.{last_steps_answer}
 use Rattle.debug_session.specs.DebugState.{DebugAnswered, DebugState, IsDebugged}
 use Rattle.debug_session.specs.declared.session.DebugSettings.{DebugSettings}
 
@@ -33,3 +34,18 @@ pub past_refused : (c : DebugSettings) (d mid : DebugState) (number : ℕ) (line
     → unknown_answer c mid number line ≡ past_line_by c d number line o
 past_refused c d mid number line None is same = ap (λ (x : DebugState). unknown_answer c x number line) same
 past_refused c d mid number line (Some a) is same = absurd (cc)
+
+-- LAST STEPS, where it is asked for
+pub steps_viewed : (before after : Option (List ℕ)) (c : DebugSettings) (d mid now : DebugState) (number : ℕ) (line text : List ℕ)
+    (o : Option ℕ) (count : ℕ) → o ≡ Some count → mid ≡ d → text ≡ last_steps_answer c d count
+    → IsDebugged before after now (view_answer c mid text) → IsDebugged before after now (past_line_or_steps c d number line o)
+steps_viewed before after c d mid now number line text o count is same said shown =
+    subst (λ (x : Option ℕ). IsDebugged before after now (past_line_or_steps c d number line x)) (sym is)
+    (subst (λ (x : DebugAnswered). IsDebugged before after now x) (λ i. view_answer c (same i) (said i)) shown)
+
+pub steps_not_asked : (before after : Option (List ℕ)) (c : DebugSettings) (d now : DebugState) (number : ℕ) (line : List ℕ)
+    (o : Option ℕ) → o ≡ None
+    → IsDebugged before after now (past_line_by c d number line (past_line_answered d.labels c.config c.budget d.script d.past line))
+    → IsDebugged before after now (past_line_or_steps c d number line o)
+steps_not_asked before after c d now number line o none shown =
+    subst (λ (x : Option ℕ). IsDebugged before after now (past_line_or_steps c d number line x)) (sym none) shown

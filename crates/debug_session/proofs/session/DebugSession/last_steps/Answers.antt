@@ -23,13 +23,13 @@ loop-act-init c =
     record {
       beside = beside_same start now start same (beside_itself start);
       text = text_begins d.labels start now c.saturating_sub-skipped.result c.steps.result c.saturating_sub-counted.result c.args.count
-          c.is_faulted.result (is_faulted d.script.machine.halt) c.new-text.result.items c.acts.result.now d.past.acts
-          c.new-text.ensures.items same c.acts.ensures c.steps.ensures faulted c.saturating_sub-counted.ensures c.saturating_sub-skipped.ensures;
+          c.is_faulted.result (is_faulted d.script.machine.halt) c.new-text.result.items c.acts-acts.result.now d.past.acts
+          c.new-text.ensures.items same c.acts-acts.ensures c.steps.ensures faulted c.saturating_sub-counted.ensures c.saturating_sub-skipped.ensures;
     }
 
 pub loop-act-preserved : goal.loop-act-preserved
 loop-act-preserved c =
-    let acts : List Act = c.acts.result.now in
+    let acts : List Act = c.acts-acts.result.now in
     let i : ℕ = c.loop-act.act-index in
     let below : i < length acts = omega arith in
     let images = c.args.images.now in
@@ -48,17 +48,17 @@ loop-act-preserved c =
 
 pub returns-then-is_empty-clause-text : goal.returns-then-is_empty-clause-text
 returns-then-is_empty-clause-text c =
-    let acts : List Act = c.acts.result.now in
+    let acts : List Act = c.acts-acts.result.now in
     let i : ℕ = c.loop-act.act-index in
     let all : length acts ≤ i = omega arith in
     let start = script_start_state c.args.self.now.setting.config c.args.images.now 0 in
     let whole = text_whole c.args.self.now.labels start c.loop-act.skipped acts i
     (moment_of_script (script_state c.loop-act.session c.loop-act.images)) c.loop-act.text.items _ all c.loop-act.invariant.text in
-    none_to_show c.in_ok-refused_line.value.items _ c.loop-act.text.items _ c.in_ok-refused_line.ensures whole c.is_empty.ensures c.if-is_empty.true
+    none_to_show c.in_ok-refused_line.field-0.items _ c.loop-act.text.items _ c.in_ok-refused_line.ensures whole c.is_empty.ensures c.if-is_empty.true
 
 pub returns-clause-text : goal.returns-clause-text
 returns-clause-text c =
-    let acts : List Act = c.acts.result.now in
+    let acts : List Act = c.acts-acts.result.now in
     let i : ℕ = c.loop-act.act-index in
     let all : length acts ≤ i = omega arith in
     let start = script_start_state c.args.self.now.setting.config c.args.images.now 0 in

@@ -1,30 +1,52 @@
--- The answer is that of a line of the past, or there is none.
-use Rattle.std.proofs.Common.{subst, sym}
+-- The answer is that of the last steps, or of a line of the past, or there is none.
+use Rattle.std.proofs.Common.{List, Option, ℕ, ap, subst, sym, ◌∙◌}
 use Rattle.std.specs.Prelude.{OnOk}
+use Rattle.image_loader.specs.Entries.{Entry}
 use Rattle.debug_history.specs.Answers.{past_line_answered}
+use Rattle.debug_history.specs.Lines.{last_steps_asked}
+use Rattle.debug_session.specs.DebugScript.{past_line_or_steps}
 use Rattle.debug_session.specs.DebugState.{DebugAnswered, IsDebugged}
 use Rattle.debug_session.specs.Session.{debug_state}
-use Rattle.debug_session.proofs.PastLineLemmas.{past_moved, past_refused, past_shown}
+use Rattle.debug_session.proofs.PastLineLemmas.{past_moved, past_refused, past_shown, steps_not_asked, steps_viewed}
 use Rattle.debug_session.proofs.session.DebugSession.past_line.Goals as goal
 
-pub returns-in_ok-view-in-Some-clause-reported : goal.returns-in_ok-view-in-Some-clause-reported
-returns-in_ok-view-in-Some-clause-reported g c =
+pub returns-in-Some-clause-reported : goal.returns-in-Some-clause-reported
+returns-in-Some-clause-reported g c =
+    let old = c.args.self.now in
+    let d = debug_state old c.args.images.now in
+    let asked = sym c.last_steps_asked.ensures ∙ c.in-Some.is in
+    steps_viewed (g.W.Sink.contents c.args.sink.now) (g.W.Sink.contents c.view.new.sink) old.setting d
+    (debug_state old c.last_steps.new.images) (debug_state c.view.new.self c.last_steps.new.images) c.args.number c.args.words.now
+    c.in_ok-text.text.items (last_steps_asked c.args.words.now) c.in-Some.count asked
+    (ap (λ (es : List Entry). debug_state old es) c.in_ok-text.ensures.images) c.in_ok-text.ensures.text
+    (c.in_ok-view.ensures.reported c.last_steps.new.images)
+
+pub returns-in_ok-view-in-Some-2-clause-reported : goal.returns-in_ok-view-in-Some-2-clause-reported
+returns-in_ok-view-in-Some-2-clause-reported g c =
     let old = c.args.self.now in
     let d = debug_state old c.args.images.now in
     let o = past_line_answered d.labels old.setting.config old.setting.budget d.script d.past c.args.words.now in
-    past_shown (g.W.Sink.contents c.args.sink.now) (g.W.Sink.contents c.view.new.sink) old.setting d _
-    (debug_state c.view.new.self c.answer_line.new.images) c.args.number c.args.words.now c.in-Some.text.items o
-    (rw c.in-Some.is at c.in_ok-text.ensures.text)
-    (past_moved d _ _ o c.in_ok-text.ensures.script c.in_ok-text.ensures.past)
-    (c.in_ok-view-in-Some.ensures.reported c.answer_line.new.images)
+    let none = sym c.last_steps_asked.ensures ∙ c.in_default.is in
+    steps_not_asked (g.W.Sink.contents c.args.sink.now) (g.W.Sink.contents c.view-in-Some-2.new.sink) old.setting d
+    (debug_state c.view-in-Some-2.new.self c.answer_line.new.images) c.args.number c.args.words.now
+    (last_steps_asked c.args.words.now) none
+    (past_shown (g.W.Sink.contents c.args.sink.now) (g.W.Sink.contents c.view-in-Some-2.new.sink) old.setting d _
+    (debug_state c.view-in-Some-2.new.self c.answer_line.new.images) c.args.number c.args.words.now c.in-Some-2.text.items o
+    (rw c.in-Some-2.is at c.in_ok-text-2.ensures.text)
+    (past_moved d _ _ o c.in_ok-text-2.ensures.script c.in_ok-text-2.ensures.past)
+    (c.in_ok-view-in-Some-2.ensures.reported c.answer_line.new.images))
 
 pub returns-in-None-clause-reported : goal.returns-in-None-clause-reported
 returns-in-None-clause-reported g c =
     let old = c.args.self.now in
     let d = debug_state old c.args.images.now in
     let o = past_line_answered d.labels old.setting.config old.setting.budget d.script d.past c.args.words.now in
-    subst (λ (x : DebugAnswered). OnOk c.refuse.result (IsDebugged (g.W.Sink.contents c.args.sink.now)
+    let none = sym c.last_steps_asked.ensures ∙ c.in_default.is in
+    subst (λ (x : Option ℕ). OnOk c.refuse.result (IsDebugged (g.W.Sink.contents c.args.sink.now)
+    (g.W.Sink.contents c.refuse.new.sink) (debug_state c.refuse.new.self c.answer_line.new.images)
+    (past_line_or_steps old.setting d c.args.number c.args.words.now x))) (sym none)
+    (subst (λ (x : DebugAnswered). OnOk c.refuse.result (IsDebugged (g.W.Sink.contents c.args.sink.now)
     (g.W.Sink.contents c.refuse.new.sink) (debug_state c.refuse.new.self c.answer_line.new.images) x))
-    (past_refused old.setting d _ c.args.number c.args.words.now o (sym (rw c.in-None.is at c.in_ok-text.ensures.text))
-    (past_moved d _ _ o c.in_ok-text.ensures.script c.in_ok-text.ensures.past))
-    (c.refuse.ensures.reported c.answer_line.new.images)
+    (past_refused old.setting d _ c.args.number c.args.words.now o (sym (rw c.in-None.is at c.in_ok-text-2.ensures.text))
+    (past_moved d _ _ o c.in_ok-text-2.ensures.script c.in_ok-text-2.ensures.past))
+    (c.refuse.ensures.reported c.answer_line.new.images))

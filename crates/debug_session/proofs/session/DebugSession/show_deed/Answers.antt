@@ -44,53 +44,53 @@ pub returns-clause-moment : goal.returns-clause-moment
 returns-clause-moment c =
     let labels = c.args.self.now.labels in
     let s = script_state c.args.session.now c.args.images.now in
-    let images = c.deed_again-in-Some.new.images in
+    let images = c.deed_again-2.new.images in
     let first = script_at_past s (moment_after_steps s.images c.args.skipped (moment_of_script s)) in
-    let one = script_state c.deed_again-in-Some.new.session images in
+    let one = script_state c.deed_again-2.new.session images in
     let three = script_state c.set_last.new.self images in
     let shown = script_state c.answer_stepping.new.session images in
-    let last = script_state c.deed_again-in-Some-2.new.session c.deed_again-in-Some-2.new.images in
+    let last = script_state c.deed_again-3.new.session c.deed_again-3.new.images in
     let request = stepping_request_of c.in-Some.command in
     let stopped = c.stop.ensures.halt ∙ ap (λ (m : MachineValue). option_map stop_of m.guest.halt) c.machine.ensures in
     let up = up_where s.machine.halt c.stop.result c.is_some.result c.is_some.ensures stopped c.if-is_some.false in
     let is = ap (λ o. option_map taken_steps o) (sym c.in-Some.is) ∙ c.steps_behind.ensures in
     let there = traced_at s one (script_state c.set_budget.new.self images) three
     (moment_after_steps s.images c.args.skipped (moment_of_script s)) c.in-Some.count
-    c.in_ok-deed_again-in-Some.ensures.moment (c.set_budget.ensures images) (c.set_last.ensures images) in
+    c.in_ok-deed_again.ensures.moment (c.set_budget.ensures images) (c.set_last.ensures images) in
     let bare = bare_modes c.new-modes.result c.new-modes.ensures.stubs c.new-modes.ensures.watches in
     let same = c.in_ok-shown.ensures.reported.state
     ∙ ap (λ (m : StepModes). (stepping_answer m labels (Some c.in-Some.count) three request).now) bare
     ∙ ap (λ (t : ScriptState). (stepping_answer _ labels (Some c.in-Some.count) t request).now) there in
-    and_so c.deed_again-in-Some-2.result (IsAtMoment shown last
+    and_so c.deed_again-3.result (IsAtMoment shown last
     (moment_after_steps shown.images c.left-left.result (moment_of_script shown)))
     (IsAtMoment s last (moment_after_deed s.images s.sizes c.args.deed.now (moment_of_script s)))
     (deed_done labels s shown last c.args.skipped c.left-left.result c.args.deed.now (request, c.in-Some.count) up is same
-    (c.left-left.ensures images)) c.deed_again-in-Some-2.ensures.moment
+    (c.left-left.ensures images)) c.deed_again-3.ensures.moment
 
 pub returns-clause-text : goal.returns-clause-text
 returns-clause-text c =
     let labels = c.args.self.now.labels in
     let s = script_state c.args.session.now c.args.images.now in
-    let images = c.deed_again-in-Some.new.images in
-    let one = script_state c.deed_again-in-Some.new.session images in
+    let images = c.deed_again-2.new.images in
+    let one = script_state c.deed_again-2.new.session images in
     let three = script_state c.set_last.new.self images in
     let shown = script_state c.answer_stepping.new.session images in
-    let last = script_state c.deed_again-in-Some-2.new.session c.deed_again-in-Some-2.new.images in
+    let last = script_state c.deed_again-3.new.session c.deed_again-3.new.images in
     let request = stepping_request_of c.in-Some.command in
     let stopped = c.stop.ensures.halt ∙ ap (λ (m : MachineValue). option_map stop_of m.guest.halt) c.machine.ensures in
     let up = up_where s.machine.halt c.stop.result c.is_some.result c.is_some.ensures stopped c.if-is_some.false in
     let is = ap (λ o. option_map taken_steps o) (sym c.in-Some.is) ∙ c.steps_behind.ensures in
     let there = traced_at s one (script_state c.set_budget.new.self images) three
     (moment_after_steps s.images c.args.skipped (moment_of_script s)) c.in-Some.count
-    c.in_ok-deed_again-in-Some.ensures.moment (c.set_budget.ensures images) (c.set_last.ensures images) in
+    c.in_ok-deed_again.ensures.moment (c.set_budget.ensures images) (c.set_last.ensures images) in
     let bare = bare_modes c.new-modes.result c.new-modes.ensures.stubs c.new-modes.ensures.watches in
     let same = c.in_ok-shown.ensures.reported.reported
     ∙ ap (λ (m : StepModes). (stepping_answer m labels (Some c.in-Some.count) three request).text) bare
     ∙ ap (λ (t : ScriptState). (stepping_answer _ labels (Some c.in-Some.count) t request).text) there in
-    and_so c.deed_again-in-Some-2.result (IsAtMoment shown last
+    and_so c.deed_again-3.result (IsAtMoment shown last
     (moment_after_steps shown.images c.left-left.result (moment_of_script shown)))
     (c.extend_from_slice.new.self.items ≡ c.args.text.now.items ++ text_of_deed labels s c.args.skipped c.args.deed.now (moment_of_script s))
     (λ at. shown_text labels s c.args.skipped c.args.deed.now (request, c.in-Some.count) c.args.text.now.items
     c.extend_from_slice.new.self.items c.in_ok-shown.shown.text.items up is same
     (c.in_ok-extend_from_slice.ensures.items ∙ ap (λ (xs : List ℕ). c.args.text.now.items ++ xs) c.as_slice.ensures.value))
-    c.deed_again-in-Some-2.ensures.moment
+    c.deed_again-3.ensures.moment
