@@ -4,6 +4,7 @@ use Rattle.std.specs.Prelude.{IsSome, OnOk, codes, is_some, nat_lt, unwrap_or}
 use Rattle.std.specs.Option.{option_map}
 use Rattle.std.proofs.Math.Bool.{and-false}
 use Rattle.std.proofs.lemmas.Bool.Decides.{nat_tests}
+use mir.Val.{bool_byte}
 use Rattle.std.proofs.lemmas.List.{append-nil, drop_all, drop_more}
 use Rattle.image_loader.specs.Entries.{Entry}
 use Rattle.profile.specs.Sizes.{Sizes}
@@ -363,6 +364,10 @@ and_so (Ok a) P Q more holds = more holds
 and_so (Err e) P Q more holds = record {}
 
 -- ALL STEPS
+
+pub byte_if : (b : Bool) → bool_byte b ≡ count_if b
+byte_if true = refl
+byte_if false = refl
 
 -- what is shown before the first act
 pub text_begins : (labels : List ImageLabels) (start now : ScriptState) (skipped steps counted count : ℕ) (b faulted : Bool) (text : List ℕ)

@@ -8,7 +8,7 @@ use Rattle.debug_tables.specs.run_meter.Session.{script_state}
 use Rattle.debug_tables.specs.run_meter.State.{ScriptState, script_start_state}
 use Rattle.debug_session.specs.LastSteps.{last_steps_text, text_of_acts, text_or_refused}
 use Rattle.debug_session.specs.Session.{debug_state}
-use Rattle.debug_session.proofs.LastStepsLemmas.{none_to_show, some_to_show, text_begins, text_behind, text_whole}
+use Rattle.debug_session.proofs.LastStepsLemmas.{byte_if, none_to_show, some_to_show, text_begins, text_behind, text_whole}
 use Rattle.debug_session.proofs.session.DebugSession.last_steps.Goals as goal
 
 pub loop-act-init : goal.loop-act-init
@@ -20,11 +20,12 @@ loop-act-init c =
     let now = script_state c.in_ok-session.session images in
     let same : now ≡ start = c.in_ok-session.ensures images in
     let faulted = c.is_faulted.ensures images in
+    let counted = c.saturating_sub-counted.ensures ∙ (λ i. (c.from.ensures i) - ((c.from-2.ensures ∙ byte_if c.is_faulted.result) i)) in
     record {
       beside = beside_same start now start same (beside_itself start);
       text = text_begins d.labels start now c.saturating_sub-skipped.result c.steps.result c.saturating_sub-counted.result c.args.count
           c.is_faulted.result (is_faulted d.script.machine.halt) c.new-text.result.items c.acts-acts.result.now d.past.acts
-          c.new-text.ensures.items same c.acts-acts.ensures c.steps.ensures faulted c.saturating_sub-counted.ensures c.saturating_sub-skipped.ensures;
+          c.new-text.ensures.items same c.acts-acts.ensures c.steps.ensures faulted counted c.saturating_sub-skipped.ensures;
     }
 
 pub loop-act-preserved : goal.loop-act-preserved
