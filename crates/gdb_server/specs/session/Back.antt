@@ -22,7 +22,7 @@ use Rattle.gdb_server.specs.session.Steps.{is_other_list}
 abbrev pub steps_back : PastState → ℕ
 steps_back p = if p.is_kept then steps_of_acts p.acts else 0
 
--- as it was before the step of that number; what came after is no part of the past any more
+-- as it was before the step of that number; what came after lies ahead, until something is done
 abbrev pub gone_back_to : GdbState → ℕ → GdbState
 gone_back_to g step = let p : PastState = past_until step g.debug.past in
     record g {
