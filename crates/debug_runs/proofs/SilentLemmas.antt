@@ -16,7 +16,7 @@ use Rattle.swi_dispatch_guest.specs.MachineState.{MachineState, StepOutcome}
 use Rattle.swi_dispatch_guest.specs.Run.{Run, count_after, go_on, is_among, silent_run, ran, resting, run_after_steps}
 use Rattle.swi_dispatch_guest.specs.Step.{machine_step}
 use Rattle.swi_dispatch_guest.specs.GuestState.{AreCoreSteps}
-use Rattle.debug_tables.specs.declared.stubs.Stub.{Stub}
+use Rattle.command_shell_lines.specs.declared.debug_words.stubs.Stub.{Stub}
 use Rattle.swi_dispatch_guest.proofs.RunLoop.{ran-none}
 use Rattle.command_shell.specs.Calls.{step_made}
 use Rattle.command_shell.specs.State.{ScriptState}

@@ -19,7 +19,7 @@ use Rattle.debug_history.proofs.ShellCallLemmas.{can_step}
 use Rattle.debug_tables.specs.run_meter.State.{ScriptState}
 use Rattle.debug_tables.specs.Stubs.{stubbed_step, swi_ahead}
 use Rattle.debug_tables.specs.declared.modes.StepModes.{StepModes}
-use Rattle.debug_tables.specs.declared.stubs.Stub.{Stub}
+use Rattle.command_shell_lines.specs.declared.debug_words.stubs.Stub.{Stub}
 use Rattle.debug_tables.proofs.StubLemmas.{no_stub, real_steps}
 use Rattle.debug_runs.specs.Endings.{line_end_answer, line_stop_answer}
 use Rattle.debug_runs.specs.Lines.{answer_unless}
