@@ -383,7 +383,7 @@ text_begins labels start now skipped steps counted count b faulted text acts all
 -- where nothing is shown, and where something is
 is_none : (text : List ℕ) → (length text == 0) ≡ true → text ≡ []
 is_none [] e = refl
-is_none (byte ∷ text) e = absurd (grind (arith, nat_tests, e))
+is_none (byte ∷ text) e = let never = never_none (length text) in absurd (cc (e, never))
 
 pub none_to_show : (line refused text all : List ℕ) {b : Bool} → line ≡ refused_text (codes "NoHistory") → text ≡ all
     → b ≡ (length text == 0) → b ≡ true → line ≡ text_or_refused all

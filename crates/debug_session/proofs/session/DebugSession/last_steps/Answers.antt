@@ -1,5 +1,6 @@
 -- What the acts show one after another is what all of them show.
-use Rattle.std.proofs.Common.{◌≡◌, ◌<◌, ◌≤◌, ◌+◌, ◌-◌, ◌++◌, ◌∙◌, ℕ, Bool, List, [], length, ap, arith, refl, sym}
+use Rattle.std.proofs.Common.{◌≡◌, ◌<◌, ◌≤◌, ◌+◌, ◌-◌, ◌++◌, ◌==◌, ◌∙◌, ℕ, Bool, List, [], length, ap, arith, refl, sym}
+use Rattle.std.specs.Prelude.{vec_len}
 use Rattle.debug_history.specs.Acts.{PastMoment, count_if, fresh_moment, moment_of_script, steps_of_deed}
 use Rattle.debug_history.specs.Noted.{is_faulted}
 use Rattle.debug_history.specs.declared.act.Act.{Act}
@@ -55,7 +56,8 @@ returns-then-is_empty-clause-text c =
     let start = script_start_state c.args.self.now.setting.config c.args.images.now 0 in
     let whole = text_whole c.args.self.now.labels start c.loop-act.skipped acts i
     (moment_of_script (script_state c.loop-act.session c.loop-act.images)) c.loop-act.text.items _ all c.loop-act.invariant.text in
-    none_to_show c.in_ok-refused_line.field-0.items _ c.loop-act.text.items _ c.in_ok-refused_line.ensures whole c.is_empty.ensures c.if-is_empty.true
+    let count : vec_len c.loop-act.text ≡ length c.loop-act.text.items = omega (arith, c.loop-act.text.ok.0) in
+    none_to_show c.in_ok-refused_line.field-0.items _ c.loop-act.text.items _ c.in_ok-refused_line.ensures whole (c.is_empty.ensures ∙ ap (λ (n : ℕ). n == 0) count) c.if-is_empty.true
 
 pub returns-clause-text : goal.returns-clause-text
 returns-clause-text c =
@@ -65,4 +67,5 @@ returns-clause-text c =
     let start = script_start_state c.args.self.now.setting.config c.args.images.now 0 in
     let whole = text_whole c.args.self.now.labels start c.loop-act.skipped acts i
     (moment_of_script (script_state c.loop-act.session c.loop-act.images)) c.loop-act.text.items _ all c.loop-act.invariant.text in
-    some_to_show _ c.loop-act.text.items _ whole c.is_empty.ensures c.if-is_empty.false
+    let count : vec_len c.loop-act.text ≡ length c.loop-act.text.items = omega (arith, c.loop-act.text.ok.0) in
+    some_to_show _ c.loop-act.text.items _ whole (c.is_empty.ensures ∙ ap (λ (n : ℕ). n == 0) count) c.if-is_empty.false
