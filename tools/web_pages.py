@@ -135,7 +135,10 @@ LESSONS = WEB.parent / "docs/lessons"
 LESSON_SCRIPT = re.compile(r"\bexamples/[\w/-]+\.script\b")
 # Where the editor's examples lie, and what each of these folders is called. Scripts of lessons come by their lessons.
 OF_LESSONS = "Lessons"
-GROUPS = [("play", "To play with"), ("lessons", OF_LESSONS), ("", "Examples"), ("debug", "Debugging"), ("riscos", "More SWIs")]
+GROUPS = [("play", "To play with"), ("lessons", OF_LESSONS), ("", "Examples"), ("debug", "Debugging"), ("riscos", "More SWIs"),
+          ("riscos/programs", "With more SWIs")]
+# the line of a script that says which others of the folder above come in front of it
+BEHIND = re.compile(r"^#     cat ((?:\w+\.script )+)programs/", re.MULTILINE)
 ABOUT = re.compile(r"^\| `([\w./-]+\.script)` \| (.*?) \|$", re.MULTILINE)
 
 
@@ -161,7 +164,15 @@ def example(path: Path, group: str, number: str, about: dict[str, str]) -> dict[
     if number:
         title = f"{number} {title}" if group == OF_LESSONS else f"{title} (lesson {number})"
     return {"name": key[: -len(".script")].replace("/", "-"), "group": group, "title": title, "about": about[key],
-            "file": path.name, "script": path.read_text(encoding="utf-8")}
+            "file": path.name, "script": whole_script(path)}
+
+
+def whole_script(path: Path) -> str:
+    """A script, and in front of it the others that it needs."""
+    script = path.read_text(encoding="utf-8")
+    needed = BEHIND.search(script)
+    others = [path.parent.parent / name for name in needed[1].split()] if needed else []
+    return "".join([*(other.read_text(encoding="utf-8") for other in others), script])
 
 
 def examples() -> list[dict[str, str]]:

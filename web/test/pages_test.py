@@ -103,6 +103,11 @@ class PageTest(unittest.TestCase):
         lessons = ["1 carved", "2 first fit", "3 module heap", "4 tidy", "5 flex", "6 areas", "7 module swi", "8 largest wrong",
                    "9 sum", "10 best fit"]
         self.assertEqual(titles[:11], ["use after free (lesson 11)", *lessons])
+        scripts = {each["name"]: each["script"] for each in json.loads(found[1])}
+        riscos = ROOT / "examples/riscos"
+        parts = [riscos / name for name in ("convert.script", "environment.script", "programs/hexdump.script")]
+        self.assertEqual(scripts["riscos-programs-hexdump"], "".join(path.read_text(encoding="utf-8") for path in parts))
+        self.assertEqual(scripts["riscos-convert"], parts[0].read_text(encoding="utf-8"))
         packed = re.search(r'id="wasm">(.*?)</script>', page)
         assert packed is not None
         self.assertEqual(gzip.decompress(base64.b64decode(packed[1])), b"\0asm\1\0\0\0")
