@@ -17,12 +17,12 @@ returns-in_ok-put-in-Present c images =
     (c.set_register.ensures images ∙ ap (script_with_change g.debug.script) (sym c.in-Present.is))
     (c.in_ok-put-in-Present.ensures ∙ ap (λ (n : ℕ). past_with_deed g.debug.past gdb_line (deed.Register n c.in-Present.value)) c.new-register.ensures ∙ ap (past_after_write g.debug.past) (sym c.in-Present.is))
 
-pub returns-in_ok-put-2-in-Place : goal.returns-in_ok-put-2-in-Place
-returns-in_ok-put-2-in-Place c images =
+pub returns-in_ok-put-in-Place-2 : goal.returns-in_ok-put-in-Place-2
+returns-in_ok-put-in-Place-2 c images =
     let g : GdbState = gdb_state c.args.self.now images in
     changed_so g (script_state c.wake.new.self images) _ c.args.change
     (c.wake.ensures images ∙ ap script_unhalted (c.set_pc.ensures images) ∙ ap (script_with_change g.debug.script) (sym c.in-Place.is))
-    (c.in_ok-put-2-in-Place.ensures
+    (c.in_ok-put-in-Place-2.ensures
     ∙ ap (λ (p : PastState). past_with_deed p gdb_line deed.Woken)
     (c.in_ok-put-in-Place.ensures ∙ ap (λ (n : ℕ). past_with_deed g.debug.past gdb_line (deed.Place n)) c.new-at.ensures)
     ∙ ap (past_after_write g.debug.past) (sym c.in-Place.is))
