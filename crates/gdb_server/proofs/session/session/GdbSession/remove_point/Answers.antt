@@ -7,21 +7,29 @@ use Rattle.gdb_server.specs.session.Session.{gdb_state}
 use Rattle.gdb_server.proofs.session.session.GdbSession.remove_point.Goals as goal
 
 pub returns-in-Break : goal.returns-in-Break
-returns-in-Break c = λ (images : List Entry).
-    c.remove_break.ensures.reported images
-    ∙ ap (λ (k : PointKind). remove_point_shown (gdb_state c.args.self.now images) k c.args.range) (sym c.in-Break.is)
+returns-in-Break c = record {
+  reported = λ (images : List Entry).
+      c.remove_break.ensures.reported images
+      ∙ ap (λ (k : PointKind). remove_point_shown (gdb_state c.args.self.now images) k c.args.range) (sym c.in-Break.is);
+}
 
 pub returns-in-StoreWatch : goal.returns-in-StoreWatch
-returns-in-StoreWatch c = λ (images : List Entry).
-    c.remove_watch.ensures.reported images
-    ∙ ap (λ (k : PointKind). remove_point_shown (gdb_state c.args.self.now images) k c.args.range) (sym c.in-StoreWatch.is)
+returns-in-StoreWatch c = record {
+  reported = λ (images : List Entry).
+      c.remove_watch.ensures.reported images
+      ∙ ap (λ (k : PointKind). remove_point_shown (gdb_state c.args.self.now images) k c.args.range) (sym c.in-StoreWatch.is);
+}
 
 pub returns-in-LoadWatch : goal.returns-in-LoadWatch
-returns-in-LoadWatch c = λ (images : List Entry).
-    c.remove_watch-in-LoadWatch.ensures.reported images
-    ∙ ap (λ (k : PointKind). remove_point_shown (gdb_state c.args.self.now images) k c.args.range) (sym c.in-LoadWatch.is)
+returns-in-LoadWatch c = record {
+  reported = λ (images : List Entry).
+      c.remove_watch-in-LoadWatch.ensures.reported images
+      ∙ ap (λ (k : PointKind). remove_point_shown (gdb_state c.args.self.now images) k c.args.range) (sym c.in-LoadWatch.is);
+}
 
 pub returns-in-AccessWatch : goal.returns-in-AccessWatch
-returns-in-AccessWatch c = λ (images : List Entry).
-    c.remove_watch-in-AccessWatch.ensures.reported images
-    ∙ ap (λ (k : PointKind). remove_point_shown (gdb_state c.args.self.now images) k c.args.range) (sym c.in-AccessWatch.is)
+returns-in-AccessWatch c = record {
+  reported = λ (images : List Entry).
+      c.remove_watch-in-AccessWatch.ensures.reported images
+      ∙ ap (λ (k : PointKind). remove_point_shown (gdb_state c.args.self.now images) k c.args.range) (sym c.in-AccessWatch.is);
+}
