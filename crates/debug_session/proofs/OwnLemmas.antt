@@ -23,7 +23,7 @@ use Rattle.debug_history.specs.Past.{PastState}
 use Rattle.debug_history.specs.declared.act.PastDeed.{PastDeed}
 use Rattle.image_loader.specs.Entries.{Entry}
 use Rattle.debug_tables.specs.run_meter.Session.{script_state}
-use Rattle.debug_session.specs.DebugState.{DebugAnswered, DebugState, IsDebugged}
+use Rattle.debug_session.specs.DebugState.{DebugAnswered, DebugState, IsDebugged, debug_answer}
 use Rattle.debug_session.specs.Session.{debug_state}
 use Rattle.debug_modes.specs.declared.expectations.reports.reports.CheckTally.{CheckTally}
 use Rattle.debug_session.specs.declared.session.DebugSession.{DebugSession}

@@ -17,7 +17,7 @@ use Rattle.debug_tables.specs.run_meter.Memory.{script_with_last}
 use Rattle.debug_history.specs.CallEnd.TheVariants as cend
 use Rattle.debug_history.proofs.ShellCallLemmas.{can_step}
 use Rattle.debug_tables.specs.run_meter.State.{ScriptState}
-use Rattle.debug_tables.specs.Stubs.{stubbed_step, swi_ahead}
+use Rattle.debug_tables.specs.Stubs.{stubbed_step}
 use Rattle.debug_tables.specs.declared.modes.StepModes.{StepModes}
 use Rattle.command_shell_lines.specs.declared.debug_words.stubs.Stub.{Stub}
 use Rattle.debug_tables.proofs.StubLemmas.{no_stub, real_steps}
@@ -47,7 +47,7 @@ left_by r = (line_end_answer kind.Call r.now r.ended).state
 no_stub_step : (modes : StepModes) (s : ScriptState) → modes.stubs ≡ [] → next_step modes s ≡ machine_step s.images s.machine
 no_stub_step modes s none =
     ap (λ (stubs : List Stub). stubbed_step stubs s.images s.machine) none
-    ∙ real_steps [] s.images s.machine (no_stub s.machine (swi_ahead s.machine))
+    ∙ real_steps [] s.images s.machine (no_stub s.machine)
 
 ended_called : (s : ScriptState) (e : RunEnd) → IsCalled s (left_by (run_ended s e))
 ended_called s end.Reached = called_end s cend.Returned

@@ -15,7 +15,7 @@ returns-clause-reported g c images =
     let old = c.args.self.now in
     let changed : DebugSession = record old { modes = c.change.new.self } in
     let reported = c.in_ok-text.ensures.reported in
-    let on = λ (m : MachineValue). mode_answer (state_of m.guest) old.modes (mode_request_of c.args.command.now) in
+    let on = λ (m : MachineValue). mode_answer (state_of m.guest) old.modes (mode_request_of c.args.command) in
     view_after _ _ _ (debug_state changed images) _ old.setting old.setting c.in_ok-text.text.items _ refl
     (ap (λ (m : DebugModes). let with_modes : DebugState = record (debug_state old images) { modes = m } in with_modes)
     (reported.state ∙ ap (λ (m : MachineValue). (on m).modes) c.machine-machine.ensures))
