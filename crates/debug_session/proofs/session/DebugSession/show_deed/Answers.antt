@@ -14,7 +14,7 @@ use Rattle.debug_tables.specs.run_meter.Session.{script_state}
 use Rattle.debug_tables.specs.run_meter.State.{ScriptState}
 use Rattle.debug_tables.specs.run_meter.Value.{MachineValue}
 use Rattle.profile.specs.declared.stop.Stop.{Stop}
-use Rattle.debug_session.specs.LastSteps.{script_at_past, text_of_deed}
+use Rattle.debug_session.specs.LastSteps.{no_step_modes, script_at_past, text_of_deed}
 use Rattle.debug_session.proofs.LastStepsLemmas.{and_so, bare_modes, deed_done, halted_text, no_text, shown_text, traced_at, up_where}
 use Rattle.debug_session.proofs.session.DebugSession.show_deed.Goals as goal
 
@@ -60,7 +60,7 @@ returns-clause-moment c =
     let bare = bare_modes c.new-modes.result c.new-modes.ensures.stubs c.new-modes.ensures.watches in
     let same = c.in_ok-shown.ensures.reported.state
     ∙ ap (λ (m : StepModes). (stepping_answer m labels (Some c.in-Some.count) three request).now) bare
-    ∙ ap (λ (t : ScriptState). (stepping_answer _ labels (Some c.in-Some.count) t request).now) there in
+    ∙ ap (λ (t : ScriptState). (stepping_answer no_step_modes labels (Some c.in-Some.count) t request).now) there in
     and_so c.deed_again-3.result (IsAtMoment shown last
     (moment_after_steps shown.images c.left-left.result (moment_of_script shown)))
     (IsAtMoment s last (moment_after_deed s.images s.sizes c.args.deed.now (moment_of_script s)))
@@ -86,7 +86,7 @@ returns-clause-text c =
     let bare = bare_modes c.new-modes.result c.new-modes.ensures.stubs c.new-modes.ensures.watches in
     let same = c.in_ok-shown.ensures.reported.reported
     ∙ ap (λ (m : StepModes). (stepping_answer m labels (Some c.in-Some.count) three request).text) bare
-    ∙ ap (λ (t : ScriptState). (stepping_answer _ labels (Some c.in-Some.count) t request).text) there in
+    ∙ ap (λ (t : ScriptState). (stepping_answer no_step_modes labels (Some c.in-Some.count) t request).text) there in
     and_so c.deed_again-3.result (IsAtMoment shown last
     (moment_after_steps shown.images c.left-left.result (moment_of_script shown)))
     (c.extend_from_slice.new.self.items ≡ c.args.text.now.items ++ text_of_deed labels s c.args.skipped c.args.deed.now (moment_of_script s))
