@@ -6,8 +6,8 @@ use Rattle.std.proofs.lemmas.Option.{get_or_from_slice_get, slice_get_within}
 use Rattle.std.specs.Path.{path_file_name}
 use Rattle.image_loader.specs.Entries.{Entry}
 use Rattle.gdb_packets.specs.Ahead.{is_run_ahead}
-use Rattle.gdb_server.specs.Serving.{ServerState}
-use Rattle.rosm_tools.specs.gdb.Renewed.{AreGiven, FilesRead, IsRenewed, has_others, is_other_image, renewed_before, with_image_found}
+use Rattle.gdb_server.specs.Serving.{ServerState, with_files}
+use Rattle.rosm_tools.specs.gdb.Renewed.{AreGiven, AreRead, FilesRead, IsRenewed, has_others, is_other_image, renewed_before, with_image_found, with_images}
 use Rattle.rosm_tools.specs.declared.gdb.words.WantedGdb.{WantedGdb}
 
 others_by : (images fresh : List Entry) (files : List (List ℕ)) (n : ℕ) (path : List ℕ) → slice_get files n ≡ Some path
@@ -41,6 +41,16 @@ pub others_end : (images fresh : List Entry) (files : List (List ℕ)) (n : ℕ)
 others_end images fresh files n all = at_drop_all (λ (rest : List (List ℕ)). has_others images fresh rest) files n all
 
 pub ruleset others_steps = (others_more, others_here, others_end)
+
+-- the server is given what was read
+pub given_so : {F : Type 0} (of_file : F → Option (List ℕ)) (wanted : WantedGdb) (old now : ServerState) (r : FilesRead) (is_other : Bool)
+    → AreRead of_file wanted r → now ≡ with_files (with_images old r.images) r.start is_other
+    → is_other ≡ has_others old.session.debug.script.images r.images wanted.settings.files → AreGiven of_file wanted old now
+given_so of_file wanted old now r is_other are is other = record {
+  found = Some r;
+  are = are;
+  state = is ∙ ap (λ (b : Bool). with_files (with_images old r.images) r.start b) other;
+}
 
 -- where a `run` has come, and where none has
 pub renewed_there : {F : Type 0} (of_file : F → Option (List ℕ)) (wanted : WantedGdb) (old now : ServerState)

@@ -41,15 +41,10 @@ where
         (server_state server.new images.new) }
 {
     match read_files(files, wanted) {
-        Ok(
-            ReadFiles {
-                images: fresh,
-                start,
-            },
-        ) => {
-            let is_other_image = has_others(images, &fresh, &wanted.settings.files);
-            *images = fresh;
-            server.take_files(start, is_other_image);
+        Ok(found) => {
+            let is_other_image = has_others(images, &found.images, &wanted.settings.files);
+            *images = found.images;
+            server.take_files(found.start, is_other_image);
         }
         Err(refusal) => {
             let _ = eprintln!(files; "rosm_gdb: {refusal}");

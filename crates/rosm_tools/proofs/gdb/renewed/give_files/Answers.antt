@@ -1,16 +1,13 @@
-use Rattle.std.proofs.Common.{◌≡◌, Bool, ap, ◌∙◌}
-use Rattle.std.specs.Prelude.{None, Some}
+use Rattle.std.specs.Prelude.{None}
 use Rattle.gdb_server.specs.Server.{server_state}
-use Rattle.gdb_server.specs.Serving.{with_files}
+use Rattle.rosm_tools.proofs.GdbLemmas.RenewedLemmas.{given_so}
 use Rattle.rosm_tools.proofs.gdb.renewed.give_files.Goals as goal
 
 pub returns-in-Ok : goal.returns-in-Ok
-returns-in-Ok g c = record {
-  found = Some (record { images = c.in-Ok.fresh; start = c.in-Ok.start.items });
-  are = c.in-Ok.ensures;
-  state = c.take_files.ensures c.in-Ok.fresh
-      ∙ ap (λ (b : Bool). with_files (server_state c.args.server.now c.in-Ok.fresh) c.in-Ok.start.items b) c.has_others-is_other_image.ensures;
-}
+returns-in-Ok g c =
+    given_so g.F.File.Read.remaining c.args.wanted.now (server_state c.args.server.now c.args.images.now) _
+    (record { images = c.in-Ok.found.images; start = c.in-Ok.found.start.items }) _ c.in-Ok.ensures
+    (c.take_files.ensures c.in-Ok.found.images) c.has_others-is_other_image.ensures
 
 pub returns-in-Err : goal.returns-in-Err
 returns-in-Err g c = record {
