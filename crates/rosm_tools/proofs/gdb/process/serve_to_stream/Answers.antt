@@ -15,7 +15,7 @@ returns-in-Ok-unbuffered-clause-serves g c =
     let start : List ℕ = c.in_ok-start.start.items in
     let session : GdbSession = c.in_ok-session.session in
     let starts = session_starts wanted start c.as_slice.result.now images (gdb_state session images) c.as_slice.ensures.value
-    (c.in_ok-session.ensures images) in
+    (c.in_ok-session.ensures.state images) in
     serves_gdb g.F.File.Read.remaining wanted images start
     (server_state c.new-server.result c.begin.new.images) (server_state c.serve.new.server c.serve.new.images) _ _ _ _ _ _ _ _ _ _
     (files_from_none g.F.File.Read.remaining c.new-images.result wanted.settings.files images c.new-images.ensures
@@ -25,7 +25,7 @@ returns-in-Ok-unbuffered-clause-serves g c =
     (c.as_slice-2.ensures.value
     ∙ start_text wanted start images (gdb_state session images) c.in_ok-reported.reported.items starts c.in_ok-reported.ensures.reported)
     (c.print.ensures heard))
-    (c.new-server.ensures c.begin.new.images
+    (c.new-server.ensures.state c.begin.new.images
     ∙ ap server_before_bytes (session_begun wanted start images (gdb_state session images)
     (gdb_state c.begin.new.self c.begin.new.images) starts c.in_ok-reported.ensures.state))
     (buffer_begins g.W.Write.contents _ _ c.args.stream c.new-writer.ensures.inner c.in-Ok.ensures.inner c.in-Ok.ensures.empty)
