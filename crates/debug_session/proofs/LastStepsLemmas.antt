@@ -308,11 +308,26 @@ bare_modes modes stubs watches = λ i. record { stubs = stubs i; watches = watch
 
 -- THE DEEDS ONE AFTER ANOTHER
 
+same_steps : (labels : List ImageLabels) (s t : ScriptState) (m : PastMoment) (o : Option (SteppingRequest × ℕ)) → IsBeside s t
+    → text_of_steps labels (script_at_past t m) o ≡ text_of_steps labels (script_at_past s m) o
+same_steps labels s t m None b = refl
+same_steps labels s t m (Some taken) b = λ i. (stepping_answer no_step_modes labels (Some taken.1) (record {
+  machine = m.machine;
+  is_fresh = m.is_fresh;
+  sizes = b.sizes i;
+  images = b.images i;
+  breaks = b.breaks i;
+  left = taken.1;
+  last = Some stop.Budget;
+}) taken.0).text
+
 -- what is shown of the steps of a deed doesn't depend on where the script's machine is
 pub same_text : (labels : List ImageLabels) (s t : ScriptState) (k : ℕ) (d : PastDeed) (m : PastMoment) → IsBeside s t
     → text_of_deed labels t k d m ≡ text_of_deed labels s k d m
 same_text labels s t k d m b =
-    sym (λ i. text_of_deed labels (record s { sizes = b.sizes i; images = b.images i; breaks = b.breaks i }) k d m)
+    ap (λ (xs : List ℕ). if is_some m.machine.halt then [] else xs)
+    (ap (λ (es : List Entry). text_of_steps labels (script_at_past t (moment_after_steps es k m)) (steps_behind k d)) b.images
+    ∙ same_steps labels s t (moment_after_steps s.images k m) (steps_behind k d) b)
 
 first_text : (labels : List ImageLabels) (s : ScriptState) (k : ℕ) (act : Act) (rest : List Act) (m : PastMoment)
     → text_of_acts labels s k (act ∷ rest) m
@@ -355,8 +370,8 @@ text_whole labels s k acts i m text all past so_far =
 
 -- a machine that has no stop isn't halted
 pub up_where : (o : Option Halt) (x : Option Stop) (b : Bool) → b ≡ is_some x → x ≡ option_map stop_of o → b ≡ false → o ≡ None
-up_where None x b e f no = refl
-up_where (Some h) x b e f no = let some = ap (λ (y : Option Stop). is_some y) f in absurd (cc (e, some, no))
+up_where None x b e f off = refl
+up_where (Some h) x b e f off = let some = ap (λ (y : Option Stop). is_some y) f in absurd (cc (e, some, off))
 
 -- what holds of a call's result holds also where more follows from it
 pub and_so : {A E : Type 0} (result : Result A E) (P Q : Type 0) → (P → Q) → OnOk result P → OnOk result Q
@@ -385,9 +400,9 @@ is_none : (text : List ℕ) → (length text == 0) ≡ true → text ≡ []
 is_none [] e = refl
 is_none (byte ∷ text) e = let never = never_none (length text) in absurd (cc (e, never))
 
-pub none_to_show : (line refused text all : List ℕ) {b : Bool} → line ≡ refused_text (codes "NoHistory") → text ≡ all
+pub none_to_show : (line text all : List ℕ) {b : Bool} → line ≡ refused_text (codes "NoHistory") → text ≡ all
     → b ≡ (length text == 0) → b ≡ true → line ≡ text_or_refused all
-none_to_show line refused text all said whole empty is =
+none_to_show line text all said whole empty is =
     said ∙ ap text_or_refused (sym (is_none text (sym empty ∙ is)) ∙ whole)
 
 is_some_text : (text : List ℕ) → (length text == 0) ≡ false → text ≡ text_or_refused text

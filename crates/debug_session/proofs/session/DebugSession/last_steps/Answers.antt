@@ -13,6 +13,7 @@ use Rattle.debug_session.proofs.LastStepsLemmas.{byte_if, none_to_show, some_to_
 use Rattle.debug_session.proofs.session.DebugSession.last_steps.Goals as goal
 
 pub loop-act-init : goal.loop-act-init
+unfolding script_start_state
 loop-act-init c =
     let d = debug_state c.args.self.now c.args.images.now in
     let setting = c.args.self.now.setting in
@@ -57,7 +58,7 @@ returns-then-is_empty-clause-text c =
     let whole = text_whole c.args.self.now.labels start c.loop-act.skipped acts i
     (moment_of_script (script_state c.loop-act.session c.loop-act.images)) c.loop-act.text.items _ all c.loop-act.invariant.text in
     let count : vec_len c.loop-act.text ≡ length c.loop-act.text.items = omega (arith, c.loop-act.text.ok.0) in
-    none_to_show c.in_ok-refused_line.field-0.items _ c.loop-act.text.items _ c.in_ok-refused_line.ensures whole (c.is_empty.ensures ∙ ap (λ (n : ℕ). n == 0) count) c.if-is_empty.true
+    none_to_show c.in_ok-refused_line.field-0.items c.loop-act.text.items _ c.in_ok-refused_line.ensures whole (c.is_empty.ensures ∙ ap (λ (n : ℕ). n == 0) count) c.if-is_empty.true
 
 pub returns-clause-text : goal.returns-clause-text
 returns-clause-text c =
@@ -68,4 +69,4 @@ returns-clause-text c =
     let whole = text_whole c.args.self.now.labels start c.loop-act.skipped acts i
     (moment_of_script (script_state c.loop-act.session c.loop-act.images)) c.loop-act.text.items _ all c.loop-act.invariant.text in
     let count : vec_len c.loop-act.text ≡ length c.loop-act.text.items = omega (arith, c.loop-act.text.ok.0) in
-    some_to_show _ c.loop-act.text.items _ whole (c.is_empty.ensures ∙ ap (λ (n : ℕ). n == 0) count) c.if-is_empty.false
+    some_to_show c.loop-act.text.items _ whole (c.is_empty.ensures ∙ ap (λ (n : ℕ). n == 0) count) c.if-is_empty.false
