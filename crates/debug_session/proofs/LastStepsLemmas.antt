@@ -60,10 +60,8 @@ run_gone labels s some up =
     let led = run_leads s.images s.breaks s.left s.machine in
     let lines = lines_are no_step_modes labels s 0 [] refl up in
     gone_same s _ _ (moment_after_steps s.images s.left (moment_of_script s)) (untraced labels s.left s asked.Run ∙ lines.run.state)
-    (record {
-      beside = record { sizes = refl; images = refl; breaks = refl };
-      moment = λ i. record { machine = (sym led) i; is_fresh = fresh_gone s.is_fresh s.left (s.left - r.taken) some i };
-    })
+    (record { beside = record { sizes = refl; images = refl; breaks = refl };
+      moment = λ i. record { machine = (sym led) i; is_fresh = fresh_gone s.is_fresh s.left (s.left - r.taken) some i } })
 
 -- CALL AND LOAD, whose first step alone may be taken
 
@@ -89,11 +87,8 @@ unfolding answer_after_steps
 none_after frames s none =
     let o : Option CallEnd = call_end s frames in
     let final : ScriptState = (finished_by s o (stop_answer s stop.Budget)).state in
-    record {
-      beside = beside_none s o;
-      moment = ap (λ (k : ℕ). moment_after_steps s.images k (moment_of_script final)) (left_none s o ∙ none)
-          ∙ none_left s.images (moment_of_script final) ∙ after_none s o;
-    }
+    record { beside = beside_none s o; moment = ap (λ (k : ℕ). moment_after_steps s.images k (moment_of_script final))
+      (left_none s o ∙ none) ∙ none_left s.images (moment_of_script final) ∙ after_none s o }
 
 stopped_after : (frames n : ℕ) (s : ScriptState) (h : Halt) → s.machine.halt ≡ Some h → s.is_fresh ≡ false
     → HasGoneOn s (answer_after_steps frames n s).state (moment_of_script s)
@@ -311,15 +306,8 @@ bare_modes modes stubs watches = λ i. record { stubs = stubs i; watches = watch
 same_steps : (labels : List ImageLabels) (s t : ScriptState) (m : PastMoment) (o : Option (SteppingRequest × ℕ)) → IsBeside s t
     → text_of_steps labels (script_at_past t m) o ≡ text_of_steps labels (script_at_past s m) o
 same_steps labels s t m None b = refl
-same_steps labels s t m (Some taken) b = λ i. (stepping_answer no_step_modes labels (Some taken.1) (record {
-  machine = m.machine;
-  is_fresh = m.is_fresh;
-  sizes = b.sizes i;
-  images = b.images i;
-  breaks = b.breaks i;
-  left = taken.1;
-  last = Some stop.Budget;
-}) taken.0).text
+same_steps labels s t m (Some taken) b = λ i. (stepping_answer no_step_modes labels (Some taken.1) (record { machine = m.machine;
+    is_fresh = m.is_fresh; sizes = b.sizes i; images = b.images i; breaks = b.breaks i; left = taken.1; last = Some stop.Budget }) taken.0).text
 
 -- what is shown of the steps of a deed doesn't depend on where the script's machine is
 pub same_text : (labels : List ImageLabels) (s t : ScriptState) (k : ℕ) (d : PastDeed) (m : PastMoment) → IsBeside s t
