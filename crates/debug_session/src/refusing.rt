@@ -38,7 +38,9 @@ impl DebugSession {
         ensures ends { EndsAtOnce W.has_failed sink.old sink.new result }
     {
         if let Some(count) = last_steps_asked(words) {
-            let text = self.last_steps(images, count)?;
+            let Ok(text) = self.last_steps(images, count) else {
+                return Err(RunError::Memory);
+            };
             return Ok(self.view(sink, text)?);
         }
         let setting = PastSetting {

@@ -17,8 +17,8 @@ returns-in-Some-clause-reported g c =
     let asked = sym c.last_steps_asked.ensures ∙ c.in-Some.is in
     steps_viewed (g.W.Sink.contents c.args.sink.now) (g.W.Sink.contents c.view.new.sink) old.setting d
     (debug_state old c.last_steps.new.images) (debug_state c.view.new.self c.last_steps.new.images) c.args.number c.args.words.now
-    c.in_ok-text.text.items (last_steps_asked c.args.words.now) c.in-Some.count asked
-    (ap (λ (es : List Entry). debug_state old es) c.in_ok-text.ensures.images) c.in_ok-text.ensures.text
+    c.in-Ok.text.items (last_steps_asked c.args.words.now) c.in-Some.count asked
+    (ap (λ (es : List Entry). debug_state old es) c.in-Ok.ensures.images) c.in-Ok.ensures.text
     (c.in_ok-view.ensures.reported c.last_steps.new.images)
 
 pub returns-in_ok-view-in-Some-2-clause-reported : goal.returns-in_ok-view-in-Some-2-clause-reported
@@ -32,8 +32,8 @@ returns-in_ok-view-in-Some-2-clause-reported g c =
     (last_steps_asked c.args.words.now) none
     (past_shown (g.W.Sink.contents c.args.sink.now) (g.W.Sink.contents c.view-in-Some-2.new.sink) old.setting d _
     (debug_state c.view-in-Some-2.new.self c.answer_line.new.images) c.args.number c.args.words.now c.in-Some-2.text.items o
-    (rw c.in-Some-2.is at c.in_ok-text-2.ensures.text)
-    (past_moved d _ _ o c.in_ok-text-2.ensures.script c.in_ok-text-2.ensures.past)
+    (rw c.in-Some-2.is at c.in_ok-text.ensures.text)
+    (past_moved d _ _ o c.in_ok-text.ensures.script c.in_ok-text.ensures.past)
     (c.in_ok-view-in-Some-2.ensures.reported c.answer_line.new.images))
 
 pub returns-in-None-clause-reported : goal.returns-in-None-clause-reported
@@ -47,6 +47,6 @@ returns-in-None-clause-reported g c =
     (past_line_or_steps old.setting d c.args.number c.args.words.now x))) (sym none)
     (subst (λ (x : DebugAnswered). OnOk c.refuse.result (IsDebugged (g.W.Sink.contents c.args.sink.now)
     (g.W.Sink.contents c.refuse.new.sink) (debug_state c.refuse.new.self c.answer_line.new.images) x))
-    (past_refused old.setting d _ c.args.number c.args.words.now o (sym (rw c.in-None.is at c.in_ok-text-2.ensures.text))
-    (past_moved d _ _ o c.in_ok-text-2.ensures.script c.in_ok-text-2.ensures.past))
+    (past_refused old.setting d _ c.args.number c.args.words.now o (sym (rw c.in-None.is at c.in_ok-text.ensures.text))
+    (past_moved d _ _ o c.in_ok-text.ensures.script c.in_ok-text.ensures.past))
     (c.refuse.ensures.reported c.answer_line.new.images))
