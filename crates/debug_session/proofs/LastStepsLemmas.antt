@@ -156,10 +156,8 @@ run_at : (labels : List ImageLabels) (s : ScriptState) (first : PastMoment) (n :
 run_at labels s first n some up =
     let t : ScriptState = script_to_trace (script_at_past s first) first n in
     let gone = run_gone labels t some up in
-    record {
-      beside = beside_both (script_at_past s first) t _ (record { sizes = refl; images = refl; breaks = refl }) gone.beside;
-      moment = gone.moment;
-    }
+    record { beside = beside_both (script_at_past s first) t _ (record { sizes = refl; images = refl; breaks = refl }) gone.beside;
+      moment = gone.moment }
 
 steps_gone : (labels : List ImageLabels) (s : ScriptState) (k n : ℕ) (m : PastMoment) → m.machine.halt ≡ None → k < n
     → IsGone labels s (moment_after_steps s.images k m) (asked.Run, n - k) (moment_after_steps s.images n m)
