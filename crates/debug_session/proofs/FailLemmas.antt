@@ -1,7 +1,8 @@
 -- What stands written where a line fails: a front of what all lines are answered.
-use Rattle.std.proofs.Common.{◌≡◌, ℕ, List, [], ◌++◌, Option, Some, None, sym, ap, subst, ◌∙◌, append_assoc, arith}
+use Rattle.std.proofs.Common.{◌≡◌, ℕ, List, [], ◌++◌, Option, Some, None, Result, Ok, Err, sym, ap, subst, ◌∙◌, append_assoc, arith}
 use Rattle.std.proofs.lemmas.List.{append-nil}
 use Rattle.std.specs.Io.KnownBytes.{Appends}
+use Rattle.std.specs.Prelude.{OnOk}
 use Rattle.profile.specs.Output.{AddsAllBut, AddsFront}
 use Rattle.profile.proofs.OutputLemmas.{AddsAllBut-more}
 use Rattle.debug_tables.proofs.RunMeterLemmas.FrontLemmas.{AddsFront-from_all_but}
@@ -46,3 +47,8 @@ front_then a b c rest piece more all done split here =
       front = AddsAllBut-more a b c rest w.written (w.left ++ more) all done w.appends
           (split ∙ ap (λ (p : List ℕ). p ++ more) (sym w.whole) ∙ append_assoc w.written w.left more);
     }
+
+-- what holds of a call's result holds also where more follows from it
+pub and_so : {A E : Type 0} (result : Result A E) (P Q : Type 0) → (P → Q) → OnOk result P → OnOk result Q
+and_so (Ok a) P Q more holds = more holds
+and_so (Err e) P Q more holds = record {}

@@ -1,6 +1,6 @@
 -- The steps that were taken last, taken again and shown.
-use Rattle.std.proofs.Common.{◌≡◌, ◌<◌, ◌≤◌, ℕ, zero, suc, ◌-◌, ◌+◌, ◌==◌, ◌&&◌, ◌++◌, Bool, true, false, List, [], ◌∷◌, append_assoc, Option, Some, None, Result, Ok, Err, length, get_or, drop, refl, sym, ◌∙◌, ap, subst, arith, if◌then◌else◌}
-use Rattle.std.specs.Prelude.{IsSome, OnOk, codes, is_some, nat_lt, unwrap_or}
+use Rattle.std.proofs.Common.{◌≡◌, ◌<◌, ◌≤◌, ℕ, zero, suc, ◌-◌, ◌+◌, ◌==◌, ◌&&◌, ◌++◌, Bool, true, false, List, [], ◌∷◌, append_assoc, Option, Some, None, length, get_or, drop, refl, sym, ◌∙◌, ap, subst, arith, if◌then◌else◌}
+use Rattle.std.specs.Prelude.{IsSome, codes, is_some, nat_lt, unwrap_or}
 use Rattle.std.specs.Option.{option_map}
 use Rattle.std.proofs.Math.Bool.{and-false}
 use Rattle.std.proofs.lemmas.Bool.Decides.{nat_tests}
@@ -60,8 +60,10 @@ run_gone labels s some up =
     let led = run_leads s.images s.breaks s.left s.machine in
     let lines = lines_are no_step_modes labels s 0 [] refl up in
     gone_same s _ _ (moment_after_steps s.images s.left (moment_of_script s)) (untraced labels s.left s asked.Run ∙ lines.run.state)
-    (record { beside = record { sizes = refl; images = refl; breaks = refl };
-      moment = λ i. record { machine = (sym led) i; is_fresh = fresh_gone s.is_fresh s.left (s.left - r.taken) some i } })
+    (record {
+      beside = record { sizes = refl; images = refl; breaks = refl };
+      moment = λ i. record { machine = (sym led) i; is_fresh = fresh_gone s.is_fresh s.left (s.left - r.taken) some i };
+    })
 
 -- CALL AND LOAD, whose first step alone may be taken
 
@@ -87,8 +89,11 @@ unfolding answer_after_steps
 none_after frames s none =
     let o : Option CallEnd = call_end s frames in
     let final : ScriptState = (finished_by s o (stop_answer s stop.Budget)).state in
-    record { beside = beside_none s o; moment = ap (λ (k : ℕ). moment_after_steps s.images k (moment_of_script final))
-      (left_none s o ∙ none) ∙ none_left s.images (moment_of_script final) ∙ after_none s o }
+    record {
+      beside = beside_none s o;
+      moment = ap (λ (k : ℕ). moment_after_steps s.images k (moment_of_script final))
+          (left_none s o ∙ none) ∙ none_left s.images (moment_of_script final) ∙ after_none s o;
+    }
 
 stopped_after : (frames n : ℕ) (s : ScriptState) (h : Halt) → s.machine.halt ≡ Some h → s.is_fresh ≡ false
     → HasGoneOn s (answer_after_steps frames n s).state (moment_of_script s)
@@ -156,8 +161,10 @@ run_at : (labels : List ImageLabels) (s : ScriptState) (first : PastMoment) (n :
 run_at labels s first n some up =
     let t : ScriptState = script_to_trace (script_at_past s first) first n in
     let gone = run_gone labels t some up in
-    record { beside = beside_both (script_at_past s first) t _ (record { sizes = refl; images = refl; breaks = refl }) gone.beside;
-      moment = gone.moment }
+    record {
+      beside = beside_both (script_at_past s first) t _ (record { sizes = refl; images = refl; breaks = refl }) gone.beside;
+      moment = gone.moment;
+    }
 
 steps_gone : (labels : List ImageLabels) (s : ScriptState) (k n : ℕ) (m : PastMoment) → m.machine.halt ≡ None → k < n
     → IsGone labels s (moment_after_steps s.images k m) (asked.Run, n - k) (moment_after_steps s.images n m)
@@ -299,13 +306,11 @@ halted_text labels s k d old is =
 pub bare_modes : (modes : StepModes) → modes.stubs ≡ [] → modes.watches ≡ [] → modes ≡ no_step_modes
 bare_modes modes stubs watches = λ i. record { stubs = stubs i; watches = watches i }
 
--- THE DEEDS ONE AFTER ANOTHER
-
 same_steps : (labels : List ImageLabels) (s t : ScriptState) (m : PastMoment) (o : Option (SteppingRequest × ℕ)) → IsBeside s t
     → text_of_steps labels (script_at_past t m) o ≡ text_of_steps labels (script_at_past s m) o
 same_steps labels s t m None b = refl
-same_steps labels s t m (Some taken) b = λ i. (stepping_answer no_step_modes labels (Some taken.1) (record { machine = m.machine;
-    is_fresh = m.is_fresh; sizes = b.sizes i; images = b.images i; breaks = b.breaks i; left = taken.1; last = Some stop.Budget }) taken.0).text
+same_steps labels s t m (Some taken) b = λ i. (steps_shown labels
+    (script_at_past (record s { sizes = b.sizes i; images = b.images i; breaks = b.breaks i }) m) taken.1 taken.0).text
 
 -- what is shown of the steps of a deed doesn't depend on where the script's machine is
 pub same_text : (labels : List ImageLabels) (s t : ScriptState) (k : ℕ) (d : PastDeed) (m : PastMoment) → IsBeside s t
@@ -358,11 +363,6 @@ text_whole labels s k acts i m text all past so_far =
 pub up_where : (o : Option Halt) (x : Option Stop) (b : Bool) → b ≡ is_some x → x ≡ option_map stop_of o → b ≡ false → o ≡ None
 up_where None x b e f off = refl
 up_where (Some h) x b e f off = let some = ap (λ (y : Option Stop). is_some y) f in absurd (cc (e, some, off))
-
--- what holds of a call's result holds also where more follows from it
-pub and_so : {A E : Type 0} (result : Result A E) (P Q : Type 0) → (P → Q) → OnOk result P → OnOk result Q
-and_so (Ok a) P Q more holds = more holds
-and_so (Err e) P Q more holds = record {}
 
 -- ALL STEPS
 

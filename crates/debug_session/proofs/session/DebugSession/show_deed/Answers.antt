@@ -15,7 +15,8 @@ use Rattle.debug_tables.specs.run_meter.State.{ScriptState}
 use Rattle.debug_tables.specs.run_meter.Value.{MachineValue}
 use Rattle.profile.specs.declared.stop.Stop.{Stop}
 use Rattle.debug_session.specs.LastSteps.{no_step_modes, script_at_past, text_of_deed}
-use Rattle.debug_session.proofs.LastStepsLemmas.{and_so, bare_modes, deed_done, halted_text, no_text, shown_text, traced_at, up_where}
+use Rattle.debug_session.proofs.FailLemmas.{and_so}
+use Rattle.debug_session.proofs.LastStepsLemmas.{bare_modes, deed_done, halted_text, no_text, shown_text, traced_at, up_where}
 use Rattle.debug_session.proofs.session.DebugSession.show_deed.Goals as goal
 
 pub returns-then-is_some-clause-text : goal.returns-then-is_some-clause-text
