@@ -200,6 +200,13 @@ def test_files_are_as_they_were(folder: Path) -> None:
 LATER = {("examples/debug/best-fit.script", "holes")} | {
     (f"examples/riscos/{name}.script", name)
     for name in ("commands", "convert", "environment", "input", "output", "sort", "strings", "system", "vectors")
+} | {
+    (f"examples/riscos/programs/{script}.script", name)
+    for script, names in (("clicker", "clicker keys"), ("later", "later user"), ("pots", "pots keeper"))
+    for name in names.split()
+} | {
+    (f"examples/riscos/programs/{name}.script", name)
+    for name in ("hexdump", "messages", "move", "options", "plotter", "sorted", "texts")
 }
 
 
