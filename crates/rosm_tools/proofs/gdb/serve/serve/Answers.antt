@@ -40,6 +40,11 @@ returns-in_err-flush-clause-front g c =
     (answers_more _ _ _ _ _ _ _ _ _ _ _ _ _ c.loop-pulls.invariant.answers c.in_ok-count.ensures.bytes.0
     c.in_ok-take_piece.ensures.reported c.flush.ensures.bytes))
 
+pub returns-clause-front : goal.returns-clause-front
+returns-clause-front g c =
+    front_of_answers _ _ _ _ _ _ _ (server_state c.loop-pulls.server c.loop-pulls.images)
+    c.loop-pulls.invariant.answers
+
 pub loop-pulls-preserved : goal.loop-pulls-preserved
 loop-pulls-preserved g c =
     let i = c.loop-pulls.invariant in
