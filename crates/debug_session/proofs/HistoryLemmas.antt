@@ -32,8 +32,11 @@ use Rattle.command_shell_lines.specs.FailedBlocks.{block_reason}
 use Rattle.debug_modes.specs.Modes.{answer_of_line}
 use Rattle.debug_modes.specs.expectations.Checks.{check_answer, status_after_pattern}
 use Rattle.debug_modes.specs.expectations.Halted.{halting_fault}
-use Rattle.debug_modes.specs.expectations.reports.Reports.{report_of_refusal, with_refusal}
-use Rattle.debug_session.specs.DebugScript.{answer_or_refused, checked_answer, plain_line_answer, past_line_by, past_line_or_steps, put_done, put_found, script_line_answer_in, seen_of, set_pc_by, state_after_line, state_with_answer, stepping_line_answer, stepping_now, write_done}
+use Rattle.debug_modes.specs.expectations.reports.Reports.{report_of_refusal, with_refusal, answer_in}
+use Rattle.debug_session.specs.DebugScript.{answer_or_refused, checked_answer, plain_line_answer, past_line_by, past_line_or_steps, put_done, put_found, script_line_answer_in, seen_of, set_pc_by, state_after_line, state_with_answer, stepping_line_answer, stepping_now, write_done, with_block_noted}
+use Rattle.debug_runs.specs.Lines.{stepping_answer}
+use Rattle.debug_runs.proofs.PlainLemmas.{lines_are}
+use Rattle.debug_runs.proofs.TracedLemmas.{last_is_run, same_line}
 use Rattle.debug_session.specs.DebugState.{DebugAnswered, DebugState}
 use Rattle.debug_session.specs.History.{HistoryChangesNoAnswer, IsSameButPast, IsUnhaltedWhereFresh, PastIsOfTheMachine}
 use Rattle.debug_session.specs.declared.session.DebugSettings.{DebugSettings}
