@@ -19,7 +19,7 @@ use Rattle.swi_dispatch_guest.specs.Writes.{machine_after_poke}
 use Rattle.swi_dispatch_guest.specs.declared.halt.Halt.{Halt}
 use Rattle.image_loader.specs.declared.error.ImageError.{ImageError}
 use Rattle.image_loader.specs.declared.error.ImageError.TheVariants.{BadName, NameTaken, TooLarge, TableFull}
-use Rattle.debug_history.specs.LineKinds.{is_refused_block}
+use Rattle.debug_lines.specs.LineKinds.{is_refused_block}
 use Rattle.assembler.specs.declared.error.AsmError.{AsmError}
 use Rattle.assembler.specs.Passes.{means_lines}
 use Rattle.command_shell_lines.specs.Blocks.{block_bytes}

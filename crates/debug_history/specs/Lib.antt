@@ -9,7 +9,6 @@ pub mod Again
 pub mod Answers
 pub mod Cutting
 pub mod Laws
-pub mod LineKinds
 pub mod Lines
 pub mod Noted
 pub mod Past

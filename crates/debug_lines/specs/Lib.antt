@@ -4,6 +4,7 @@ pub mod ByteLines
 pub mod DebugRequests
 pub mod Expectations
 pub mod FewWords
+pub mod LineKinds
 pub mod ModeRequests
 pub mod Openers
 pub mod Registers

@@ -9,6 +9,7 @@ mod block_ends;
 mod byte_lines;
 mod expectations;
 mod few_words;
+mod line_kinds;
 mod modes;
 mod openers;
 mod registers;
@@ -23,6 +24,7 @@ mod whole_requests;
 
 pub use block_ends::missing_ends;
 pub use expectations::Expectation;
+pub use line_kinds::{asks_nothing, is_named_image, is_refused_block, takes_steps};
 pub use modes::ModeCommand;
 pub use openers::opens_block;
 pub use registers::{banked_register_named, register_of_name};

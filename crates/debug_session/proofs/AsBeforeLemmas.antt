@@ -22,7 +22,7 @@ use Rattle.debug_modes.specs.expectations.reports.Reports.{answer_in}
 use Rattle.debug_modes.specs.declared.expectations.reports.reports.ReportForm.{ReportForm}
 use Rattle.debug_modes.specs.Modes.{takes_over}
 use Rattle.debug_session.specs.DebugScript.{checked_answer, state_after_line, state_with_answer, plain_line_answer, seen_of, some_lines_answer, answer_or_refused, failed_with_block, with_block_noted, with_line_below}
-use Rattle.debug_history.specs.LineKinds.{asks_nothing, is_refused_block, takes_steps}
+use Rattle.debug_lines.specs.LineKinds.{asks_nothing, is_refused_block, takes_steps}
 use Rattle.debug_session.specs.DebugState.{DebugAnswered, DebugState, then_debugged}
 use Rattle.debug_modes.specs.declared.expectations.reports.reports.ReportForm.TheVariants.{Answers}
 use Rattle.debug_session.specs.declared.session.DebugSettings.{DebugSettings}

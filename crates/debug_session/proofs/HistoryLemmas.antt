@@ -16,7 +16,7 @@ use Rattle.debug_lines.specs.SteppingRequests as stepping
 use Rattle.debug_history.specs.Answers.{PastAnswered, back_until, last_in_past, past_answered, past_asked, past_command, past_gone_back, past_shown, undone}
 use Rattle.debug_history.specs.Laws.{IsPastOf}
 use Rattle.debug_history.specs.Lines.{last_steps_asked}
-use Rattle.debug_history.specs.LineKinds.{asks_nothing, is_refused_block}
+use Rattle.debug_lines.specs.LineKinds.{asks_nothing, is_refused_block}
 use Rattle.debug_history.specs.Noted.{is_faulted, past_after_request}
 use Rattle.debug_history.specs.Acts.{moment_after_acts}
 use Rattle.debug_history.specs.Past.{PastState, line_of_last_act, past_from_start, unknown_past}

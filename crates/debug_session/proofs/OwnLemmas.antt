@@ -17,7 +17,7 @@ use Rattle.debug_labels.specs.Labels.{ImageLabels}
 use Rattle.debug_modes.specs.declared.modes.DebugModes.{DebugModes}
 use Rattle.debug_session.specs.Naming.{labels_with_block}
 use Rattle.debug_session.specs.DebugScript.{machine_change_answer, checked_answer, labels_after, past_after_line, simple_request_answer, state_after_line, state_with_answer, script_line_answer, script_line_answer_by, answer_or_refused, line_in_modes_answer, view_answer, with_block_noted}
-use Rattle.debug_history.specs.LineKinds.{asks_nothing, is_named_image, is_refused_block, takes_steps}
+use Rattle.debug_lines.specs.LineKinds.{asks_nothing, is_named_image, is_refused_block, takes_steps}
 use Rattle.debug_history.specs.Noted.{is_faulted, past_after_request}
 use Rattle.debug_history.specs.Past.{PastState}
 use Rattle.debug_history.specs.declared.act.PastDeed.{PastDeed}

@@ -7,7 +7,7 @@ use Rattle.debug_modes.specs.declared.expectations.reports.reports.ReportForm.{R
 use Rattle.debug_modes.specs.expectations.reports.Reports.{report_of_refusal}
 use Rattle.debug_modes.specs.declared.expectations.reports.reports.ReportForm.TheVariants.{Answers}
 use Rattle.debug_session.specs.AsBefore.{BlockAnsweredAsBefore, LineRefusedAsBefore, RefusedAsBefore}
-use Rattle.debug_history.specs.LineKinds.{is_refused_block}
+use Rattle.debug_lines.specs.LineKinds.{is_refused_block}
 use Rattle.debug_session.specs.DebugScript.{state_after_line, answer_or_refused}
 use Rattle.debug_session.specs.DebugState.{DebugState}
 use Rattle.debug_session.specs.Naming.{naming_of}

@@ -23,7 +23,7 @@ use Rattle.debug_tables.specs.run_meter.Stepping.{breaks_changed}
 use Rattle.debug_tables.specs.run_meter.Views.{flex_answer, heap_answer, shown_or}
 use Rattle.command_shell_lines.specs.Blocks.{block_bytes}
 use Rattle.command_shell_lines.specs.Requests.{Request, Nothing, Hex, Asm, Boot, Run, Regs, Set, Poke, Call, Load, Step, Break, Unbreak, Mem, Code, Heap, Areas, Modules, Flex, Unknown}
-use Rattle.debug_history.specs.LineKinds.{takes_steps}
+use Rattle.debug_lines.specs.LineKinds.{takes_steps}
 
 -- an answer, and the same with another budget
 pub record IsUnread (s : ScriptState) (b : ℕ) (reported other : Answered) : Type 0 where

@@ -6,7 +6,7 @@ use Rattle.debug_tables.specs.run_meter.Script.{lines_answer}
 use Rattle.debug_tables.specs.run_meter.State.{Answered}
 use Rattle.command_shell_lines.specs.Blocks.{block_lines, lines_after}
 use Rattle.command_shell_lines.specs.Requests.{Request, opens_block, request_of}
-use Rattle.debug_history.specs.LineKinds.{takes_steps}
+use Rattle.debug_lines.specs.LineKinds.{takes_steps}
 use Rattle.debug_lines.specs.DebugRequests.{DebugRequest, Expect, View, ViewRequest, is_script_request}
 use Rattle.debug_lines.specs.Expectations.{ExpectRequest}
 use Rattle.debug_modes.specs.Modes.{takes_over}

@@ -31,7 +31,7 @@ use Rattle.debug_session.specs.Stepping.{modes_after, note_of, stepping_in_modes
 use Rattle.debug_lines.specs.Tidy.{tidied_line}
 use Rattle.debug_history.specs.Answers.{PastAnswered, past_line_answered}
 use Rattle.debug_history.specs.Lines.{last_steps_asked}
-use Rattle.debug_history.specs.LineKinds.{asks_nothing, is_refused_block, takes_steps}
+use Rattle.debug_lines.specs.LineKinds.{asks_nothing, is_refused_block, takes_steps}
 use Rattle.debug_history.specs.Noted.{is_faulted, past_after_request, past_after_stepping, past_with_deed, steps_before}
 use Rattle.debug_history.specs.Past.{PastState, past_from_start, past_with_images, unknown_past}
 use Rattle.debug_history.specs.declared.act.PastDeed.{PastDeed}

@@ -8,14 +8,15 @@ ghost use Rattle.command_shell_lines.specs.Blocks.{block_lines, lines_after, lin
 ghost use Rattle.debug_modes.specs.expectations.Endings.{ending_of, output_of};
 ghost use Rattle.command_shell_lines.specs.Requests.{opens_block, request_of_command};
 ghost use Rattle.assembler.specs.Passes.{labels_of_lines};
-ghost use Rattle.debug_history.specs.LineKinds.{takes_steps};
+ghost use Rattle.debug_lines.specs.LineKinds.{takes_steps};
 ghost use Rattle.debug_history.specs.Noted.{is_faulted, past_after_request};
 ghost use Rattle.debug_session.specs.Naming.{labels_with_block, labels_with_image};
 
 use crate::session::DebugSession;
 use assembler::labels_of_lines;
 use command_shell_lines::{Origin, ScriptCommand, skip_block};
-use debug_history::{asks_nothing, is_faulted, is_named_image, is_refused_block, takes_steps};
+use debug_history::is_faulted;
+use debug_lines::{asks_nothing, is_named_image, is_refused_block, takes_steps};
 use debug_modes::expectations::reports::{push_answer, push_refusal};
 use debug_modes::expectations::{answer_parts, push_line_answer};
 use debug_tables::run_meter::{RunError, answer_metered};

@@ -75,6 +75,13 @@ impl Machine {
         })
     }
 
+    /// The sizes that it was made with.
+    pub fn config(&self) -> Config
+        ensures { result ≡ self.now.sizes }
+    {
+        self.config
+    }
+
     /// Copies a program to the start of the application space of a machine that stands as it was
     /// made. A refusal changes nothing.
     ///

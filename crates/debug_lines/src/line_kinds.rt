@@ -2,7 +2,7 @@
 
 ghost use Rattle.std.specs.Prelude.{◌≡◌, ◌&&◌, ◌||◌, not};
 ghost use Rattle.command_shell_lines.specs.Requests.{opens_block, request_of_command};
-ghost use Rattle.debug_history.specs.LineKinds.{asks_nothing, is_named_image, takes_steps};
+ghost use Rattle.debug_lines.specs.LineKinds.{asks_nothing, is_named_image, takes_steps};
 
 use command_shell_lines::ScriptCommand;
 use image_loader::Images;
