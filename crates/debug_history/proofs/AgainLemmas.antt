@@ -10,18 +10,21 @@ use Rattle.profile.specs.Sizes.{Sizes}
 use Rattle.profile.specs.declared.fault.Fault.{Fault}
 use Rattle.profile.specs.declared.stop.Stop.{Stop}
 use Rattle.profile.specs.declared.stop.Stop.TheVariants as stop
-use Rattle.swi_dispatch.specs.Boot.{machine_after_boot}
-use Rattle.swi_dispatch.specs.declared.boot_error.BootError.{BootError}
-use Rattle.swi_dispatch_guest.specs.MachineState.{MachineState, StepOutcome, stop_of}
-use Rattle.swi_dispatch_guest.specs.Run.{Run, ran}
-use Rattle.swi_dispatch_guest.specs.Writes.{machine_after_poke}
-use Rattle.swi_dispatch_guest.specs.declared.halt.Halt.{Halt}
+use Rattle.command_shell.specs.Boot.{machine_after_boot}
+use Rattle.command_shell.specs.BootError.{BootError}
+use Rattle.command_shell.specs.MachineState.{MachineState, StepOutcome, stop_of}
+use Rattle.command_shell.specs.Run.{Run, ran}
+use Rattle.command_shell.specs.Writes.{machine_after_poke}
+use Rattle.command_shell.specs.Halt.{Halt}
 use Rattle.command_shell.specs.Calls.{step_made}
 use Rattle.command_shell.specs.Images.{boot_done, boot_found}
 use Rattle.command_shell.specs.Memory.{script_after_poke, script_started_anew, script_with_budget, script_with_last, script_with_machine}
 use Rattle.command_shell.specs.State.{ScriptState, script_start_state}
 use Rattle.command_shell.specs.Stepping.{IsAfterRun, script_after_run, script_run}
-use Rattle.debug_history.specs.Acts.{PastMoment, changed_moment, fresh_moment, moment_after_acts, moment_after_boot, moment_after_deed, moment_after_steps, moment_after_word, moment_of_script}
+use Rattle.address_map.specs.Bytes.{ok_unless_fault}
+use Rattle.debug_tables.specs.Stubs.{machine_with_bytes}
+use Rattle.debug_tables.specs.byte_writes.Put.{put_fault, script_after_put}
+use Rattle.debug_history.specs.Acts.{PastMoment, changed_moment, fresh_moment, moment_after_acts, moment_after_boot, moment_after_deed, moment_after_put, moment_after_steps, moment_after_word, moment_of_script, moment_unless_fault}
 use Rattle.debug_history.specs.Again.{IsAtMoment, script_at_moment}
 use Rattle.debug_history.specs.Steps.{steps_after}
 use Rattle.debug_history.specs.declared.act.Act.{Act}
@@ -96,6 +99,30 @@ pub poke_at : (s now : ScriptState) (address value : ℕ) {U : Type 0} (result :
     → Leaves s (script_after_poke s address value) result now
     → IsAtMoment s now (moment_after_word (moment_of_script s) (machine_after_poke s.machine address value))
 poke_at s now address value result e = poked s now (machine_after_poke s.machine address value) result e
+
+put_by : (s now : ScriptState) (machine : MachineState) (o : Option Fault) {U : Type 0} (result : Result U Fault)
+    → Leaves s (ok_unless_fault o (script_with_machine s machine)) result now
+    → IsAtMoment s now (moment_unless_fault (moment_of_script s) o machine)
+put_by s now machine None (Ok u) e = with_machine_at s now machine e
+put_by s now machine None (Err f) e = absurd e
+put_by s now machine (Some f) (Ok u) e = absurd e
+put_by s now machine (Some f) (Err g) e = at_same s now s (moment_of_script s) e.1 (beside_itself s) refl
+
+pub put_at : (s now : ScriptState) (at : ℕ) (bytes : List ℕ) {U : Type 0} (result : Result U Fault)
+    → Leaves s (script_after_put s at bytes) result now
+    → IsAtMoment s now (moment_after_put (moment_of_script s) at bytes)
+put_at s now at [] (Ok u) e = at_same s now s (moment_of_script s) e (beside_itself s) refl
+put_at s now at [] (Err f) e = absurd e
+put_at s now at (byte ∷ bytes) result e =
+    put_by s now (machine_with_bytes s.machine at (byte ∷ bytes))
+    (put_fault s.machine.store at (length (byte ∷ bytes))) result e
+
+pub anew_at : (s now : ScriptState) (sizes : Sizes) (budget : ℕ) → sizes ≡ s.sizes → now ≡ script_started_anew s sizes budget
+    → IsAtMoment s now (fresh_moment s.sizes)
+unfolding script_start_state
+anew_at s now sizes budget same e =
+    at_same s now (script_started_anew s sizes budget) (fresh_moment s.sizes) e
+    (record { sizes = same; images = refl; breaks = refl }) (ap fresh_moment same)
 
 booted : (s now : ScriptState) (name : List ℕ) (r : Result MachineState BootError) → now ≡ (boot_done s name r).state
     → (program : List ℕ) → r ≡ machine_after_boot s.sizes s.is_fresh s.machine program
@@ -232,6 +259,10 @@ way_takes now budgeted next left taken before after x given done =
 pub halted_is : (o : Option Halt) (x : Option Stop) (y : Stop) → x ≡ option_map stop_of o → x ≡ Some y → (h : Halt) × (o ≡ Some h)
 halted_is (Some h) x y e is = (h, refl)
 halted_is None x y e is = absurd (cc)
+
+pub halted_none : (o : Option Halt) (x : Option Stop) → x ≡ option_map stop_of o → x ≡ None → o ≡ None
+halted_none (Some h) x e none = absurd (cc)
+halted_none None x e none = refl
 
 -- ACTS ONE AFTER ANOTHER
 

@@ -129,6 +129,8 @@ within_leads images sizes line j n (deed.Place address) rest m h = absurd (omega
 within_leads images sizes line j n (deed.Routine address link) rest m h = absurd (omega (arith, h))
 within_leads images sizes line j n (deed.Status status) rest m h = absurd (omega (arith, h))
 within_leads images sizes line j n deed.Woken rest m h = absurd (omega (arith, h))
+within_leads images sizes line j n (deed.Bytes address bytes) rest m h = absurd (omega (arith, h))
+within_leads images sizes line j n deed.Anew rest m h = absurd (omega (arith, h))
 
 -- the same act before others that lead where these lead
 head_by : (images : List Entry) (sizes : Sizes) (act : Act) (xs ys : List Act) (n : ℕ) (m : PastMoment) (b : Bool)

@@ -5,11 +5,11 @@ use Rattle.std.proofs.lemmas.Bool.Decides.{nat_tests}
 use Rattle.image_loader.specs.Entries.{Entry}
 use Rattle.profile.specs.declared.stop.Stop.{Stop}
 use Rattle.profile.specs.declared.stop.Stop.TheVariants as stop
-use Rattle.swi_dispatch_guest.specs.declared.halt.Halt.{Halt}
-use Rattle.swi_dispatch_guest.specs.declared.halt.Halt.TheVariants as halt
-use Rattle.swi_dispatch_guest.specs.MachineState.{MachineState, StepOutcome, stop_of}
-use Rattle.swi_dispatch_guest.specs.Run.{count_after, halt_step_count}
-use Rattle.swi_dispatch_guest.specs.Step.{machine_step}
+use Rattle.command_shell.specs.Halt.{Halt}
+use Rattle.command_shell.specs.Halt.TheVariants as halt
+use Rattle.command_shell.specs.MachineState.{MachineState, StepOutcome, stop_of}
+use Rattle.command_shell.specs.Run.{count_after, halt_step_count}
+use Rattle.command_shell.specs.Step.{machine_step}
 use Rattle.command_shell.specs.Calls.{answer_after_steps, call_done, call_end, call_made, end_answer, finished_by, step_made, step_then, stop_before_step, stop_before_step_by, stop_answer}
 use Rattle.command_shell.specs.Memory.{script_with_last}
 use Rattle.command_shell.specs.State.{ScriptState}

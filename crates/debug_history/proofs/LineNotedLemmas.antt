@@ -11,12 +11,12 @@ use Rattle.arm_core.specs.declared.breaks.breaks.BreakError.{BreakError}
 use Rattle.arm_core.specs.breaks.Breaks.{with_break, without_break}
 use Rattle.image_loader.specs.Entries.{Entry, bytes_of_image, can_name_image, refusal_for, with_entry, without_entry}
 use Rattle.profile.specs.declared.fault.Fault.{Fault}
-use Rattle.swi_dispatch.specs.Boot.{machine_after_boot}
-use Rattle.swi_dispatch.specs.declared.boot_error.BootError.{BootError}
-use Rattle.swi_dispatch_guest.specs.MachineState.{MachineState, StepOutcome}
-use Rattle.swi_dispatch_guest.specs.Step.{module_loaded, store_called}
-use Rattle.swi_dispatch_guest.specs.Writes.{machine_after_poke}
-use Rattle.swi_dispatch_guest.specs.declared.halt.Halt.{Halt}
+use Rattle.command_shell.specs.Boot.{machine_after_boot}
+use Rattle.command_shell.specs.BootError.{BootError}
+use Rattle.command_shell.specs.MachineState.{MachineState, StepOutcome}
+use Rattle.command_shell.specs.Step.{module_loaded, store_called}
+use Rattle.command_shell.specs.Writes.{machine_after_poke}
+use Rattle.command_shell.specs.Halt.{Halt}
 use Rattle.image_loader.specs.declared.error.ImageError.{ImageError}
 use Rattle.image_loader.specs.declared.error.ImageError.TheVariants.{BadName, NameTaken, TooLarge, TableFull}
 use Rattle.debug_lines.specs.LineKinds.{is_refused_block}

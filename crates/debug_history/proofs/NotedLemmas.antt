@@ -7,11 +7,11 @@ use Rattle.image_loader.specs.Entries.{Entry}
 use Rattle.profile.specs.Sizes.{Sizes}
 use Rattle.profile.specs.declared.stop.Stop.{Stop}
 use Rattle.profile.specs.declared.stop.Stop.TheVariants as stop
-use Rattle.swi_dispatch_guest.specs.declared.halt.Halt.{Halt}
-use Rattle.swi_dispatch_guest.specs.declared.halt.Halt.TheVariants as halt
-use Rattle.swi_dispatch_guest.specs.MachineState.{MachineState, StepOutcome, stop_of}
-use Rattle.swi_dispatch_guest.specs.Run.{Run, count_after, go_on, halt_step_count, is_among, ran, resting, run_after_steps, run_unless_halted}
-use Rattle.swi_dispatch_guest.specs.Step.{machine_step}
+use Rattle.command_shell.specs.Halt.{Halt}
+use Rattle.command_shell.specs.Halt.TheVariants as halt
+use Rattle.command_shell.specs.MachineState.{MachineState, StepOutcome, stop_of}
+use Rattle.command_shell.specs.Run.{Run, count_after, go_on, halt_step_count, is_among, ran, resting, run_after_steps, run_unless_halted}
+use Rattle.command_shell.specs.Step.{machine_step}
 use Rattle.command_shell.specs.State.{ScriptState}
 use Rattle.command_shell.specs.Stepping.{script_after_run, script_run}
 use Rattle.debug_history.specs.Acts.{PastMoment, changed_moment, fresh_moment, moment_after_acts, moment_after_deed, moment_after_steps, moment_of_script, steps_of_acts, steps_of_deed}

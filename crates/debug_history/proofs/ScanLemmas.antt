@@ -6,8 +6,8 @@ use Rattle.std.proofs.lemmas.List.{append-nil, drop_all, drop_more}
 use Rattle.image_loader.specs.Entries.{Entry}
 use Rattle.profile.specs.Sizes.{Sizes}
 use Rattle.command_shell.specs.State.{ScriptState, script_start_state}
-use Rattle.swi_dispatch_guest.specs.MachineState.{MachineState}
-use Rattle.swi_dispatch_guest.specs.Step.{machine_step}
+use Rattle.command_shell.specs.MachineState.{MachineState}
+use Rattle.command_shell.specs.Step.{machine_step}
 use Rattle.debug_history.specs.Acts.{PastMoment, changed_moment, fresh_moment, moment_after_acts, moment_after_deed, moment_after_steps, moment_of_script, steps_act, steps_of_acts, steps_of_deed}
 use Rattle.debug_history.specs.Again.{IsAtMoment}
 use Rattle.debug_history.specs.Scan.{scan_past}
@@ -234,6 +234,8 @@ unit_count line (deed.Place address) = steps_of_one (record { line = line; deed 
 unit_count line (deed.Routine address link) = steps_of_one (record { line = line; deed = deed.Routine address link })
 unit_count line (deed.Status status) = steps_of_one (record { line = line; deed = deed.Status status })
 unit_count line deed.Woken = steps_of_one (record { line = line; deed = deed.Woken })
+unit_count line (deed.Bytes address bytes) = steps_of_one (record { line = line; deed = deed.Bytes address bytes })
+unit_count line deed.Anew = steps_of_one (record { line = line; deed = deed.Anew })
 
 pub units_count : (acts : List Act) → steps_of_acts (units acts) ≡ steps_of_acts acts
 unfolding steps_of_acts
@@ -297,6 +299,8 @@ units_other line (deed.Place address) other = refl
 units_other line (deed.Routine address link) other = refl
 units_other line (deed.Status status) other = refl
 units_other line deed.Woken other = refl
+units_other line (deed.Bytes address bytes) other = refl
+units_other line deed.Anew other = refl
 
 pub deed_scanned : (x : Sought) (s now : ScriptState) (u : Act) (scan next : Scan) (steps : ℕ) (machine : MachineState)
     → scan.seen ≡ value_in x s.machine

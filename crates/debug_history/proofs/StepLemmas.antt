@@ -5,10 +5,10 @@ use Rattle.std.proofs.lemmas.Bool.Decides.{nat_tests}
 use Rattle.image_loader.specs.Entries.{Entry}
 use Rattle.profile.specs.declared.stop.Stop.{Stop}
 use Rattle.profile.specs.declared.stop.Stop.TheVariants as stop
-use Rattle.swi_dispatch_guest.specs.declared.halt.Halt.{Halt}
-use Rattle.swi_dispatch_guest.specs.MachineState.{MachineState, StepOutcome, stop_of}
-use Rattle.swi_dispatch_guest.specs.Step.{machine_step, outcome_of_turn, result_of_instruction, unless_halted}
-use Rattle.swi_dispatch_guest.specs.Run.{Run, go_on, halt_step_count, is_among, ran, resting, run_after_steps, run_unless_halted}
+use Rattle.command_shell.specs.Halt.{Halt}
+use Rattle.command_shell.specs.MachineState.{MachineState, StepOutcome, stop_of}
+use Rattle.command_shell.specs.Step.{machine_step, outcome_of_turn, result_of_instruction, unless_halted}
+use Rattle.command_shell.specs.Run.{Run, go_on, halt_step_count, is_among, ran, resting, run_after_steps, run_unless_halted}
 use Rattle.debug_history.specs.Acts.{PastMoment, moment_after_steps}
 use Rattle.debug_history.specs.Steps.{RunsAreTheirSteps, steps_after}
 

@@ -1,21 +1,23 @@
 -- What is done to a machine: steps, calls, and changes from outside.
-use Rattle.std.specs.Prelude.{ℕ, zero, Bool, true, false, ◌&&◌, ◌+◌, ◌-◌, ◌==◌, nat_lt, List, [], ◌∷◌, Option, Some, None, Result, Ok, Err, if◌then◌else◌}
+use Rattle.std.specs.Prelude.{ℕ, zero, Bool, true, false, ◌&&◌, ◌+◌, ◌-◌, ◌==◌, length, nat_lt, List, [], ◌∷◌, Option, Some, None, Result, Ok, Err, if◌then◌else◌}
 use Rattle.image_loader.specs.Entries.{Entry, bytes_of_image}
 use Rattle.profile.specs.Sizes.{Sizes}
 use Rattle.profile.specs.declared.fault.Fault.{Fault}
-use Rattle.swi_dispatch.specs.Boot.{machine_after_boot}
-use Rattle.swi_dispatch.specs.declared.boot_error.BootError.{BootError}
-use Rattle.swi_dispatch_guest.specs.MachineState.{MachineState, machine_start}
-use Rattle.swi_dispatch_guest.specs.Step.{machine_step, module_loaded, store_called}
-use Rattle.swi_dispatch_guest.specs.Writes.{machine_after_poke, machine_at, machine_unhalted, machine_with_bank_register, machine_with_register, machine_with_status}
+use Rattle.command_shell.specs.Boot.{machine_after_boot}
+use Rattle.command_shell.specs.BootError.{BootError}
+use Rattle.command_shell.specs.MachineState.{MachineState, machine_start}
+use Rattle.command_shell.specs.Step.{machine_step, module_loaded, store_called}
+use Rattle.command_shell.specs.Writes.{machine_after_poke, machine_at, machine_unhalted, machine_with_bank_register, machine_with_register, machine_with_status}
 use Rattle.command_shell.specs.State.{ScriptState}
 use Rattle.debug_lines.specs.SteppingRequests.{SteppingRequest, Run, stepping_request_of}
 use Rattle.debug_lines.specs.SteppingRequests as asked
 use Rattle.debug_lines.specs.declared.stepping.SteppingCommand.{SteppingCommand}
+use Rattle.debug_tables.specs.Stubs.{machine_with_bytes}
+use Rattle.debug_tables.specs.byte_writes.Put.{put_fault}
 use Rattle.debug_history.specs.Steps.{steps_after}
 use Rattle.debug_history.specs.declared.act.Act.{Act}
 use Rattle.debug_history.specs.declared.act.PastDeed.{PastDeed}
-use Rattle.debug_history.specs.declared.act.PastDeed.TheVariants.{Steps, FaultingStep, Boot, Call, Load, Register, Word, Banked, Place, Routine, Status, Woken}
+use Rattle.debug_history.specs.declared.act.PastDeed.TheVariants.{Steps, FaultingStep, Boot, Call, Load, Register, Word, Banked, Place, Routine, Status, Woken, Bytes, Anew}
 
 -- a machine, and whether it still stands as it was made
 pub record PastMoment : Type 0 where
@@ -53,6 +55,17 @@ moment_after_boot sizes m (Some program) =
     moment_after_program m (machine_after_boot sizes m.is_fresh m.machine program)
 moment_after_boot sizes m None = m
 
+-- nor do bytes that can't be written, or none
+abbrev pub moment_unless_fault : PastMoment → Option Fault → MachineState → PastMoment
+moment_unless_fault m None machine = changed_moment machine
+moment_unless_fault m (Some fault) machine = m
+
+abbrev pub moment_after_put : PastMoment → ℕ → List ℕ → PastMoment
+moment_after_put m at [] = m
+moment_after_put m at (byte ∷ bytes) =
+    moment_unless_fault m (put_fault m.machine.store at (length (byte ∷ bytes)))
+    (machine_with_bytes m.machine at (byte ∷ bytes))
+
 -- one deed; a step that ends in a fault isn't counted
 abbrev pub moment_after_deed : List Entry → Sizes → PastDeed → PastMoment → PastMoment
 moment_after_deed images sizes (Steps count) m = moment_after_steps images count m
@@ -73,6 +86,8 @@ moment_after_deed images sizes (Routine address link) m =
     changed_moment (machine_at (machine_with_register m.machine 14 link) address)
 moment_after_deed images sizes (Status status) m = changed_moment (machine_with_status m.machine status)
 moment_after_deed images sizes Woken m = changed_moment (machine_unhalted m.machine)
+moment_after_deed images sizes (Bytes address bytes) m = moment_after_put m address bytes
+moment_after_deed images sizes Anew m = fresh_moment sizes
 
 -- one act after another
 unfoldable pub moment_after_acts : List Entry → Sizes → List Act → PastMoment → PastMoment

@@ -6,7 +6,7 @@ use Rattle.command_shell.specs.State.{ScriptState}
 use Rattle.debug_labels.specs.Labels.{ImageLabels}
 use Rattle.debug_labels.specs.Lines.{line_with_numbers}
 use Rattle.debug_labels.specs.place_views.Places.{line_naming_on, where_text}
-use Rattle.swi_dispatch_guest.specs.MachineState.{MachineState}
+use Rattle.command_shell.specs.MachineState.{MachineState}
 use Rattle.debug_history.specs.Lines.{past_line}
 use Rattle.debug_history.specs.Acts.{fresh_moment, steps_of_acts}
 use Rattle.debug_history.specs.Again.{script_at_moment}

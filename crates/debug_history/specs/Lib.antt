@@ -1,9 +1,9 @@
 -- The past of a machine: what was done to it, and how it stood. Begin with Past.
 pub use Rattle.command_shell.specs.Calls as ShellCalls
 pub use Rattle.command_shell.specs.declared.calls.CallEnd
-pub use Rattle.swi_dispatch_guest.specs.Run as MachineRun
-pub use Rattle.swi_dispatch_guest.specs.Step as MachineSteps
-pub use Rattle.swi_dispatch_guest.specs.declared.halt.Halt
+pub use Rattle.command_shell.specs.Run as MachineRun
+pub use Rattle.command_shell.specs.Step as MachineSteps
+pub use Rattle.command_shell.specs.Halt
 pub mod Acts
 pub mod Again
 pub mod Answers

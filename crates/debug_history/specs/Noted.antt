@@ -2,9 +2,9 @@
 use Rattle.std.specs.Prelude.{ℕ, zero, suc, ◌+◌, ◌==◌, Bool, true, false, not, ◌&&◌, ◌||◌, is_some, nat_lt, List, [], ◌∷◌, Option, Some, None, if◌then◌else◌}
 use Rattle.arm_core.specs.Psr.{psr_bits}
 use Rattle.arm_core.specs.State.{register_of}
-use Rattle.swi_dispatch_guest.specs.MachineState.{MachineState}
-use Rattle.swi_dispatch_guest.specs.declared.halt.Halt.{Halt}
-use Rattle.swi_dispatch_guest.specs.declared.halt.Halt.TheVariants as halt
+use Rattle.command_shell.specs.MachineState.{MachineState}
+use Rattle.command_shell.specs.Halt.{Halt}
+use Rattle.command_shell.specs.Halt.TheVariants as halt
 use Rattle.debug_lines.specs.SteppingRequests as stepping
 use Rattle.command_shell_lines.specs.Requests.{Request, Asm, Boot, Call, Hex, Load, Poke, Run, Set, Step}
 use Rattle.debug_history.specs.Past.{PastState, past_with_act, past_with_other_images, unknown_past}

@@ -13,7 +13,7 @@ use Rattle.os_heap.specs.Store.{Store}
 use Rattle.os_heap.specs.declared.payload.Payload.{Payload}
 use Rattle.os_heap.specs.declared.payload.Payload.TheVariants.{Outside, Inside, Other}
 use Rattle.profile.specs.Sizes.{Sizes}
-use Rattle.swi_dispatch_guest.specs.MachineState.{MachineState}
+use Rattle.command_shell.specs.MachineState.{MachineState}
 use Rattle.debug_history.specs.Acts.{PastMoment, moment_after_acts, moment_after_deed, steps_act, steps_of_acts, steps_of_deed}
 use Rattle.debug_history.specs.declared.act.Act.{Act}
 use Rattle.debug_history.specs.declared.act.PastDeed.{PastDeed}

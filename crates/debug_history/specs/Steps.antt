@@ -1,9 +1,9 @@
 -- The machine after so many steps. A machine that is halted stays as it is.
 use Rattle.std.specs.Prelude.{◌≡◌, ℕ, zero, suc, ◌-◌, List}
 use Rattle.image_loader.specs.Entries.{Entry}
-use Rattle.swi_dispatch_guest.specs.MachineState.{MachineState}
-use Rattle.swi_dispatch_guest.specs.Run.{ran}
-use Rattle.swi_dispatch_guest.specs.Step.{machine_step}
+use Rattle.command_shell.specs.MachineState.{MachineState}
+use Rattle.command_shell.specs.Run.{ran}
+use Rattle.command_shell.specs.Step.{machine_step}
 
 unfoldable pub steps_after : List Entry → ℕ → MachineState → MachineState
 steps_after images zero s = s

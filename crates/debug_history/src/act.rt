@@ -9,7 +9,7 @@ use debug_lines::SteppingCommand;
 use std::alloc::{AllocError, Global};
 use std::marker::Model;
 
-/// A text that a line had.
+/// A text that a line had, or bytes that it wrote.
 #[derive(Drop)]
 pub struct KeptText {
     bytes: Vec<u8>,
@@ -107,6 +107,10 @@ pub enum PastDeed {
     Status(Psr),
     /// A machine that is halted can take steps again.
     Woken,
+    /// Bytes are written from outside, the first of them at an address, if they can be.
+    Bytes(u32, KeptText),
+    /// The machine is made anew.
+    Anew,
 }
 
 /// What a line of a script did, by the line's number.

@@ -11,6 +11,7 @@ ghost use Rattle.debug_history.specs.declared.act.PastDeed.TheVariants.{Faulting
 use crate::act::{Act, PastDeed};
 use command_shell::{Nowhere, OutsideCall, RunError, Session};
 use command_shell_lines::ScriptCommand;
+use debug_tables::byte_writes::put_bytes;
 use image_loader::Images;
 use profile::WriteFault;
 use profile::text_lines::Lines;
@@ -61,7 +62,7 @@ fn call_again(session: &mut Session, images: &Images, call: OutsideCall) -> Resu
 ///
 /// # Errors
 ///
-/// `Memory` where a program can't be booted for lack of it.
+/// `Memory` where a program can't be booted for lack of it, or no machine made.
 pub fn deed_again(
     session: &mut Session,
     images: &mut Images,
@@ -104,6 +105,14 @@ pub fn deed_again(
         }
         PastDeed::Status(status) => session.set_psr(*status),
         PastDeed::Woken => session.wake(),
+        PastDeed::Bytes(address, bytes) => {
+            let _ = put_bytes(session, *address, bytes.bytes());
+        }
+        PastDeed::Anew => {
+            let config = session.machine().config();
+            let budget = session.left();
+            session.start_anew(config, budget)?;
+        }
     }
     Ok(())
 }

@@ -8,7 +8,7 @@ ghost use Rattle.debug_history.specs.Past.{line_of_last_act};
 ghost use Rattle.debug_history.specs.declared.search.Sought.TheVariants.{Stood};
 ghost use Rattle.debug_labels.specs.place_views.Places.{where_text};
 ghost use Rattle.image_loader.specs.Entries.{Entry};
-ghost use Rattle.swi_dispatch_guest.specs.GuestState.{state_of};
+ghost use Rattle.command_shell.specs.GuestState.{state_of};
 
 use crate::lines::{PastCommand, past_line};
 use crate::past::Past;

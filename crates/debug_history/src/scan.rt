@@ -8,7 +8,7 @@ ghost use Rattle.debug_history.specs.Acts.{fresh_moment, moment_after_acts, mome
 ghost use Rattle.debug_history.specs.Again.{IsAtMoment};
 ghost use Rattle.debug_history.specs.Scan.{scan_past};
 ghost use Rattle.debug_history.specs.Search.{found_between, last_found, value_in, single_steps, units, units_of_act};
-ghost use Rattle.swi_dispatch_guest.specs.GuestState.{state_of};
+ghost use Rattle.command_shell.specs.GuestState.{state_of};
 
 use crate::act::{Act, PastDeed};
 use crate::again::deed_again;

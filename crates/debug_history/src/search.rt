@@ -3,7 +3,7 @@
 ghost use Rattle.std.specs.Prelude.{◌≡◌, ◌+◌};
 ghost use Rattle.os_heap.specs.Payloads.{payload_of};
 ghost use Rattle.debug_history.specs.Search.{block_headed_at, block_round, is_same_seen, passes, value_in};
-ghost use Rattle.swi_dispatch_guest.specs.GuestState.{state_of};
+ghost use Rattle.command_shell.specs.GuestState.{state_of};
 
 use arm_core::Mode;
 use command_shell::Machine;

@@ -4,8 +4,8 @@ use Rattle.std.specs.Prelude.{OnOk}
 use Rattle.std.specs.Io.KnownBytes.{Appends, Consumes, IsAtEnd, Keeps}
 use Rattle.std.specs.Str.Lines.{lines}
 use Rattle.std.proofs.KnownBytes.{Consumes-nil, Consumes-trans}
-use Rattle.command_shell.specs.declared.error.RunError.{RunError}
-use Rattle.command_shell.specs.declared.error.RunError.TheVariants.{WriteFault}
+use Rattle.debug_session.specs.RunError.{RunError}
+use Rattle.debug_session.specs.RunError.TheVariants.{WriteFault}
 use Rattle.image_loader.specs.Entries.{Entry}
 use Rattle.profile.specs.Devices.{device_inner}
 use Rattle.profile.specs.Output.{AddsAllBut, AddsFront}

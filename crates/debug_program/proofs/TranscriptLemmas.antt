@@ -11,8 +11,8 @@ use Rattle.std.specs.Str.Lines.{lines}
 use Rattle.profile.proofs.OutputLemmas.{Appends-join, Appends-nothing}
 use Rattle.image_loader.specs.Entries.{Entry}
 use Rattle.profile.specs.text_lines.Lines.{ReadingPlace}
-use Rattle.command_shell.specs.Error.{IsLineError}
-use Rattle.command_shell.specs.declared.error.RunError.{RunError}
+use Rattle.debug_session.specs.Error.{IsLineError}
+use Rattle.debug_session.specs.RunError.{RunError}
 use Rattle.debug_session.proofs.LineLemmas.{fewer, none_left, none_answer, step_state, step_text}
 use Rattle.debug_session.specs.DebugScript.{debug_lines_answer}
 use Rattle.debug_session.specs.DebugState.{DebugAnswered, DebugState, debug_answer, debug_start_state}

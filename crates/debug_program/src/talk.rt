@@ -3,15 +3,14 @@
 ghost use Rattle.std.specs.Prelude.{◌≡◌, ◌⊎◌, true, false, Err, IfOk, IfErr, OnOk, OnErr};
 ghost use Rattle.std.specs.Io.KnownBytes.{IsAtEnd, Keeps};
 ghost use Rattle.profile.specs.Devices.{device_failed, device_inner};
-ghost use Rattle.command_shell.specs.Error.{IsLineError};
+ghost use Rattle.debug_session.specs.Error.{IsLineError};
 ghost use Rattle.debug_session.specs.DebugState.{IsDebugTypingError};
 ghost use Rattle.debug_session.specs.Failing.{ReportsReadFault, ReportsWriteFault};
 ghost use Rattle.debug_session.specs.DebugChecksReportForm.TheVariants.{Answers};
 ghost use Rattle.debug_program.specs.Talking.{BeginsInput, DebugsInput, HasTalked, IsStatusOfInput, TakesPiece, TakesPieceInPart};
 
 use crate::typing::DebugTyping;
-use command_shell::RunError;
-use debug_session::{ReportForm, push_missing_end};
+use debug_session::{ReportForm, RunError, push_missing_end};
 use image_loader::Images;
 use profile::{Device, Sink, Source, WriteFault, push_all};
 use std::io::Write;

@@ -4,7 +4,7 @@
 ghost use Rattle.std.specs.Prelude.{◌≡◌, ◌<◌, ◌⊎◌, true, length, Err, IfOk, IfSome, IsErr, OnOk, IfErr};
 ghost use Rattle.profile.specs.Output.{Writes};
 ghost use Rattle.profile.specs.Pulls.{PullsAtMost};
-ghost use Rattle.command_shell.specs.Error.{IsLineError};
+ghost use Rattle.debug_session.specs.Error.{IsLineError};
 ghost use Rattle.debug_session.specs.ExitStatus.{debug_status};
 ghost use Rattle.debug_session.specs.Failing.{ReportsWriteFault};
 ghost use Rattle.debug_session.specs.Reports.{summary_text};
@@ -12,9 +12,8 @@ ghost use Rattle.debug_program.specs.Transcript.{answered_text, debug_shown_in, 
 
 use crate::answering::{AnsweredLine, ScriptAnswering};
 use crate::spelling::{Side, push_side};
-use command_shell::RunError;
 use command_shell_lines::read_script;
-use debug_session::{DebugSession, DebugSettings};
+use debug_session::{DebugSession, DebugSettings, RunError};
 use image_loader::Images;
 use profile::text_sink::TextSink;
 use profile::{Sink, Source, WriteFault};

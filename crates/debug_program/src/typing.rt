@@ -6,12 +6,11 @@ ghost use Rattle.std.specs.Str.Lines.{lines};
 ghost use Rattle.debug_lines.specs.BlockEnds.{shown_beyond};
 ghost use Rattle.debug_lines.specs.WholeDebugRequests.{AreWholeDebugRequests};
 ghost use Rattle.debug_session.specs.DebugState.{IsDebugTypingError};
-ghost use Rattle.command_shell.specs.Error.{IsLineError};
+ghost use Rattle.debug_session.specs.Error.{IsLineError};
 ghost use Rattle.profile.specs.Output.{AddsFront};
 
-use command_shell::RunError;
 use debug_lines::{missing_ends, read_requests};
-use debug_session::{DebugSession, DebugSettings};
+use debug_session::{DebugSession, DebugSettings, RunError};
 use image_loader::Images;
 use profile::Sink;
 use profile::text_lines::{Lines, cut_line};

@@ -11,7 +11,9 @@ pub use Rattle.debug_history.specs.Past
 pub use Rattle.debug_history.specs.declared.act.PastDeed
 pub use Rattle.debug_history.specs.declared.search.PastFound
 pub use Rattle.debug_history.specs.declared.search.Sought
+pub use Rattle.debug_tables.specs.run_meter.Error
 pub use Rattle.debug_tables.specs.run_meter.Meters
+pub use Rattle.debug_tables.specs.run_meter.RunError
 pub mod AsBefore
 pub mod DebugScript
 pub mod DebugState

@@ -20,5 +20,5 @@ pub use debug_modes::expectations::begins_ending;
 pub use debug_modes::expectations::reports::{CheckTally, ReportForm, push_missing_end};
 pub use debug_tables::StubDeed;
 pub use debug_tables::byte_writes::put_bytes;
-pub use debug_tables::run_meter::RunMeter;
+pub use debug_tables::run_meter::{RunError, RunMeter};
 pub use session::{DebugSession, DebugSettings};

@@ -1,5 +1,5 @@
 use Rattle.std.proofs.Common.{◌≡◌, ap, arith}
-use Rattle.swi_dispatch_guest.specs.MachineState.{MachineState}
+use Rattle.command_shell.specs.MachineState.{MachineState}
 use Rattle.command_shell.specs.Calls.{outside_called}
 use Rattle.command_shell.specs.Session.{script_state}
 use Rattle.command_shell.specs.State.{ScriptState}

@@ -1,11 +1,12 @@
-use Rattle.std.proofs.Common.{◌≡◌, ◌∙◌, ℕ, subst, sym}
-use Rattle.swi_dispatch_guest.specs.Writes.{machine_after_poke, machine_at, machine_unhalted, machine_with_bank_register, machine_with_register, machine_with_status}
+use Rattle.std.proofs.Common.{◌≡◌, ◌∙◌, ℕ, List, ap, subst, sym}
+use Rattle.command_shell.specs.Writes.{machine_after_poke, machine_at, machine_unhalted, machine_with_bank_register, machine_with_register, machine_with_status}
+use Rattle.command_shell.specs.Value.{MachineValue}
 use Rattle.command_shell.specs.Memory.{script_at}
 use Rattle.command_shell.specs.Session.{script_state}
-use Rattle.debug_history.specs.Acts.{changed_moment, moment_after_deed, moment_after_word, moment_of_script}
+use Rattle.debug_history.specs.Acts.{changed_moment, moment_after_deed, moment_after_put, moment_after_word, moment_of_script}
 use Rattle.debug_history.specs.Again.{IsAtMoment}
 use Rattle.debug_history.specs.declared.act.PastDeed.{PastDeed}
-use Rattle.debug_history.proofs.AgainLemmas.{poke_at, with_machine_at}
+use Rattle.debug_history.proofs.AgainLemmas.{anew_at, poke_at, put_at, with_machine_at}
 use Rattle.debug_history.proofs.again.deed_again.Goals as goal
 
 pub returns-in-Register-clause-moment : goal.returns-in-Register-clause-moment
@@ -71,3 +72,21 @@ returns-in-Routine-clause-moment c =
     (with_machine_at s now (machine_at (machine_with_register s.machine 14 c.in-Routine.link) c.in-Routine.address)
     (c.set_pc-in-Routine.ensures c.args.images.now
     ∙ (λ i. script_at (first i) (c.address.ensures.value i))))
+
+pub returns-in-Bytes-clause-moment : goal.returns-in-Bytes-clause-moment
+returns-in-Bytes-clause-moment c =
+    let s = script_state c.args.session.now c.args.images.now in
+    let now = script_state c.put_bytes.new.session c.args.images.now in
+    subst (λ (d : PastDeed). IsAtMoment s now (moment_after_deed s.images s.sizes d (moment_of_script s))) (sym c.in-Bytes.is)
+    (subst (λ (bytes : List ℕ). IsAtMoment s now (moment_after_put (moment_of_script s) c.in-Bytes.address bytes))
+    c.bytes.ensures
+    (put_at s now c.in-Bytes.address c.bytes.result.now c.put_bytes.result (c.put_bytes.ensures c.args.images.now)))
+
+pub returns-in-Anew-clause-moment : goal.returns-in-Anew-clause-moment
+returns-in-Anew-clause-moment c =
+    let s = script_state c.args.session.now c.args.images.now in
+    let now = script_state c.start_anew.new.self c.args.images.now in
+    subst (λ (d : PastDeed). IsAtMoment s now (moment_after_deed s.images s.sizes d (moment_of_script s))) (sym c.in-Anew.is)
+    (anew_at s now c.config-config.result c.left-budget.result
+    (c.config-config.ensures ∙ ap (λ (m : MachineValue). m.sizes) c.machine.ensures)
+    (c.in_ok-start_anew.ensures.made c.args.images.now))

@@ -1,6 +1,6 @@
 use Rattle.std.proofs.Common.{◌≡◌, ap, arith}
-use Rattle.swi_dispatch_guest.specs.MachineState.{MachineState}
-use Rattle.swi_dispatch_guest.specs.Step.{machine_step}
+use Rattle.command_shell.specs.MachineState.{MachineState}
+use Rattle.command_shell.specs.Step.{machine_step}
 use Rattle.command_shell.specs.Session.{script_state}
 use Rattle.command_shell.specs.State.{ScriptState}
 use Rattle.debug_history.proofs.AgainLemmas.{one_step_at}

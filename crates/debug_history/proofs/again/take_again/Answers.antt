@@ -1,10 +1,9 @@
 use Rattle.std.proofs.Common.{◌≡◌, None, Some, Option, ap, arith, sym, ◌∙◌}
 use Rattle.std.specs.Prelude.{is_some}
 use Rattle.profile.specs.declared.stop.Stop.{Stop}
-use Rattle.swi_dispatch.specs.Value.{MachineValue}
+use Rattle.command_shell.specs.Value.{MachineValue}
 use Rattle.command_shell.specs.Session.{script_state}
-use Rattle.swi_dispatch_guest.proofs.RunLoop.{halt-none}
-use Rattle.debug_history.proofs.AgainLemmas.{halted_is, way_ends, way_goes_on, way_halts, way_shrinks, way_takes}
+use Rattle.debug_history.proofs.AgainLemmas.{halted_is, halted_none, way_ends, way_goes_on, way_halts, way_shrinks, way_takes}
 use Rattle.debug_history.proofs.again.take_again.Goals as goal
 
 pub returns-in-Some : goal.returns-in-Some
@@ -26,7 +25,7 @@ overflow_sub-left c =
 pub loop-left-smaller : goal.loop-left-smaller
 loop-left-smaller c =
     let images = c.args.images.now in
-    let up = halt-none c.machine.result.now.guest.halt c.stop.result c.stop.ensures.halt c.in-None.is in
+    let up = halted_none c.machine.result.now.guest.halt c.stop.result c.stop.ensures.halt c.in-None.is in
     way_shrinks (script_state c.loop-left.session images) (script_state c.set_budget.new.self images)
     (script_state c.take_steps.new.self images) c.loop-left.left c.in_ok-ran-in-None.ran.taken None None
     c.in_ok-ran-in-None.ran.stop c.loop-left-test.true

@@ -1,6 +1,6 @@
 use Rattle.std.proofs.Common.{◌≡◌, List, [], ◌∷◌, ap, subst, sym, ◌∙◌}
-use Rattle.swi_dispatch.specs.Value.{MachineValue}
-use Rattle.swi_dispatch_guest.specs.GuestState.{state_of}
+use Rattle.command_shell.specs.Value.{MachineValue}
+use Rattle.command_shell.specs.GuestState.{state_of}
 use Rattle.command_shell.specs.Session.{script_state}
 use Rattle.debug_history.specs.Acts.{PastMoment, moment_after_acts, moment_of_script}
 use Rattle.debug_history.specs.Again.{IsAtMoment}

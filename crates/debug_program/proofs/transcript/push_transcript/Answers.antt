@@ -1,7 +1,7 @@
 use Rattle.std.proofs.Common.{◌≡◌, ap, inr, refl, sym, ◌∙◌, List, ℕ}
 use Rattle.std.specs.Str.Lines.{lines}
 use Rattle.profile.specs.text_lines.Lines.{ReadingPlace}
-use Rattle.command_shell.specs.declared.error.RunError.TheVariants as error
+use Rattle.debug_session.specs.RunError.TheVariants as error
 use Rattle.debug_session.specs.ExitStatus.{debug_status}
 use Rattle.debug_session.specs.Reports.{summary_text}
 use Rattle.debug_session.specs.Session.{debug_state}
