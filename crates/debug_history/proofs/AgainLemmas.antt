@@ -5,6 +5,7 @@ use Rattle.std.specs.Option.{option_map}
 use Rattle.std.proofs.lemmas.Bool.Decides.{nat_tests}
 use Rattle.std.proofs.lemmas.List.{drop_all, drop_more}
 use Rattle.image_loader.specs.Entries.{Entry}
+use Rattle.command_shell_lines.specs.declared.debug_words.stubs.Stub.{Stub}
 use Rattle.profile.specs.Outcome.{Leaves, bind}
 use Rattle.profile.specs.Sizes.{Sizes}
 use Rattle.profile.specs.declared.fault.Fault.{Fault}
@@ -22,7 +23,7 @@ use Rattle.command_shell.specs.Memory.{script_after_poke, script_started_anew, s
 use Rattle.command_shell.specs.State.{ScriptState, script_start_state}
 use Rattle.command_shell.specs.Stepping.{IsAfterRun, script_after_run, script_run}
 use Rattle.address_map.specs.Bytes.{ok_unless_fault}
-use Rattle.debug_tables.specs.Stubs.{machine_with_bytes}
+use Rattle.debug_tables.specs.Stubs.{machine_with_bytes, stubbed_step}
 use Rattle.debug_tables.specs.byte_writes.Put.{put_fault, script_after_put}
 use Rattle.debug_history.specs.Acts.{PastMoment, changed_moment, fresh_moment, moment_after_acts, moment_after_boot, moment_after_deed, moment_after_put, moment_after_steps, moment_after_word, moment_of_script, moment_unless_fault}
 use Rattle.debug_history.specs.Again.{IsAtMoment, script_at_moment}
@@ -148,32 +149,33 @@ one_step_at s budgeted next f given made =
 -- STEPS IN PIECES
 
 -- so many of some steps are left, and the script stands where the others led
-pub record IsUnderWay (s now : ScriptState) (count left : ℕ) : Type 0 where
+pub record IsUnderWay (stubs : List Stub) (s now : ScriptState) (count left : ℕ) : Type 0 where
   pub beside : IsBeside s now
-  pub moment : moment_after_steps s.images left (moment_of_script now) ≡ moment_after_steps s.images count (moment_of_script s)
+  pub moment : moment_after_steps stubs s.images left (moment_of_script now)
+      ≡ moment_after_steps stubs s.images count (moment_of_script s)
 
-pub way_begins : (s : ScriptState) (count : ℕ) → IsUnderWay s s count count
-way_begins s count = record { beside = beside_itself s; moment = refl }
+pub way_begins : (stubs : List Stub) (s : ScriptState) (count : ℕ) → IsUnderWay stubs s s count count
+way_begins stubs s count = record { beside = beside_itself s; moment = refl }
 
 pub fresh_gone : (b : Bool) (n k : ℕ) → 0 < n → ((b && (n == 0)) && (k == 0)) ≡ (b && (n == 0))
 fresh_gone b n k some = grind (arith, nat_tests, some)
 
-way_on : (s now next : ScriptState) (count left taken : ℕ) (before after : Option (List ℕ)) (x : Stop) → IsUnderWay s now count left
-    → 0 < left → IsAfterRun (script_with_budget now left) left next before after taken x → IsUnderWay s next count (left - taken)
+way_on : (s now next : ScriptState) (count left taken : ℕ) (before after : Option (List ℕ)) (x : Stop) → IsUnderWay [] s now count left
+    → 0 < left → IsAfterRun (script_with_budget now left) left next before after taken x → IsUnderWay [] s next count (left - taken)
 way_on s now next count left taken before after x way some done =
     let r : Run = script_run (script_with_budget now left) left in
     let t : ScriptState = script_after_run (script_with_budget now left) left r in
-    let led : steps_after s.images left now.machine ≡ steps_after s.images (left - r.taken) r.now =
-    subst (λ (es : List Entry). steps_after es left now.machine ≡ steps_after es (left - r.taken) r.now)
+    let led : steps_after [] s.images left now.machine ≡ steps_after [] s.images (left - r.taken) r.now =
+    subst (λ (es : List Entry). steps_after [] es left now.machine ≡ steps_after [] es (left - r.taken) r.now)
     way.beside.images (run_leads now.images now.breaks left now.machine) in
-    let here : steps_after s.images (left - taken) next.machine ≡ steps_after s.images (left - r.taken) r.now =
-    ap (λ (k : ℕ). steps_after s.images (left - k) next.machine) done.count
-    ∙ ap (λ (u : ScriptState). steps_after s.images (left - r.taken) u.machine) done.state in
-    let machine : steps_after s.images (left - taken) next.machine ≡ steps_after s.images left now.machine = here ∙ sym led in
+    let here : steps_after [] s.images (left - taken) next.machine ≡ steps_after [] s.images (left - r.taken) r.now =
+    ap (λ (k : ℕ). steps_after [] s.images (left - k) next.machine) done.count
+    ∙ ap (λ (u : ScriptState). steps_after [] s.images (left - r.taken) u.machine) done.state in
+    let machine : steps_after [] s.images (left - taken) next.machine ≡ steps_after [] s.images left now.machine = here ∙ sym led in
     let fresh : (next.is_fresh && ((left - taken) == 0)) ≡ (now.is_fresh && (left == 0)) =
     ap (λ (u : ScriptState). u.is_fresh && ((left - taken) == 0)) done.state
     ∙ fresh_gone now.is_fresh left (left - taken) some in
-    let same : moment_after_steps s.images (left - taken) (moment_of_script next) ≡ moment_after_steps s.images left (moment_of_script now) =
+    let same : moment_after_steps [] s.images (left - taken) (moment_of_script next) ≡ moment_after_steps [] s.images left (moment_of_script now) =
     λ i. record { machine = machine i; is_fresh = fresh i } in
     record {
       beside = beside_both s now next way.beside
@@ -182,26 +184,56 @@ way_on s now next count left taken before after x way some done =
     }
 
 pub way_goes_on : (s now budgeted next : ScriptState) (count left taken : ℕ) (before after : Option (List ℕ)) (x : Stop)
-    → IsUnderWay s now count left → 0 < left → budgeted ≡ script_with_budget now left
-    → IsAfterRun budgeted (min left budgeted.left) next before after taken x → IsUnderWay s next count (left - taken)
+    → IsUnderWay [] s now count left → 0 < left → budgeted ≡ script_with_budget now left
+    → IsAfterRun budgeted (min left budgeted.left) next before after taken x → IsUnderWay [] s next count (left - taken)
 way_goes_on s now budgeted next count left taken before after x way some given done =
     let whole : min left left ≡ left = omega arith in
     way_on s now next count left taken before after x way some
     (subst (λ (n : ℕ). IsAfterRun (script_with_budget now left) n next before after taken x) whole
     (subst (λ (t : ScriptState). IsAfterRun t (min left t.left) next before after taken x) given done))
 
-pub way_ends : (s now : ScriptState) (count left : ℕ) → IsUnderWay s now count left → left ≡ 0
-    → IsAtMoment s now (moment_after_steps s.images count (moment_of_script s))
-way_ends s now count left way none =
-    at_moment s now (moment_after_steps s.images count (moment_of_script s)) way.beside
-    (sym (none_left s.images (moment_of_script now))
-    ∙ ap (λ (k : ℕ). moment_after_steps s.images k (moment_of_script now)) (sym none) ∙ way.moment)
+pub way_ends : (stubs : List Stub) (s now : ScriptState) (count left : ℕ) → IsUnderWay stubs s now count left → left ≡ 0
+    → IsAtMoment s now (moment_after_steps stubs s.images count (moment_of_script s))
+way_ends stubs s now count left way none =
+    at_moment s now (moment_after_steps stubs s.images count (moment_of_script s)) way.beside
+    (sym (none_left stubs s.images (moment_of_script now))
+    ∙ ap (λ (k : ℕ). moment_after_steps stubs s.images k (moment_of_script now)) (sym none) ∙ way.moment)
 
-pub way_halts : (s now : ScriptState) (count left : ℕ) (h : Halt) → IsUnderWay s now count left → now.machine.halt ≡ Some h
-    → now.is_fresh ≡ false → IsAtMoment s now (moment_after_steps s.images count (moment_of_script s))
+-- a step with stubs
+none_fresh_left : (b : Bool) (n k : ℕ) → (false && (k == 0)) ≡ (b && (suc n == 0))
+none_fresh_left b n k = grind (arith, nat_tests)
+
+pub stub_goes_on : (stubs : List Stub) (s now budgeted next : ScriptState) (count left : ℕ) → IsUnderWay stubs s now count left
+    → 0 < left → budgeted ≡ script_with_budget now 1
+    → next ≡ step_made budgeted (stubbed_step stubs budgeted.images budgeted.machine) → IsUnderWay stubs s next count (left - 1)
+unfolding steps_after
+stub_goes_on stubs s now budgeted next count zero way some given made = absurd (omega (arith, some))
+stub_goes_on stubs s now budgeted next count (suc n) way some given made =
+    let t : ScriptState = step_made (script_with_budget now 1) (stubbed_step stubs now.images now.machine) in
+    let is : next ≡ t = made ∙ ap (λ (x : ScriptState). step_made x (stubbed_step stubs x.images x.machine)) given in
+    let one : suc n - 1 ≡ n = omega arith in
+    let stepped : next.machine ≡ (stubbed_step stubs s.images now.machine).now =
+    ap (λ (x : ScriptState). x.machine) is
+    ∙ ap (λ (es : List Entry). (stubbed_step stubs es now.machine).now) way.beside.images in
+    let old : next.is_fresh ≡ false = ap (λ (x : ScriptState). x.is_fresh) is in
+    let fresh : (next.is_fresh && ((suc n - 1) == 0)) ≡ (now.is_fresh && (suc n == 0)) =
+    ap (λ (b : Bool). b && ((suc n - 1) == 0)) old ∙ none_fresh_left now.is_fresh n (suc n - 1) in
+    let machine : steps_after stubs s.images (suc n - 1) next.machine ≡ steps_after stubs s.images (suc n) now.machine =
+    λ i. steps_after stubs s.images (one i) (stepped i) in
+    let same : moment_after_steps stubs s.images (suc n - 1) (moment_of_script next)
+    ≡ moment_after_steps stubs s.images (suc n) (moment_of_script now) =
+    λ i. record { machine = machine i; is_fresh = fresh i } in
+    record {
+      beside = beside_both s now next way.beside
+          (beside_same now next t is (record { sizes = refl; images = refl; breaks = refl }));
+      moment = same ∙ way.moment;
+    }
+
+pub way_halts : (s now : ScriptState) (count left : ℕ) (h : Halt) → IsUnderWay [] s now count left → now.machine.halt ≡ Some h
+    → now.is_fresh ≡ false → IsAtMoment s now (moment_after_steps [] s.images count (moment_of_script s))
 way_halts s now count left h way halted old =
-    at_moment s now (moment_after_steps s.images count (moment_of_script s)) way.beside
-    (sym (halted_left s.images left (moment_of_script now) h halted old) ∙ way.moment)
+    at_moment s now (moment_after_steps [] s.images count (moment_of_script s)) way.beside
+    (sym (halted_left [] s.images left (moment_of_script now) h halted old) ∙ way.moment)
 
 -- the loop ends: fewer steps are left, or the machine is halted
 pub unhalted : Option Halt → ℕ

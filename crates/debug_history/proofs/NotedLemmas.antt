@@ -4,6 +4,7 @@ use Rattle.std.specs.Prelude.{is_some, min, nat_lt}
 use Rattle.std.specs.Option.{option_map}
 use Rattle.std.proofs.lemmas.Bool.Decides.{nat_tests}
 use Rattle.image_loader.specs.Entries.{Entry}
+use Rattle.command_shell_lines.specs.declared.debug_words.stubs.Stub.{Stub}
 use Rattle.profile.specs.Sizes.{Sizes}
 use Rattle.profile.specs.declared.stop.Stop.{Stop}
 use Rattle.profile.specs.declared.stop.Stop.TheVariants as stop
@@ -16,14 +17,15 @@ use Rattle.command_shell.specs.State.{ScriptState}
 use Rattle.command_shell.specs.Stepping.{script_after_run, script_run}
 use Rattle.debug_history.specs.Acts.{PastMoment, changed_moment, fresh_moment, moment_after_acts, moment_after_deed, moment_after_steps, moment_of_script, steps_of_acts, steps_of_deed}
 use Rattle.debug_history.specs.Laws.{IsPastOf}
-use Rattle.debug_history.specs.Noted.{is_faulted, past_with_deed, past_with_steps}
+use Rattle.debug_history.specs.Noted.{is_faulted, past_with_deed, past_with_steps, past_with_stubbed}
 use Rattle.debug_history.specs.Past.{PastState, moment_after_past, past_with_act, unknown_past}
 use Rattle.debug_history.specs.Steps.{steps_after}
 use Rattle.debug_history.specs.declared.act.Act.{Act}
 use Rattle.debug_history.specs.declared.act.PastDeed.{PastDeed}
 use Rattle.debug_history.specs.declared.act.PastDeed.TheVariants as deed
+use Rattle.debug_tables.specs.Stubs.{stubbed_step}
 use Rattle.debug_history.proofs.ActLemmas.{acts_joined}
-use Rattle.debug_history.proofs.StepLemmas.{never_none, step_halted, steps_halted}
+use Rattle.debug_history.proofs.StepLemmas.{fault_is_step, never_none, step_halted, steps_halted}
 
 -- a machine is halted where it has a stop
 pub some_stop : (o : Option Halt) → is_some (option_map stop_of o) ≡ is_some o
@@ -63,70 +65,74 @@ nothing_noted s now p images sizes moment was = λ kept.
 -- STEPS
 
 -- so many steps were counted, and then perhaps one that ended in a fault
-pub record LedTo (images : List Entry) (s : MachineState) (taken : ℕ) (now : MachineState) : Type 0 where
-  pub steps : is_faulted now.halt ≡ false → now ≡ steps_after images taken s
-  pub fault : is_faulted now.halt ≡ true → now ≡ (machine_step images (steps_after images taken s)).now
+pub record LedTo (stubs : List Stub) (images : List Entry) (s : MachineState) (taken : ℕ) (now : MachineState) : Type 0 where
+  pub steps : is_faulted now.halt ≡ false → now ≡ steps_after stubs images taken s
+  pub fault : is_faulted now.halt ≡ true → now ≡ (machine_step images (steps_after stubs images taken s)).now
 
 pub fault_halts : (o : Option Halt) → is_faulted o ≡ true → (h : Halt) × (o ≡ Some h)
 fault_halts None e = absurd (cc)
 fault_halts (Some h) e = (h, refl)
 
-pub led_nowhere : (images : List Entry) (s : MachineState) → LedTo images s 0 s
+pub led_nowhere : (stubs : List Stub) (images : List Entry) (s : MachineState) → LedTo stubs images s 0 s
 unfolding steps_after
-led_nowhere images s = record {
+led_nowhere stubs images s = record {
   steps = λ e. refl;
   fault = λ e. let f = fault_halts s.halt e in sym (step_halted images s f.0 f.1);
 }
 
-pub led_by : (images : List Entry) (s now : MachineState) (o : Option Halt) → now.halt ≡ o → now ≡ (machine_step images s).now
-    → LedTo images s (count_after o) now
+pub led_by : (stubs : List Stub) (images : List Entry) (s now : MachineState) (o : Option Halt) → now.halt ≡ o
+    → now ≡ (stubbed_step stubs images s).now → LedTo stubs images s (count_after o) now
 unfolding steps_after
-led_by images s now None h e = record { steps = λ f. e; fault = λ f. absurd (cc (ap is_faulted h)) }
-led_by images s now (Some halt.Exit) h e = record { steps = λ f. e; fault = λ f. absurd (cc (ap is_faulted h)) }
-led_by images s now (Some (halt.Fault x)) h e = record { steps = λ f. absurd (cc (ap is_faulted h)); fault = λ f. e }
-
-pub led_on : (images : List Entry) (s mid now : MachineState) (taken : ℕ) → mid ≡ (machine_step images s).now → LedTo images mid taken now
-    → LedTo images s (suc taken) now
-unfolding steps_after
-led_on images s mid now taken e led = record {
-  steps = λ f. led.steps f ∙ ap (steps_after images taken) e;
-  fault = λ f. led.fault f ∙ ap (λ (m : MachineState). (machine_step images (steps_after images taken m)).now) e;
+led_by stubs images s now None h e = record { steps = λ f. e; fault = λ f. absurd (cc (ap is_faulted h)) }
+led_by stubs images s now (Some halt.Exit) h e = record { steps = λ f. e; fault = λ f. absurd (cc (ap is_faulted h)) }
+led_by stubs images s now (Some (halt.Fault x)) h e = record {
+  steps = λ f. absurd (cc (ap is_faulted h));
+  fault = λ f. e ∙ fault_is_step stubs images s (ap (λ (m : MachineState). is_faulted m.halt) (sym e) ∙ f);
 }
 
-pub led_more : (images : List Entry) (s now : MachineState) (a b : ℕ) → a ≡ b → LedTo images s a now → LedTo images s b now
-led_more images s now a b e led = subst (λ (n : ℕ). LedTo images s n now) e led
+pub led_on : (stubs : List Stub) (images : List Entry) (s mid now : MachineState) (taken : ℕ)
+    → mid ≡ (stubbed_step stubs images s).now → LedTo stubs images mid taken now → LedTo stubs images s (suc taken) now
+unfolding steps_after
+led_on stubs images s mid now taken e led = record {
+  steps = λ f. led.steps f ∙ ap (steps_after stubs images taken) e;
+  fault = λ f. led.fault f ∙ ap (λ (m : MachineState). (machine_step images (steps_after stubs images taken m)).now) e;
+}
+
+pub led_more : (stubs : List Stub) (images : List Entry) (s now : MachineState) (a b : ℕ) → a ≡ b → LedTo stubs images s a now
+    → LedTo stubs images s b now
+led_more stubs images s now a b e led = subst (λ (n : ℕ). LedTo stubs images s n now) e led
 
 branch_led : (images : List Entry) (s now : MachineState) (b : Bool) (printed : List ℕ) (r : Run) → now.halt ≡ None
-    → now ≡ (machine_step images s).now → LedTo images now r.taken r.now
+    → now ≡ (machine_step images s).now → LedTo [] images now r.taken r.now
     → (let broken : Run = record { now = now; printed = printed; last = Some printed; taken = 1; stop = stop.Break now.cpu.pc } in
-    let after : Run = if b then broken else run_after_steps printed (Some printed) 1 r in LedTo images s after.taken after.now)
-branch_led images s now true printed r h e led = led_by images s now None h e
+    let after : Run = if b then broken else run_after_steps printed (Some printed) 1 r in LedTo [] images s after.taken after.now)
+branch_led images s now true printed r h e led = led_by [] images s now None h e
 branch_led images s now false printed r h e led =
     let more : suc r.taken ≡ 1 + r.taken = omega arith in
-    led_more images s r.now (suc r.taken) (1 + r.taken) more (led_on images s now r.now r.taken e led)
+    led_more [] images s r.now (suc r.taken) (1 + r.taken) more (led_on [] images s now r.now r.taken e led)
 
 go_led : (images : List Entry) (breaks : List ℕ) (s : MachineState) (a : StepOutcome) (o : Option Halt) (rest : MachineState → Run)
-    → a.now.halt ≡ o → a.now ≡ (machine_step images s).now → ((x : MachineState) → LedTo images x (rest x).taken (rest x).now)
-    → LedTo images s (go_on breaks a o rest).taken (go_on breaks a o rest).now
-go_led images breaks s a (Some h) rest is e more = led_by images s a.now (Some h) is e
+    → a.now.halt ≡ o → a.now ≡ (machine_step images s).now → ((x : MachineState) → LedTo [] images x (rest x).taken (rest x).now)
+    → LedTo [] images s (go_on breaks a o rest).taken (go_on breaks a o rest).now
+go_led images breaks s a (Some h) rest is e more = led_by [] images s a.now (Some h) is e
 go_led images breaks s a None rest is e more =
     branch_led images s a.now (is_among breaks a.now.cpu.pc) a.printed (rest a.now) is e (more a.now)
 
 start_led : (images : List Entry) (breaks : List ℕ) (s : MachineState) (o : Option Halt) (rest : MachineState → Run)
-    → ((x : MachineState) → LedTo images x (rest x).taken (rest x).now)
+    → ((x : MachineState) → LedTo [] images x (rest x).taken (rest x).now)
     → (let r = run_unless_halted s o (go_on breaks (machine_step images s) (machine_step images s).now.halt rest) in
-    LedTo images s r.taken r.now)
-start_led images breaks s (Some h) rest more = led_nowhere images s
+    LedTo [] images s r.taken r.now)
+start_led images breaks s (Some h) rest more = led_nowhere [] images s
 start_led images breaks s None rest more =
     go_led images breaks s (machine_step images s) (machine_step images s).now.halt rest refl refl more
 
 none_led : (images : List Entry) (s : MachineState) (o : Option Halt)
-    → (let r = run_unless_halted s o (resting s stop.Budget) in LedTo images s r.taken r.now)
-none_led images s (Some h) = led_nowhere images s
-none_led images s None = led_nowhere images s
+    → (let r = run_unless_halted s o (resting s stop.Budget) in LedTo [] images s r.taken r.now)
+none_led images s (Some h) = led_nowhere [] images s
+none_led images s None = led_nowhere [] images s
 
 pub ran_led : (images : List Entry) (breaks : List ℕ) (n : ℕ) (s : MachineState)
-    → LedTo images s (ran images breaks n s).taken (ran images breaks n s).now
+    → LedTo [] images s (ran images breaks n s).taken (ran images breaks n s).now
 unfolding ran
 ran_led images breaks zero s = none_led images s s.halt
 ran_led images breaks (suc n) s = start_led images breaks s s.halt (ran images breaks n) (ran_led images breaks n)
@@ -204,28 +210,28 @@ fresh_run images breaks most s is_fresh up e =
     (λ f. (none_of images breaks s most, some_of images breaks s most (up f) e))
 
 -- what a line leaves that took steps from a script
-steps_noted_by : (s now : ScriptState) (p : PastState) (line taken : ℕ) (b : Bool) → is_faulted now.machine.halt ≡ b
-    → now.images ≡ s.images → now.sizes ≡ s.sizes → IsPastOf s p → LedTo s.images s.machine taken now.machine
+steps_noted_by : (s now : ScriptState) (p : PastState) (line : ℕ) (stubs : List Stub) (taken : ℕ) (b : Bool) → is_faulted now.machine.halt ≡ b
+    → now.images ≡ s.images → now.sizes ≡ s.sizes → IsPastOf s p → LedTo stubs s.images s.machine taken now.machine
     → (is_faulted now.machine.halt ≡ false → now.is_fresh ≡ (s.is_fresh && (taken == 0)))
     → (is_faulted now.machine.halt ≡ true → now.is_fresh ≡ false)
-    → IsPastOf now (if b then past_with_deed (past_with_deed p line (deed.Steps taken)) line deed.FaultingStep
-    else past_with_deed p line (deed.Steps taken))
-steps_noted_by s now p line taken false is images sizes was led fresh old =
-    deed_noted s now p line (deed.Steps taken) images sizes was
+    → IsPastOf now (if b then past_with_deed (past_with_deed p line (deed.Steps stubs taken)) line deed.FaultingStep
+    else past_with_deed p line (deed.Steps stubs taken))
+steps_noted_by s now p line stubs taken false is images sizes was led fresh old =
+    deed_noted s now p line (deed.Steps stubs taken) images sizes was
     (λ i. record { machine = led.steps is i; is_fresh = fresh is i })
-steps_noted_by s now p line taken true is images sizes was led fresh old =
-    let mid : ScriptState = record s { machine = steps_after s.images taken s.machine; is_fresh = s.is_fresh && (taken == 0) } in
-    deed_noted mid now (past_with_deed p line (deed.Steps taken)) line deed.FaultingStep images sizes
-    (deed_noted s mid p line (deed.Steps taken) refl refl was refl)
+steps_noted_by s now p line stubs taken true is images sizes was led fresh old =
+    let mid : ScriptState = record s { machine = steps_after stubs s.images taken s.machine; is_fresh = s.is_fresh && (taken == 0) } in
+    deed_noted mid now (past_with_deed p line (deed.Steps stubs taken)) line deed.FaultingStep images sizes
+    (deed_noted s mid p line (deed.Steps stubs taken) refl refl was refl)
     (λ i. record { machine = led.fault is i; is_fresh = old is i })
 
-pub steps_noted : (s now : ScriptState) (p : PastState) (line taken : ℕ) → now.images ≡ s.images → now.sizes ≡ s.sizes → IsPastOf s p
-    → LedTo s.images s.machine taken now.machine
+pub steps_noted : (s now : ScriptState) (p : PastState) (line : ℕ) (stubs : List Stub) (taken : ℕ) → now.images ≡ s.images → now.sizes ≡ s.sizes → IsPastOf s p
+    → LedTo stubs s.images s.machine taken now.machine
     → (is_faulted now.machine.halt ≡ false → now.is_fresh ≡ (s.is_fresh && (taken == 0)))
     → (is_faulted now.machine.halt ≡ true → now.is_fresh ≡ false)
-    → IsPastOf now (past_with_steps p line taken (is_faulted now.machine.halt))
-steps_noted s now p line taken images sizes was led fresh old =
-    steps_noted_by s now p line taken (is_faulted now.machine.halt) refl images sizes was led fresh old
+    → IsPastOf now (past_with_stubbed p line stubs taken (is_faulted now.machine.halt))
+steps_noted s now p line stubs taken images sizes was led fresh old =
+    steps_noted_by s now p line stubs taken (is_faulted now.machine.halt) refl images sizes was led fresh old
 
 -- a run of a machine that isn't fresh any more where it ended in a fault
 none_now : (s : MachineState) (o : Option Halt) → (run_unless_halted s o (resting s stop.Budget)).now.halt ≡ s.halt
@@ -251,6 +257,6 @@ run_noted s p line most enough up was =
     let within : r.taken ≤ most = taken_within s.images s.breaks most s.machine in
     let count : r.taken ≡ s.left - (s.left - r.taken) = omega (arith, within, enough) in
     subst (λ (n : ℕ). IsPastOf now (past_with_steps p line n (is_faulted now.machine.halt))) count
-    (steps_noted s now p line r.taken refl refl was (ran_led s.images s.breaks most s.machine)
+    (steps_noted s now p line [] r.taken refl refl was (ran_led s.images s.breaks most s.machine)
     (fresh_run s.images s.breaks most s.machine s.is_fresh up)
     (fault_old s.images s.breaks most s.machine s.is_fresh up))

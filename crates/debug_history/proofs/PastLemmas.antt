@@ -4,8 +4,8 @@ use Rattle.std.specs.Prelude.{map, nat_le}
 use Rattle.std.specs.List.{last_or}
 use Rattle.std.proofs.lemmas.Bool.Decides.{nat_tests}
 use Rattle.std.proofs.lemmas.List.{append-nil, drop_all, drop_more, take-append-drop, take_more}
-use Rattle.debug_history.specs.Acts.{steps_of_acts, steps_of_deed}
-use Rattle.debug_history.specs.Cutting.{acts_behind_by}
+use Rattle.debug_history.specs.Acts.{steps_of_acts, steps_of_deed, stubs_of_deed}
+use Rattle.debug_history.specs.Cutting.{behind_cut, first_cut}
 use Rattle.debug_history.specs.Past.{act_behind, acts_before_line, acts_from, acts_until, first_steps}
 use Rattle.debug_history.specs.declared.act.Act.{Act}
 use Rattle.debug_history.proofs.ActLemmas.{steps_joined, steps_of_none}
@@ -24,17 +24,17 @@ pub kept_by : (act : Act) (rest : List Act) (left : ℕ) → steps_of_deed act.d
 unfolding acts_until
 kept_by act rest left h =
     let n : ℕ = steps_of_deed act.deed in
-    ap (λ (b : Bool). if b then act ∷ acts_until (left - n) rest else first_steps act.line left) (fits n left h)
+    ap (λ (b : Bool). if b then act ∷ acts_until (left - n) rest else first_steps act.line (stubs_of_deed act.deed) left) (fits n left h)
 
 less : (n left : ℕ) → left < n → nat_le n left ≡ false
 less n left h = grind (arith, nat_tests, h)
 
 pub cut_by : (act : Act) (rest : List Act) (left : ℕ) → left < steps_of_deed act.deed
-    → acts_until left (act ∷ rest) ≡ first_steps act.line left
+    → acts_until left (act ∷ rest) ≡ first_steps act.line (stubs_of_deed act.deed) left
 unfolding acts_until
 cut_by act rest left h =
     let n : ℕ = steps_of_deed act.deed in
-    ap (λ (b : Bool). if b then act ∷ acts_until (left - n) rest else first_steps act.line left) (less n left h)
+    ap (λ (b : Bool). if b then act ∷ acts_until (left - n) rest else first_steps act.line (stubs_of_deed act.deed) left) (less n left h)
 
 pub cut_goes_on : (acts : List Act) (step i left : ℕ) (act : Act) → i < length acts → act ≡ get_or acts i act
     → steps_of_deed act.deed ≤ left → IsCutFrom acts step i left → IsCutFrom acts step (i + 1) (left - steps_of_deed act.deed)
@@ -49,12 +49,13 @@ cut_goes_on acts step i left act below is few h =
     ∙ sym (ap (λ (xs : List Act). xs ++ more) front)
 
 pub cut_here : (acts : List Act) (step i left : ℕ) (act : Act) → i < length acts → act ≡ get_or acts i act
-    → left < steps_of_deed act.deed → IsCutFrom acts step i left → acts_until step acts ≡ take i acts ++ first_steps act.line left
+    → left < steps_of_deed act.deed → IsCutFrom acts step i left → acts_until step acts ≡ take i acts ++ first_cut (drop i acts) left
 cut_here acts step i left act below is more h =
     let rest : List Act = drop (i + 1) acts in
     let split = drop_more acts i act below ∙ ap (λ (a : Act). a ∷ rest) (sym is) in
     h ∙ ap (λ (xs : List Act). take i acts ++ acts_until left xs) split
     ∙ ap (λ (xs : List Act). take i acts ++ xs) (cut_by act rest left more)
+    ∙ sym (ap (λ (xs : List Act). take i acts ++ first_cut xs left) split)
 
 until_none : (left : ℕ) → acts_until left [] ≡ []
 unfolding acts_until
@@ -91,17 +92,13 @@ behind_goes_on acts step i left act below is few h =
     let split = drop_more acts i act below ∙ ap (λ (a : Act). a ∷ drop (i + 1) acts) (sym is) in
     h ∙ ap (acts_from left) split ∙ passed_by act (drop (i + 1) acts) left few
 
-behind_is : (acts : List Act) (i left : ℕ) (act : Act) → drop i acts ≡ act ∷ drop (i + 1) acts
-    → act_behind left act ∷ drop (i + 1) acts ≡ acts_behind_by acts i act.line (steps_of_deed act.deed - left) left
-behind_is acts i zero act split = sym split
-behind_is acts i (suc left) act split = refl
-
 pub behind_here : (acts : List Act) (step i left : ℕ) (act : Act) → i < length acts → act ≡ get_or acts i act
     → left < steps_of_deed act.deed → IsCutBehind acts step i left
-    → acts_from step acts ≡ acts_behind_by acts i act.line (steps_of_deed act.deed - left) left
+    → acts_from step acts ≡ behind_cut (drop i acts) left
 behind_here acts step i left act below is more h =
     let split = drop_more acts i act below ∙ ap (λ (a : Act). a ∷ drop (i + 1) acts) (sym is) in
-    h ∙ ap (acts_from left) split ∙ split_by act (drop (i + 1) acts) left more ∙ behind_is acts i left act split
+    h ∙ ap (acts_from left) split ∙ split_by act (drop (i + 1) acts) left more
+    ∙ sym (ap (λ (xs : List Act). behind_cut xs left) split)
 
 from_none : (left : ℕ) → acts_from left [] ≡ []
 unfolding acts_from

@@ -4,10 +4,11 @@ use Rattle.std.specs.List.{flat_map}
 use Rattle.std.specs.Option.{option_or}
 use Rattle.std.proofs.lemmas.List.{append-nil, drop_all, drop_more}
 use Rattle.image_loader.specs.Entries.{Entry}
+use Rattle.command_shell_lines.specs.declared.debug_words.stubs.Stub.{Stub}
 use Rattle.profile.specs.Sizes.{Sizes}
 use Rattle.command_shell.specs.State.{ScriptState, script_start_state}
 use Rattle.command_shell.specs.MachineState.{MachineState}
-use Rattle.command_shell.specs.Step.{machine_step}
+use Rattle.debug_tables.specs.Stubs.{stubbed_step}
 use Rattle.debug_history.specs.Acts.{PastMoment, changed_moment, fresh_moment, moment_after_acts, moment_after_deed, moment_after_steps, moment_of_script, steps_act, steps_of_acts, steps_of_deed}
 use Rattle.debug_history.specs.Again.{IsAtMoment}
 use Rattle.debug_history.specs.Scan.{scan_past}
@@ -153,20 +154,21 @@ units_first acts i act below is =
 pub units_end : (acts : List Act) (i : ℕ) → length acts ≤ i → units (drop i acts) ≡ []
 units_end acts i all = ap units (drop_all i acts all)
 
-pub singles_first : (line left : ℕ) → 0 < left → single_steps line left ≡ steps_act line 1 ∷ single_steps line (left - 1)
+pub singles_first : (line : ℕ) (stubs : List Stub) (left : ℕ) → 0 < left
+    → single_steps line stubs left ≡ steps_act line stubs 1 ∷ single_steps line stubs (left - 1)
 unfolding single_steps
-singles_first line zero some = absurd (omega (arith, some))
-singles_first line (suc n) some =
-    let e : n ≡ suc n - 1 = omega arith in ap (λ (k : ℕ). steps_act line 1 ∷ single_steps line k) e
+singles_first line stubs zero some = absurd (omega (arith, some))
+singles_first line stubs (suc n) some =
+    let e : n ≡ suc n - 1 = omega arith in ap (λ (k : ℕ). steps_act line stubs 1 ∷ single_steps line stubs k) e
 
-pub singles_end : (line : ℕ) → single_steps line 0 ≡ []
+pub singles_end : (line : ℕ) (stubs : List Stub) → single_steps line stubs 0 ≡ []
 unfolding single_steps
-singles_end line = refl
+singles_end line stubs = refl
 
-pub singles_count : (line n : ℕ) → steps_of_acts (single_steps line n) ≡ n
+pub singles_count : (line : ℕ) (stubs : List Stub) (n : ℕ) → steps_of_acts (single_steps line stubs n) ≡ n
 unfolding single_steps steps_of_acts
-singles_count line zero = refl
-singles_count line (suc n) = let e : 1 + n ≡ suc n = omega arith in ap (λ (k : ℕ). 1 + k) (singles_count line n) ∙ e
+singles_count line stubs zero = refl
+singles_count line stubs (suc n) = let e : 1 + n ≡ suc n = omega arith in ap (λ (k : ℕ). 1 + k) (singles_count line stubs n) ∙ e
 
 -- one unit more
 pub one_unit : (images : List Entry) (sizes : Sizes) (u : Act) (m : PastMoment)
@@ -195,34 +197,35 @@ none_fresh : (b : Bool) → false ≡ (b && (1 == 0))
 none_fresh true = refl
 none_fresh false = refl
 
-one_step : (images : List Entry) (m : PastMoment) → changed_moment (machine_step images m.machine).now ≡ moment_after_steps images 1 m
+one_step : (stubs : List Stub) (images : List Entry) (m : PastMoment)
+    → changed_moment (stubbed_step stubs images m.machine).now ≡ moment_after_steps stubs images 1 m
 unfolding steps_after
-one_step images m = λ i. record { machine = (machine_step images m.machine).now; is_fresh = none_fresh m.is_fresh i }
+one_step stubs images m = λ i. record { machine = (stubbed_step stubs images m.machine).now; is_fresh = none_fresh m.is_fresh i }
 
 -- a step
-pub step_goes_on : (x : Sought) (s now next : ScriptState) (us : List Act) (line left : ℕ) (start scan more : Scan) → 0 < left
-    → IsScanning x s now us (single_steps line left) start scan
-    → IsAtMoment now next (changed_moment (machine_step now.images now.machine).now)
+pub step_goes_on : (x : Sought) (s now next : ScriptState) (us : List Act) (line : ℕ) (stubs : List Stub) (left : ℕ) (start scan more : Scan) → 0 < left
+    → IsScanning x s now us (single_steps line stubs left) start scan
+    → IsAtMoment now next (changed_moment (stubbed_step stubs now.images now.machine).now)
     → more.step ≡ scan.step + 1 → more.seen ≡ value_in x next.machine
     → more.found ≡ option_or (found_between x line scan.step 1 scan.seen (value_in x next.machine)) scan.found
-    → IsScanning x s next us (single_steps line (left - 1)) start more
-step_goes_on x s now next us line left start scan more some way done step sight found =
-    unit_goes_on x s now next us (steps_act line 1) (single_steps line (left - 1)) start scan more
-    (subst (λ (xs : List Act). IsScanning x s now us xs start scan) (singles_first line left some) way)
-    (subst (λ (y : PastMoment). IsAtMoment now next y) (one_step now.images (moment_of_script now)) done) step sight found
+    → IsScanning x s next us (single_steps line stubs (left - 1)) start more
+step_goes_on x s now next us line stubs left start scan more some way done step sight found =
+    unit_goes_on x s now next us (steps_act line stubs 1) (single_steps line stubs (left - 1)) start scan more
+    (subst (λ (xs : List Act). IsScanning x s now us xs start scan) (singles_first line stubs left some) way)
+    (subst (λ (y : PastMoment). IsAtMoment now next y) (one_step stubs now.images (moment_of_script now)) done) step sight found
 
-pub step_fits : (x : Sought) (s now : ScriptState) (us : List Act) (line left count bound : ℕ) (start scan : Scan) → 0 < left
-    → us ≡ single_steps line count → start.step + count < bound → IsScanning x s now us (single_steps line left) start scan
+pub step_fits : (x : Sought) (s now : ScriptState) (us : List Act) (line : ℕ) (stubs : List Stub) (left count bound : ℕ) (start scan : Scan) → 0 < left
+    → us ≡ single_steps line stubs count → start.step + count < bound → IsScanning x s now us (single_steps line stubs left) start scan
     → scan.step + 1 < bound
-step_fits x s now us line left count bound start scan some are fits way =
-    let a = singles_count line left in
-    let b = ap steps_of_acts are ∙ singles_count line count in
+step_fits x s now us line stubs left count bound start scan some are fits way =
+    let a = singles_count line stubs left in
+    let b = ap steps_of_acts are ∙ singles_count line stubs count in
     let c = way.fits in
     omega (arith, a, b, c, some, fits)
 
 -- how many steps units count
 unit_count : (line : ℕ) (d : PastDeed) → steps_of_acts (units_of line d) ≡ steps_of_deed d
-unit_count line (deed.Steps n) = singles_count line n
+unit_count line (deed.Steps stubs n) = singles_count line stubs n
 unit_count line deed.FaultingStep = steps_of_one (record { line = line; deed = deed.FaultingStep })
 unit_count line (deed.Boot name) = steps_of_one (record { line = line; deed = deed.Boot name })
 unit_count line (deed.Call number b) = steps_of_one (record { line = line; deed = deed.Call number b })
@@ -286,8 +289,8 @@ found_in_past s images sizes budget x acts start scan fresh step none led =
     ∙ found_from images sizes x (units acts) (fresh_moment sizes) start step none
 
 -- a deed that isn't steps is a unit
-pub units_other : (line : ℕ) (d : PastDeed) → ((n : ℕ) → d ≡ deed.Steps n → ⊥) → units_of line d ≡ record { line = line; deed = d } ∷ []
-units_other line (deed.Steps n) other = absurd (other n refl)
+pub units_other : (line : ℕ) (d : PastDeed) → ((stubs : List Stub) (n : ℕ) → d ≡ deed.Steps stubs n → ⊥) → units_of line d ≡ record { line = line; deed = d } ∷ []
+units_other line (deed.Steps stubs n) other = absurd (other stubs n refl)
 units_other line deed.FaultingStep other = refl
 units_other line (deed.Boot name) other = refl
 units_other line (deed.Call number b) other = refl

@@ -1,59 +1,111 @@
 -- Runs are steps.
-use Rattle.std.proofs.Common.{◌≡◌, ◌≢◌, ◌<◌, ◌≤◌, ℕ, Bool, true, false, zero, suc, ◌+◌, ◌-◌, ◌&&◌, ◌==◌, Option, Some, None, List, refl, sym, ◌∙◌, ap, arith, if◌then◌else◌}
+use Rattle.std.proofs.Common.{◌≡◌, ◌≢◌, ◌<◌, ◌≤◌, ℕ, Bool, true, false, zero, suc, ◌+◌, ◌-◌, ◌&&◌, ◌==◌, Option, Some, None, List, [], ◌∷◌, refl, sym, ◌∙◌, ap, arith, if◌then◌else◌}
 use Rattle.std.proofs.Math.Bool.{and-true}
 use Rattle.std.proofs.lemmas.Bool.Decides.{nat_tests}
 use Rattle.image_loader.specs.Entries.{Entry}
+use Rattle.command_shell_lines.specs.declared.debug_words.stubs.Stub.{Stub}
 use Rattle.profile.specs.declared.stop.Stop.{Stop}
 use Rattle.profile.specs.declared.stop.Stop.TheVariants as stop
 use Rattle.command_shell.specs.Halt.{Halt}
 use Rattle.command_shell.specs.MachineState.{MachineState, StepOutcome, stop_of}
 use Rattle.command_shell.specs.Step.{machine_step, outcome_of_turn, result_of_instruction, unless_halted}
 use Rattle.command_shell.specs.Run.{Run, go_on, halt_step_count, is_among, ran, resting, run_after_steps, run_unless_halted}
+use Rattle.command_shell.specs.Writes.{machine_with_bank_register}
+use Rattle.debug_tables.specs.Stubs.{StubDeedState, deed_ahead, deed_next, deed_that_fits, deed_unless_halted, machine_after_deed, machine_after_put, machine_with_bytes, machine_with_settings, step_or_deed, stubbed_step}
+use Rattle.debug_tables.specs.byte_writes.Put.{bytes_fit}
+use Rattle.debug_tables.specs.declared.stub_deeds.BankSetting.{BankSetting}
+use Rattle.debug_history.specs.Noted.{is_faulted}
 use Rattle.debug_history.specs.Acts.{PastMoment, moment_after_steps}
 use Rattle.debug_history.specs.Steps.{RunsAreTheirSteps, steps_after}
 
--- a halted machine stays as it is
+-- a halted machine stays as it is, whatever stubs there are
 pub step_halted : (images : List Entry) (s : MachineState) (h : Halt) → s.halt ≡ Some h → (machine_step images s).now ≡ s
 unfolding machine_step
 step_halted images s h e =
     ap (λ (o : Option Halt). (unless_halted s o (outcome_of_turn images s (result_of_instruction s))).now) e
 
-pub steps_halted : (images : List Entry) (k : ℕ) (s : MachineState) (h : Halt) → s.halt ≡ Some h → steps_after images k s ≡ s
+none_ahead : (stubs : List Stub) (s : MachineState) (h : Halt) → s.halt ≡ Some h → deed_ahead stubs s ≡ None
+none_ahead [] s h e = refl
+none_ahead (stub ∷ rest) s h e =
+    ap (λ (o : Option Halt). deed_unless_halted o (deed_that_fits s (deed_next (stub ∷ rest) s))) e
+
+stubbed_halted : (stubs : List Stub) (images : List Entry) (s : MachineState) (h : Halt) → s.halt ≡ Some h
+    → (stubbed_step stubs images s).now ≡ s
+stubbed_halted stubs images s h e =
+    ap (λ (o : Option StubDeedState). (step_or_deed images s o).now) (none_ahead stubs s h e) ∙ step_halted images s h e
+
+pub steps_halted : (stubs : List Stub) (images : List Entry) (k : ℕ) (s : MachineState) (h : Halt) → s.halt ≡ Some h
+    → steps_after stubs images k s ≡ s
 unfolding steps_after
-steps_halted images zero s h e = refl
-steps_halted images (suc k) s h e =
-    ap (λ (t : MachineState). steps_after images k t) (step_halted images s h e) ∙ steps_halted images k s h e
+steps_halted stubs images zero s h e = refl
+steps_halted stubs images (suc k) s h e =
+    ap (λ (t : MachineState). steps_after stubs images k t) (stubbed_halted stubs images s h e)
+    ∙ steps_halted stubs images k s h e
+
+-- a step that ends in a fault is the machine's: no stub halts it
+halt_with_settings : (xs : List BankSetting) (s : MachineState) → (machine_with_settings xs s).halt ≡ s.halt
+halt_with_settings [] s = refl
+halt_with_settings (x ∷ xs) s = halt_with_settings xs (machine_with_bank_register s x.mode x.register x.value)
+
+halt_put_if : (b : Bool) (s t : MachineState) → t.halt ≡ s.halt → (if b then t else s).halt ≡ s.halt
+halt_put_if true s t e = e
+halt_put_if false s t e = refl
+
+halt_after_put : (s : MachineState) (at : ℕ) (bytes : List ℕ) → (machine_after_put s at bytes).halt ≡ s.halt
+halt_after_put s at [] = refl
+halt_after_put s at (byte ∷ bytes) =
+    halt_put_if (bytes_fit s.store at (byte ∷ bytes)) s (machine_with_bytes s at (byte ∷ bytes)) refl
+
+halt_after_deed : (d : StubDeedState) (s : MachineState) → (machine_after_deed d s).halt ≡ s.halt
+halt_after_deed d s =
+    halt_with_settings d.settings (machine_after_put s d.at d.bytes) ∙ halt_after_put s d.at d.bytes
+
+fault_by : (stubs : List Stub) (images : List Entry) (s : MachineState) (o : Option StubDeedState) (h : Option Halt)
+    → deed_ahead stubs s ≡ o → s.halt ≡ h → is_faulted (step_or_deed images s o).now.halt ≡ true
+    → (step_or_deed images s o).now ≡ (machine_step images s).now
+fault_by stubs images s None h is up e = refl
+fault_by stubs images s (Some d) None is up e =
+    let none : is_faulted (machine_after_deed d s).halt ≡ false = ap is_faulted (halt_after_deed d s ∙ up) in
+    absurd (cc (e, none))
+fault_by stubs images s (Some d) (Some h) is up e =
+    let none : deed_ahead stubs s ≡ None = none_ahead stubs s h up in
+    absurd (cc (is, none))
+
+pub fault_is_step : (stubs : List Stub) (images : List Entry) (s : MachineState)
+    → is_faulted (stubbed_step stubs images s).now.halt ≡ true → (stubbed_step stubs images s).now ≡ (machine_step images s).now
+fault_is_step stubs images s e = fault_by stubs images s (deed_ahead stubs s) s.halt refl refl e
 
 -- steps, and then more of them
-pub steps_added : (images : List Entry) (n m : ℕ) (s : MachineState) → steps_after images (n + m) s ≡ steps_after images m (steps_after images n s)
+pub steps_added : (stubs : List Stub) (images : List Entry) (n m : ℕ) (s : MachineState)
+    → steps_after stubs images (n + m) s ≡ steps_after stubs images m (steps_after stubs images n s)
 unfolding steps_after
-steps_added images zero m s = let e : 0 + m ≡ m = omega arith in ap (λ (k : ℕ). steps_after images k s) e
-steps_added images (suc n) m s =
+steps_added stubs images zero m s = let e : 0 + m ≡ m = omega arith in ap (λ (k : ℕ). steps_after stubs images k s) e
+steps_added stubs images (suc n) m s =
     let e : suc n + m ≡ suc (n + m) = omega arith in
-    ap (λ (k : ℕ). steps_after images k s) e ∙ steps_added images n m (machine_step images s).now
+    ap (λ (k : ℕ). steps_after stubs images k s) e ∙ steps_added stubs images n m (stubbed_step stubs images s).now
 
 -- what is left of so many steps after a run
 abbrev pub LeadsOn : List Entry → ℕ → MachineState → Run → Type 0
-LeadsOn images n s r = steps_after images n s ≡ steps_after images (n - r.taken) r.now
+LeadsOn images n s r = steps_after [] images n s ≡ steps_after [] images (n - r.taken) r.now
 
 leads_resting : (images : List Entry) (n : ℕ) (s : MachineState) (x : Stop) → LeadsOn images n s (resting s x)
-leads_resting images n s x = let e : n ≡ n - 0 = omega arith in ap (λ (k : ℕ). steps_after images k s) e
+leads_resting images n s x = let e : n ≡ n - 0 = omega arith in ap (λ (k : ℕ). steps_after [] images k s) e
 
 leads_branch : (images : List Entry) (n : ℕ) (b : Bool) (now : MachineState) (printed : List ℕ) (r : Run)
     → LeadsOn images n now r
     → (let broken : Run = record { now = now; printed = printed; last = Some printed; taken = 1; stop = stop.Break now.cpu.pc } in
     let after : Run = if b then broken else run_after_steps printed (Some printed) 1 r in
-    steps_after images n now ≡ steps_after images (suc n - after.taken) after.now)
-leads_branch images n true now printed r more = let e : n ≡ suc n - 1 = omega arith in ap (λ (k : ℕ). steps_after images k now) e
+    steps_after [] images n now ≡ steps_after [] images (suc n - after.taken) after.now)
+leads_branch images n true now printed r more = let e : n ≡ suc n - 1 = omega arith in ap (λ (k : ℕ). steps_after [] images k now) e
 leads_branch images n false now printed r more =
     let e : n - r.taken ≡ suc n - (1 + r.taken) = omega arith in
-    more ∙ ap (λ (k : ℕ). steps_after images k r.now) e
+    more ∙ ap (λ (k : ℕ). steps_after [] images k r.now) e
 
 leads_go : (images : List Entry) (breaks : List ℕ) (n : ℕ) (a : StepOutcome) (o : Option Halt) (rest : MachineState → Run)
     → a.now.halt ≡ o → ((x : MachineState) → LeadsOn images n x (rest x))
-    → (let after = go_on breaks a o rest in steps_after images n a.now ≡ steps_after images (suc n - after.taken) after.now)
+    → (let after = go_on breaks a o rest in steps_after [] images n a.now ≡ steps_after [] images (suc n - after.taken) after.now)
 leads_go images breaks n a (Some h) rest e more =
-    steps_halted images n a.now h e ∙ sym (steps_halted images (suc n - halt_step_count h) a.now h e)
+    steps_halted [] images n a.now h e ∙ sym (steps_halted [] images (suc n - halt_step_count h) a.now h e)
 leads_go images breaks n a None rest e more =
     leads_branch images n (is_among breaks a.now.cpu.pc) a.now a.printed (rest a.now) (more a.now)
 
@@ -107,13 +159,13 @@ pub never_none : (n : ℕ) → (suc n == 0) ≡ false
 never_none n = grind (arith, nat_tests)
 
 -- moments after none of some steps, and of a machine that is halted
-pub none_left : (images : List Entry) (m : PastMoment) → moment_after_steps images 0 m ≡ m
+pub none_left : (stubs : List Stub) (images : List Entry) (m : PastMoment) → moment_after_steps stubs images 0 m ≡ m
 unfolding steps_after
-none_left images m = λ i. record { machine = m.machine; is_fresh = and-true m.is_fresh i }
+none_left stubs images m = λ i. record { machine = m.machine; is_fresh = and-true m.is_fresh i }
 
-pub halted_left : (images : List Entry) (left : ℕ) (m : PastMoment) (h : Halt) → m.machine.halt ≡ Some h → m.is_fresh ≡ false
-    → moment_after_steps images left m ≡ m
-halted_left images left m h halted old =
-    let same = steps_halted images left m.machine h halted in
+pub halted_left : (stubs : List Stub) (images : List Entry) (left : ℕ) (m : PastMoment) (h : Halt) → m.machine.halt ≡ Some h → m.is_fresh ≡ false
+    → moment_after_steps stubs images left m ≡ m
+halted_left stubs images left m h halted old =
+    let same = steps_halted stubs images left m.machine h halted in
     let fresh : (m.is_fresh && (left == 0)) ≡ m.is_fresh = ap (λ (b : Bool). b && (left == 0)) old ∙ sym old in
     λ i. record { machine = same i; is_fresh = fresh i }

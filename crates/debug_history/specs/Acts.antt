@@ -1,6 +1,7 @@
 -- What is done to a machine: steps, calls, and changes from outside.
-use Rattle.std.specs.Prelude.{ℕ, zero, Bool, true, false, ◌&&◌, ◌+◌, ◌-◌, ◌==◌, length, nat_lt, List, [], ◌∷◌, Option, Some, None, Result, Ok, Err, if◌then◌else◌}
+use Rattle.std.specs.Prelude.{Box, ℕ, zero, Bool, true, false, ◌&&◌, ◌+◌, ◌-◌, ◌==◌, length, nat_lt, List, [], ◌∷◌, Option, Some, None, Result, Ok, Err, if◌then◌else◌}
 use Rattle.image_loader.specs.Entries.{Entry, bytes_of_image}
+use Rattle.command_shell_lines.specs.declared.debug_words.stubs.Stub.{Stub}
 use Rattle.profile.specs.Sizes.{Sizes}
 use Rattle.profile.specs.declared.fault.Fault.{Fault}
 use Rattle.command_shell.specs.Boot.{machine_after_boot}
@@ -34,9 +35,9 @@ fresh_moment sizes = record { machine = machine_start sizes; is_fresh = true }
 abbrev pub changed_moment : MachineState → PastMoment
 changed_moment machine = record { machine = machine; is_fresh = false }
 
-abbrev pub moment_after_steps : List Entry → ℕ → PastMoment → PastMoment
-moment_after_steps images count m = record {
-  machine = steps_after images count m.machine;
+abbrev pub moment_after_steps : List Stub → List Entry → ℕ → PastMoment → PastMoment
+moment_after_steps stubs images count m = record {
+  machine = steps_after stubs images count m.machine;
   is_fresh = m.is_fresh && (count == 0);
 }
 
@@ -68,7 +69,7 @@ moment_after_put m at (byte ∷ bytes) =
 
 -- one deed; a step that ends in a fault isn't counted
 abbrev pub moment_after_deed : List Entry → Sizes → PastDeed → PastMoment → PastMoment
-moment_after_deed images sizes (Steps count) m = moment_after_steps images count m
+moment_after_deed images sizes (Steps stubs count) m = moment_after_steps stubs images count m
 moment_after_deed images sizes FaultingStep m = changed_moment (machine_step images m.machine).now
 moment_after_deed images sizes (Boot name) m = moment_after_boot sizes m (bytes_of_image images name)
 moment_after_deed images sizes (Call number is_counted) m =
@@ -100,7 +101,7 @@ abbrev pub count_if : Bool → ℕ
 count_if is_counted = if is_counted then 1 else 0
 
 abbrev pub steps_of_deed : PastDeed → ℕ
-steps_of_deed (Steps count) = count
+steps_of_deed (Steps stubs count) = count
 steps_of_deed (Call number is_counted) = count_if is_counted
 steps_of_deed (Load text is_counted) = count_if is_counted
 steps_of_deed _ = 0
@@ -110,14 +111,24 @@ unfoldable pub steps_of_acts : List Act → ℕ
 steps_of_acts [] = 0
 steps_of_acts (act ∷ rest) = steps_of_deed act.deed + steps_of_acts rest
 
--- so many steps, by a line
-abbrev pub steps_act : ℕ → ℕ → Act
-steps_act line count = record { line = line; deed = Steps count }
+-- the stubs with which the steps of a deed are taken
+abbrev pub stubs_of_deed : PastDeed → List Stub
+stubs_of_deed (Steps stubs count) = stubs
+stubs_of_deed _ = []
+
+-- stubs that may be kept
+abbrev pub boxed_stubs : {Z : Type 0} → Option (Box (List Stub) Z) → List Stub
+boxed_stubs (Some kept) = kept.value
+boxed_stubs None = []
+
+-- so many steps, by a line, with stubs
+abbrev pub steps_act : ℕ → List Stub → ℕ → Act
+steps_act line stubs count = record { line = line; deed = Steps stubs count }
 
 -- the line that takes the steps of a deed behind so many, and how many those are; a step that isn't counted
 -- comes behind none
 abbrev pub steps_behind : ℕ → PastDeed → Option (SteppingRequest × ℕ)
-steps_behind skipped (Steps count) = if nat_lt skipped count then Some (Run, count - skipped) else None
+steps_behind skipped (Steps stubs count) = if nat_lt skipped count then Some (Run, count - skipped) else None
 steps_behind zero FaultingStep = Some (Run, 1)
 steps_behind zero (Call number is_counted) = Some (asked.Call number, 1)
 steps_behind zero (Load text is_counted) = Some (asked.Load text, 1)

@@ -1,6 +1,7 @@
 -- Laws of going back.
 use Rattle.std.specs.Prelude.{◌≡◌, ◌≤◌, ◌<◌, ℕ, ◌+◌, ◌-◌, List, [], ◌∷◌, ◌++◌, Bool, true, false, Option, None, length, take, drop, MatchOption}
 use Rattle.image_loader.specs.Entries.{Entry}
+use Rattle.command_shell_lines.specs.declared.debug_words.stubs.Stub.{Stub}
 use Rattle.profile.specs.Sizes.{Sizes}
 use Rattle.command_shell.specs.Script.{request_answer}
 use Rattle.command_shell.specs.State.{ScriptState}
@@ -19,20 +20,22 @@ use Rattle.debug_history.specs.declared.search.Sought.{Sought}
 -- Where a line took so many steps, going back leaves fewer: after some acts and then n steps, going back
 -- by m of these leaves the machine n - m steps after the machine that the line found.
 abbrev pub BackLeavesFewerSteps : Type 0
-BackLeavesFewerSteps = (images : List Entry) (sizes : Sizes) (acts : List Act) (start : PastMoment) (line n m : ℕ)
+BackLeavesFewerSteps = (images : List Entry) (sizes : Sizes) (acts : List Act) (start : PastMoment) (line : ℕ)
+    (stubs : List Stub) (n m : ℕ)
     → m ≤ n
     → let found = moment_after_acts images sizes acts start in
-    let now = steps_of_acts (acts ++ steps_act line n ∷ []) in
-    moment_after_acts images sizes (acts_until (now - m) (acts ++ steps_act line n ∷ [])) start
-    ≡ moment_after_steps images (n - m) found
+    let now = steps_of_acts (acts ++ steps_act line stubs n ∷ []) in
+    moment_after_acts images sizes (acts_until (now - m) (acts ++ steps_act line stubs n ∷ [])) start
+    ≡ moment_after_steps stubs images (n - m) found
 
 -- Going back, and then taking the steps that were gone back by, leads to the machine that was there.
 abbrev pub BackThenStep : Type 0
-BackThenStep = (images : List Entry) (sizes : Sizes) (acts : List Act) (start : PastMoment) (line n m : ℕ) → m ≤ n
-    → let now = steps_of_acts (acts ++ steps_act line n ∷ []) in
-    (moment_after_steps images m
-    (moment_after_acts images sizes (acts_until (now - m) (acts ++ steps_act line n ∷ [])) start)).machine
-    ≡ (moment_after_acts images sizes (acts ++ steps_act line n ∷ []) start).machine
+BackThenStep = (images : List Entry) (sizes : Sizes) (acts : List Act) (start : PastMoment) (line : ℕ)
+    (stubs : List Stub) (n m : ℕ) → m ≤ n
+    → let now = steps_of_acts (acts ++ steps_act line stubs n ∷ []) in
+    (moment_after_steps stubs images m
+    (moment_after_acts images sizes (acts_until (now - m) (acts ++ steps_act line stubs n ∷ [])) start)).machine
+    ≡ (moment_after_acts images sizes (acts ++ steps_act line stubs n ∷ []) start).machine
 
 -- To go back to where the machine stands changes nothing.
 abbrev pub BackToNowIsNothing : Type 0

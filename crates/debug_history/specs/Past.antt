@@ -4,7 +4,8 @@ use Rattle.std.specs.Prelude.{ℕ, zero, suc, Bool, true, false, ◌&&◌, ◌+�
 use Rattle.std.specs.List.{last_or}
 use Rattle.image_loader.specs.Entries.{Entry}
 use Rattle.profile.specs.Sizes.{Sizes}
-use Rattle.debug_history.specs.Acts.{PastMoment, fresh_moment, moment_after_acts, steps_act, steps_of_acts, steps_of_deed}
+use Rattle.command_shell_lines.specs.declared.debug_words.stubs.Stub.{Stub}
+use Rattle.debug_history.specs.Acts.{PastMoment, fresh_moment, moment_after_acts, steps_act, steps_of_acts, steps_of_deed, stubs_of_deed}
 use Rattle.debug_history.specs.declared.act.Act.{Act}
 
 -- what was done, where it is known, and what lies ahead: what was gone back by since something was done last
@@ -37,19 +38,21 @@ past_with_images are_others p = if are_others then past_with_other_images p else
 
 -- The acts up to a moment, which is named by how many steps were counted before it. Where the user
 -- changed the machine at that number, it is the moment after all these changes.
-abbrev pub first_steps : ℕ → ℕ → List Act
-first_steps line zero = []
-first_steps line (suc count) = steps_act line (suc count) ∷ []
+abbrev pub first_steps : ℕ → List Stub → ℕ → List Act
+first_steps line stubs zero = []
+first_steps line stubs (suc count) = steps_act line stubs (suc count) ∷ []
 
 unfoldable pub acts_until : ℕ → List Act → List Act
 acts_until step [] = []
 acts_until step (act ∷ rest) = if nat_le (steps_of_deed act.deed) step
-    then act ∷ acts_until (step - steps_of_deed act.deed) rest else first_steps act.line step
+    then act ∷ acts_until (step - steps_of_deed act.deed) rest
+    else first_steps act.line (stubs_of_deed act.deed) step
 
 -- And the acts behind it: of steps in which it lies there are those that are left.
 abbrev pub act_behind : ℕ → Act → Act
 act_behind zero act = act
-act_behind (suc count) act = steps_act act.line (steps_of_deed act.deed - suc count)
+act_behind (suc count) act =
+    steps_act act.line (stubs_of_deed act.deed) (steps_of_deed act.deed - suc count)
 
 unfoldable pub acts_from : ℕ → List Act → List Act
 acts_from step [] = []

@@ -8,6 +8,7 @@ use Rattle.address_map.specs.Bytes.{byte_loaded, word_loaded}
 use Rattle.arm_core.specs.Psr.{psr_bits}
 use Rattle.arm_core.specs.State.{register_in}
 use Rattle.image_loader.specs.Entries.{Entry}
+use Rattle.command_shell_lines.specs.declared.debug_words.stubs.Stub.{Stub}
 use Rattle.os_heap.specs.Payloads.{payload_of}
 use Rattle.os_heap.specs.Store.{Store}
 use Rattle.os_heap.specs.declared.payload.Payload.{Payload}
@@ -66,13 +67,13 @@ passes (sought.Freed address) steps before after = is_some before && not (is_sam
 passes looked steps before after = if is_same_seen before after then false else true
 
 -- so many steps one by one
-unfoldable pub single_steps : ℕ → ℕ → List Act
-single_steps line zero = []
-single_steps line (suc count) = steps_act line 1 ∷ single_steps line count
+unfoldable pub single_steps : ℕ → List Stub → ℕ → List Act
+single_steps line stubs zero = []
+single_steps line stubs (suc count) = steps_act line stubs 1 ∷ single_steps line stubs count
 
 -- each step by itself, and all other deeds
 abbrev pub units_of : ℕ → PastDeed → List Act
-units_of line (Steps count) = single_steps line count
+units_of line (Steps stubs count) = single_steps line stubs count
 units_of line deed = record { line = line; deed = deed } ∷ []
 
 abbrev pub units_of_act : Act → List Act

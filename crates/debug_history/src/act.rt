@@ -1,11 +1,12 @@
 //! What is done to a machine.
 
-ghost use Rattle.std.specs.Prelude.{◌≡◌, ◌<◌, ◌%◌, ◌^◌, IfOk, option_map};
-ghost use Rattle.debug_history.specs.Acts.{steps_behind, steps_of_deed, taken_steps};
+ghost use Rattle.std.specs.Prelude.{◌≡◌, ◌<◌, ◌%◌, ◌^◌, [], IfOk, MatchOption, option_map};
+ghost use Rattle.debug_history.specs.Acts.{steps_act, steps_behind, steps_of_deed, stubs_of_deed, taken_steps};
 
 use arm_core::{Mode, Psr};
 use command_shell_lines::{Origin, RegisterNumber, WordAddress};
 use debug_lines::SteppingCommand;
+use debug_tables::Stubs;
 use std::alloc::{AllocError, Global};
 use std::marker::Model;
 
@@ -40,6 +41,57 @@ impl KeptText {
         ensures { result.now ≡ self.now }
     {
         self.bytes.as_slice()
+    }
+}
+
+/// The stubs with which steps were taken.
+#[derive(Drop)]
+pub struct KeptStubs {
+    // None are kept as nothing.
+    stubs: Option<Box<Stubs>>,
+}
+
+impl Model for KeptStubs {
+    ghost use Rattle.std.specs.Prelude.{List};
+    ghost use Rattle.command_shell_lines.specs.declared.debug_words.stubs.Stub.{Stub};
+    ghost use Rattle.debug_history.specs.Acts.{boxed_stubs};
+
+    ghost Value = { List Stub };
+
+    ghost view = { λ k. boxed_stubs k.stubs };
+}
+
+impl KeptStubs {
+    /// No stub.
+    pub fn none() -> KeptStubs
+        ensures { result ≡ [] }
+    {
+        KeptStubs { stubs: None }
+    }
+
+    /// The same stubs, in memory of their own.
+    ///
+    /// # Errors
+    ///
+    /// Memory ran out.
+    pub fn of(alloc: Global, stubs: &Stubs) -> Result<KeptStubs, AllocError>
+        ensures { IfOk result (λ kept. kept ≡ stubs.now) }
+    {
+        if stubs.is_empty() {
+            return Ok(KeptStubs::none());
+        }
+        let kept = Box::new(alloc, stubs.copied())?;
+        Ok(KeptStubs { stubs: Some(kept) })
+    }
+
+    // The stubs, if there are any.
+    pub(crate) fn table(&self) -> Option<&Stubs>
+        ensures { MatchOption result (self.now ≡ []) (λ stubs. stubs.now ≡ self.now) }
+    {
+        match &self.stubs {
+            Some(stubs) => Some(&**stubs),
+            None => None,
+        }
     }
 }
 
@@ -83,8 +135,8 @@ impl CodeAddress {
 /// What is done to a machine, by itself or from outside.
 #[derive(Drop)]
 pub enum PastDeed {
-    /// So many steps are taken that are counted.
-    Steps(u64),
+    /// So many steps are taken that are counted, with stubs for SWIs that the machine doesn't have.
+    Steps(KeptStubs, u64),
     /// A step is taken that ends in a fault, and isn't counted.
     FaultingStep,
     /// A program is booted, by the name of its image, if it can be.
@@ -122,15 +174,41 @@ pub struct Act {
     pub deed: PastDeed,
 }
 
+impl Act {
+    // So many of its steps.
+    pub(crate) fn of_count(&self, alloc: Global, count: u64) -> Result<Act, AllocError>
+        ensures { IfOk result (λ act. act ≡ steps_act self.now.line (stubs_of_deed self.now.deed) count) }
+    {
+        let stubs = KeptStubs::of(alloc, &self.deed.stubs())?;
+        Ok(Act {
+            line: self.line,
+            deed: PastDeed::Steps(stubs, count),
+        })
+    }
+}
+
 impl PastDeed {
     /// How many steps it counts.
     pub fn steps(&self) -> u64
         ensures { result ≡ steps_of_deed self.now }
     {
         match self {
-            PastDeed::Steps(count) => *count,
+            PastDeed::Steps(_, count) => *count,
             PastDeed::Call(_, is_counted) | PastDeed::Load(_, is_counted) => u64::from(*is_counted),
             _ => 0,
+        }
+    }
+
+    /// The stubs with which its steps are taken.
+    pub fn stubs(&self) -> Stubs
+        ensures { result ≡ stubs_of_deed self.now }
+    {
+        match self {
+            PastDeed::Steps(stubs, _) => match stubs.table() {
+                Some(stubs) => stubs.copied(),
+                None => Stubs::new(),
+            },
+            _ => Stubs::new(),
         }
     }
 
@@ -139,7 +217,7 @@ impl PastDeed {
         ensures { option_map taken_steps result ≡ steps_behind skipped self.now }
     {
         match self {
-            PastDeed::Steps(count) if *count > skipped => {
+            PastDeed::Steps(_, count) if *count > skipped => {
                 Some((SteppingCommand::Run, *count - skipped))
             }
             PastDeed::FaultingStep if skipped == 0 => Some((SteppingCommand::Run, 1)),

@@ -1,6 +1,6 @@
 //! What was done to a machine is done to it again.
 
-ghost use Rattle.std.specs.Prelude.{◌≡◌, OnOk, IfErr};
+ghost use Rattle.std.specs.Prelude.{◌≡◌, [], OnOk, IfErr};
 ghost use Rattle.command_shell.specs.Calls.{outside_called};
 ghost use Rattle.command_shell.specs.Error.{IsLineError};
 ghost use Rattle.command_shell.specs.Session.{script_state};
@@ -8,19 +8,57 @@ ghost use Rattle.debug_history.specs.Acts.{changed_moment, moment_after_acts, mo
 ghost use Rattle.debug_history.specs.Again.{IsAtMoment};
 ghost use Rattle.debug_history.specs.declared.act.PastDeed.TheVariants.{FaultingStep};
 
-use crate::act::{Act, PastDeed};
+use crate::act::{Act, KeptStubs, PastDeed};
 use command_shell::{Nowhere, OutsideCall, RunError, Session};
 use command_shell_lines::ScriptCommand;
+use debug_tables::Stubs;
 use debug_tables::byte_writes::put_bytes;
 use image_loader::Images;
 use profile::WriteFault;
 use profile::text_lines::Lines;
 
 // Takes so many steps again, past all breaks.
+fn steps_again(
+    session: &mut Session,
+    images: &Images,
+    stubs: &KeptStubs,
+    count: u64,
+) -> Result<(), WriteFault>
+    ensures { let s = script_state session.old images.now in
+        OnOk result (IsAtMoment s (script_state session.new images.now)
+        (moment_after_steps stubs.now s.images count (moment_of_script s))) }
+{
+    match stubs.table() {
+        Some(stubs) => stubbed_again(session, images, stubs, count),
+        None => take_again(session, images, count),
+    }
+}
+
+// One by one, with stubs.
+fn stubbed_again(
+    session: &mut Session,
+    images: &Images,
+    stubs: &Stubs,
+    count: u64,
+) -> Result<(), WriteFault>
+    ensures { let s = script_state session.old images.now in
+        OnOk result (IsAtMoment s (script_state session.new images.now)
+        (moment_after_steps stubs.now s.images count (moment_of_script s))) }
+{
+    let mut left = count;
+    while left > 0 {
+        session.set_budget(1);
+        stubs.take_step(session, images, &mut Nowhere)?;
+        left -= 1;
+    }
+    Ok(())
+}
+
+// In runs, with none.
 fn take_again(session: &mut Session, images: &Images, count: u64) -> Result<(), WriteFault>
     ensures { let s = script_state session.old images.now in
         OnOk result (IsAtMoment s (script_state session.new images.now)
-        (moment_after_steps s.images count (moment_of_script s))) }
+        (moment_after_steps [] s.images count (moment_of_script s))) }
 {
     let mut left = count;
     while left > 0 {
@@ -74,7 +112,7 @@ pub fn deed_again(
     ensures errors { IfErr result IsLineError }
 {
     match deed {
-        PastDeed::Steps(count) => take_again(session, images, *count)?,
+        PastDeed::Steps(stubs, count) => steps_again(session, images, stubs, *count)?,
         PastDeed::FaultingStep => fault_again(session, images)?,
         PastDeed::Boot(name) => {
             let name = name.bytes();

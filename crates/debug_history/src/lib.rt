@@ -15,7 +15,7 @@ mod scan;
 mod search;
 mod texts;
 
-pub use act::{Act, CodeAddress, KeptText, PastDeed};
+pub use act::{Act, CodeAddress, KeptStubs, KeptText, PastDeed};
 pub use again::deed_again;
 pub use answering::PastSetting;
 pub use lines::{PastCommand, last_steps_asked, past_line};

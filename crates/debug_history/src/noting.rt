@@ -4,21 +4,19 @@ ghost use Rattle.std.specs.Prelude.{◌≡◌, List, OnOk};
 ghost use Rattle.command_shell.specs.Session.{script_state};
 ghost use Rattle.command_shell_lines.specs.Requests.{request_of_command};
 ghost use Rattle.debug_lines.specs.SteppingRequests.{stepping_request_of};
-ghost use Rattle.debug_history.specs.Noted.{has_returned, is_faulted, past_after_request, past_after_stepping, past_with_call, past_with_deed, past_with_gosub, past_with_steps, steps_before};
+ghost use Rattle.debug_history.specs.Noted.{has_returned, is_faulted, past_after_request, past_after_stepping, past_with_call, past_with_deed, past_with_gosub, past_with_steps, past_with_stubbed, steps_before};
 ghost use Rattle.image_loader.specs.Entries.{Entry};
 
-use crate::act::{Act, CodeAddress, KeptText, PastDeed};
+use crate::act::{Act, CodeAddress, KeptStubs, KeptText, PastDeed};
 use crate::past::Past;
 use arm_core::Psr;
 use command_shell::Session;
 use command_shell_lines::{Origin, RegisterNumber, ScriptCommand};
 use debug_lines::SteppingCommand;
+use debug_tables::Stubs;
+use debug_tables::routines::ROUTINE_END;
 use profile::Stop;
-use profile::memory_map::ADDRESS_LIMIT;
 use std::alloc::{AllocError, Global};
-
-/// Where a routine goes back to that a line calls.
-const ROUTINE_RETURN: u32 = ADDRESS_LIMIT - 4;
 
 /// How a machine stands before a line that takes steps.
 #[derive(Clone, Copy, Debug)]
@@ -54,8 +52,6 @@ impl StepsBefore {
 pub struct SteppingNote {
     /// How the machine stood before it.
     pub before: StepsBefore,
-    /// Whether stubs answered SWIs.
-    pub is_stubbed: bool,
     /// How many steps were counted.
     pub taken: u64,
     /// Whether the machine is halted by a fault after it.
@@ -94,11 +90,11 @@ impl Past {
             }
             ScriptCommand::Call(number) => {
                 let call = PastDeed::Call(number, taken > 0);
-                self.put_call(line, call, taken, has_faulted)
+                self.put_call(line, call, KeptStubs::none(), taken, has_faulted)
             }
             ScriptCommand::Load(text) => {
                 let call = PastDeed::Load(KeptText::of(alloc, text)?, taken > 0);
-                self.put_call(line, call, taken, has_faulted)
+                self.put_call(line, call, KeptStubs::none(), taken, has_faulted)
             }
             ScriptCommand::Hex(_) | ScriptCommand::Asm(_, _) => {
                 self.change_images_if(true);
@@ -108,7 +104,7 @@ impl Past {
         }
     }
 
-    /// A line took steps in modes.
+    /// A line took steps in modes, with these stubs.
     ///
     /// # Errors
     ///
@@ -118,29 +114,29 @@ impl Past {
         alloc: Global,
         line: u64,
         command: &SteppingCommand<'_>,
+        stubs: &Stubs,
         note: SteppingNote,
     ) -> Result<(), AllocError>
-        ensures { OnOk result (self.new ≡ past_after_stepping self.old line note
+        ensures { OnOk result (self.new ≡ past_after_stepping self.old line stubs.now note
             (stepping_request_of command.now)) }
     {
         let taken = note.taken;
         let has_faulted = note.has_faulted;
         let is_idle = note.before.is_halted || (taken == 0 && !has_faulted);
-        if note.is_stubbed && !is_idle {
-            self.lose();
-            return Ok(());
-        }
+        let kept = KeptStubs::of(alloc, stubs)?;
         match *command {
             SteppingCommand::Call(number) => {
                 let call = PastDeed::Call(number, taken > 0);
-                self.put_call(line, call, taken, has_faulted)
+                self.put_call(line, call, kept, taken, has_faulted)
             }
             SteppingCommand::Load(text) => {
                 let call = PastDeed::Load(KeptText::of(alloc, text)?, taken > 0);
-                self.put_call(line, call, taken, has_faulted)
+                self.put_call(line, call, kept, taken, has_faulted)
             }
-            SteppingCommand::Gosub(address) if !is_idle => { self.put_gosub(line, address, note) }
-            _ => self.put_steps(line, taken, has_faulted),
+            SteppingCommand::Gosub(address) if !is_idle => {
+                self.put_gosub(line, address, kept, note)
+            }
+            _ => self.put_stubbed(line, kept, taken, has_faulted),
         }
     }
 
@@ -164,7 +160,20 @@ impl Past {
     pub fn put_steps(&mut self, line: u64, taken: u64, has_faulted: bool) -> Result<(), AllocError>
         ensures { OnOk result (self.new ≡ past_with_steps self.old line taken has_faulted) }
     {
-        self.put(line, PastDeed::Steps(taken))?;
+        self.put_stubbed(line, KeptStubs::none(), taken, has_faulted)
+    }
+
+    // The same, with stubs.
+    fn put_stubbed(
+        &mut self,
+        line: u64,
+        stubs: KeptStubs,
+        taken: u64,
+        has_faulted: bool,
+    ) -> Result<(), AllocError>
+        ensures { OnOk result (self.new ≡ past_with_stubbed self.old line stubs taken has_faulted) }
+    {
+        self.put(line, PastDeed::Steps(stubs, taken))?;
         if has_faulted {
             self.put(line, PastDeed::FaultingStep)?;
         }
@@ -176,14 +185,15 @@ impl Past {
         &mut self,
         line: u64,
         call: PastDeed,
+        stubs: KeptStubs,
         taken: u64,
         has_faulted: bool,
     ) -> Result<(), AllocError>
-        ensures { OnOk result (self.new ≡ past_with_call self.old line call taken has_faulted) }
+        ensures { OnOk result (self.new ≡ past_with_call self.old line call stubs taken has_faulted) }
     {
         if taken > 0 {
             self.put(line, call)?;
-            self.put_steps(line, taken - 1, has_faulted)
+            self.put_stubbed(line, stubs, taken - 1, has_faulted)
         } else if has_faulted {
             self.put(line, call)
         } else {
@@ -196,14 +206,15 @@ impl Past {
         &mut self,
         line: u64,
         address: Origin,
+        stubs: KeptStubs,
         note: SteppingNote,
     ) -> Result<(), AllocError>
-        ensures { OnOk result (self.new ≡ past_with_gosub self.old line address note) }
+        ensures { OnOk result (self.new ≡ past_with_gosub self.old line address stubs note) }
     {
         let before = note.before;
-        let back = before.status.bits() + ROUTINE_RETURN;
+        let back = before.status.bits() + ROUTINE_END;
         self.put(line, PastDeed::Routine(address, back))?;
-        self.put_steps(line, note.taken, note.has_faulted)?;
+        self.put_stubbed(line, stubs, note.taken, note.has_faulted)?;
         if note.has_returned {
             let mode = before.status.mode;
             let link = RegisterNumber::new(14);

@@ -8,7 +8,7 @@ ghost use Rattle.debug_history.specs.Again.{script_at_moment};
 ghost use Rattle.debug_history.specs.Cutting.{acts_behind, acts_cut};
 ghost use Rattle.debug_history.specs.Past.{acts_before_line, acts_from, acts_until, line_of_last_act};
 
-use crate::act::{Act, PastDeed};
+use crate::act::Act;
 use crate::again::acts_again;
 use command_shell::{RunError, Session};
 use image_loader::Images;
@@ -20,6 +20,7 @@ use std::marker::Model;
 /// went back by since something was done to it last.
 #[derive(Drop)]
 pub struct Past {
+    alloc: Global,
     is_kept: bool,
     // What was done, and then what lies ahead.
     acts: Vec<Act>,
@@ -57,6 +58,7 @@ impl Past {
         ensures { result ≡ past_from_start is_kept }
     {
         Past {
+            alloc,
             is_kept,
             acts: Vec::new(alloc),
             done: 0,
@@ -158,7 +160,7 @@ impl Past {
     fn move_to(&mut self, step: u64) -> Result<(), AllocError>
         ensures { OnOk result (self.new ≡ past_until step self.old) }
     {
-        let done = split_at(&mut self.acts, step)?;
+        let done = split_at(self.alloc, &mut self.acts, step)?;
         self.steps = count_steps(&self.acts.as_slice()[..done]);
         self.done = done;
         Ok(())
@@ -245,13 +247,11 @@ impl Past {
     }
 }
 
-// Where acts are cut: behind so many, and so many steps of the next one, which a line took; so many follow.
+// Where acts are cut: behind so many, and so many steps of the next one.
 #[derive(Clone, Copy, Debug)]
 struct Cut {
     index: usize,
-    line: u64,
     left: u64,
-    rest: u64,
 }
 
 // Where acts are cut by a moment within them, if it is.
@@ -264,12 +264,7 @@ fn cut_at(acts: &[Act], step: u64) -> Option<Cut>
     for (index, act) in acts.iter().enumerate() {
         let count = act.deed.steps();
         if count > left {
-            return Some(Cut {
-                index,
-                line: act.line,
-                left,
-                rest: count - left,
-            });
+            return Some(Cut { index, left });
         }
         left -= count;
     }
@@ -277,7 +272,7 @@ fn cut_at(acts: &[Act], step: u64) -> Option<Cut>
 }
 
 // Acts are cut by a moment: steps within which it lies become two acts. Answers how many come before it.
-fn split_at(acts: &mut Vec<Act>, step: u64) -> Result<usize, AllocError>
+fn split_at(alloc: Global, acts: &mut Vec<Act>, step: u64) -> Result<usize, AllocError>
     ensures items { OnOk result (acts.new.items
         ≡ acts_until step acts.old.items ++ acts_from step acts.old.items) }
     ensures count { IfOk result (λ count. count ≡ length (acts_until step acts.old.items)) }
@@ -289,11 +284,11 @@ fn split_at(acts: &mut Vec<Act>, step: u64) -> Result<usize, AllocError>
     if cut.left == 0 {
         return Ok(cut.index);
     }
-    let line = cut.line;
-    let deed = PastDeed::Steps(cut.left);
-    acts.insert(cut.index, Act { line, deed })?;
-    let deed = PastDeed::Steps(cut.rest);
-    acts[cut.index + 1] = Act { line, deed };
+    let act = &acts[cut.index];
+    let first = act.of_count(alloc, cut.left)?;
+    let rest = act.of_count(alloc, act.deed.steps().saturating_sub(cut.left))?;
+    acts.insert(cut.index, first)?;
+    acts[cut.index + 1] = rest;
     Ok(cut.index + 1)
 }
 

@@ -15,6 +15,7 @@ use crate::again::deed_again;
 use crate::past::Past;
 use crate::search::{PastFound, Sought};
 use command_shell::{Machine, Nowhere, RunError, Session};
+use debug_tables::Stubs;
 use image_loader::Images;
 use profile::{Config, WriteFault};
 use std::alloc::Global;
@@ -98,7 +99,10 @@ fn scan_act(
     ensures errors { IfErr result IsLineError }
 {
     match &act.deed {
-        PastDeed::Steps(count) => scan_steps(session, images, sought, act.line, *count, scan)?,
+        PastDeed::Steps(_, count) => {
+            let stubs = act.deed.stubs();
+            scan_steps(session, images, sought, act.line, &stubs, *count, scan)?
+        }
         _ => {
             deed_again(session, images, &act.deed)?;
             scan.pass(session.machine(), sought, act.line, act.deed.steps());
@@ -113,6 +117,7 @@ fn scan_steps(
     images: &Images,
     sought: &Sought,
     line: u64,
+    stubs: &Stubs,
     count: u64,
     scan: &mut Scan,
 ) -> Result<(), WriteFault>
@@ -120,14 +125,14 @@ fn scan_steps(
     requires fits { scan.old.step + count < 2 ^ 64 }
     ensures moment { let s = script_state session.old images.now in
         OnOk result (IsAtMoment s (script_state session.new images.now)
-        (moment_after_acts s.images s.sizes (single_steps line count) (moment_of_script s))) }
+        (moment_after_acts s.images s.sizes (single_steps line stubs.now count) (moment_of_script s))) }
     ensures scan { let s = script_state session.old images.now in OnOk result (scan.new
-        ≡ scan_past s.images s.sizes sought.now (single_steps line count) (moment_of_script s) scan.old) }
+        ≡ scan_past s.images s.sizes sought.now (single_steps line stubs.now count) (moment_of_script s) scan.old) }
 {
     let mut left = count;
     while left > 0 {
         session.set_budget(1);
-        session.take_step(images, &mut Nowhere)?;
+        stubs.take_step(session, images, &mut Nowhere)?;
         scan.pass(session.machine(), sought, line, 1);
         left -= 1;
     }

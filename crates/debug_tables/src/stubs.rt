@@ -118,6 +118,17 @@ impl Stubs {
         Ok(())
     }
 
+    /// The same stubs once more.
+    pub fn copied(&self) -> Stubs
+        ensures { result ≡ self.now }
+    {
+        let mut table = ArrayVec::new();
+        for stub in self.table.as_slice() {
+            table.push(stub.copied());
+        }
+        Stubs { table }
+    }
+
     fn place_of(&self, number: u32) -> Option<usize>
         ensures place { result ≡ stub_place number self.now }
         ensures within { IfSome result (λ i. i < length self.now) }
@@ -145,11 +156,7 @@ impl Stubs {
             return None;
         }
         let deed = self.deed_next(machine)?;
-        if fits(machine, deed.at, deed.bytes.as_slice()) {
-            Some(deed)
-        } else {
-            None
-        }
+        fits(machine, deed.at, deed.bytes.as_slice()).then_some(deed)
     }
 
     fn deed_next(&self, machine: &Machine) -> Option<StubDeed>

@@ -130,6 +130,21 @@ impl Stub {
         }
     }
 
+    /// The same once more.
+    pub fn copied(&self) -> Stub
+        ensures { result ≡ self.now }
+    {
+        let mut copy = Stub::of_swi(self.number);
+        copy.flags = self.flags;
+        copy.at = self.at;
+        copy.entry = self.entry;
+        let _fit = copy
+            .registers
+            .try_extend_from_slice(self.registers.as_slice());
+        let _fit = copy.words.try_extend_from_slice(self.words.as_slice());
+        copy
+    }
+
     fn with_flag(mut self, letter: u8, is_set: bool) -> Option<Stub>
         ensures { result ≡ stub_with_flag self letter is_set }
     {

@@ -78,11 +78,7 @@ fn store_fault(map: &AddressMap, address: u32) -> Option<Fault>
     if let Err(fault) = map.load_byte(address) {
         return Some(fault);
     }
-    if map.owns(address) {
-        Some(Fault::OwnedWord)
-    } else {
-        None
-    }
+    map.owns(address).then_some(Fault::OwnedWord)
 }
 
 // How many words bytes lie in.

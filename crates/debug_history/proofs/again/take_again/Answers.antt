@@ -1,4 +1,4 @@
-use Rattle.std.proofs.Common.{◌≡◌, None, Some, Option, ap, arith, sym, ◌∙◌}
+use Rattle.std.proofs.Common.{◌≡◌, [], None, Some, Option, ap, arith, sym, ◌∙◌}
 use Rattle.std.specs.Prelude.{is_some}
 use Rattle.profile.specs.declared.stop.Stop.{Stop}
 use Rattle.command_shell.specs.Value.{MachineValue}
@@ -44,5 +44,5 @@ pub returns : goal.returns
 returns c =
     let images = c.args.images.now in
     let none : c.loop-left.left ≡ 0 = omega (arith, c.loop-left-test.false) in
-    way_ends (script_state c.args.session.now images) (script_state c.loop-left.session images) c.args.count c.loop-left.left
+    way_ends [] (script_state c.args.session.now images) (script_state c.loop-left.session images) c.args.count c.loop-left.left
     c.loop-left.invariant none

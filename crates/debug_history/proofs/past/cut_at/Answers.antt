@@ -1,7 +1,6 @@
 use Rattle.std.proofs.Common.{◌≡◌, ◌<◌, ◌≤◌, ℕ, ◌+◌, ◌-◌, ◌∙◌, List, ap, length, refl, subst, sym, arith}
 use Rattle.debug_history.specs.Acts.{steps_of_deed}
 use Rattle.debug_history.specs.declared.act.Act.{Act}
-use Rattle.debug_history.specs.Cutting.{acts_behind_by}
 use Rattle.debug_history.proofs.PastLemmas.{IsCutBehind, IsCutFrom, behind_goes_on, behind_here, behind_nowhere, cut_goes_on, cut_here, cut_nowhere}
 use Rattle.debug_history.proofs.past.cut_at.Goals as goal
 
@@ -52,7 +51,6 @@ returns-then-count-left-clause-from c =
     let test = c.if-count-left.true in
     let more : c.loop-index.left < steps_of_deed act.deed = omega (arith, one, test) in
     behind_here acts c.args.step i c.loop-index.left act below c.index-acts-index.is more c.loop-index.invariant.behind
-    ∙ ap (λ (n : ℕ). acts_behind_by acts i act.line (n - c.loop-index.left) c.loop-index.left) (sym one)
 
 pub returns-clause-from : goal.returns-clause-from
 returns-clause-from c =

@@ -1,7 +1,6 @@
 -- Steps that a cut lies within become two acts.
-use Rattle.std.proofs.Common.{◌<◌, ◌≡◌, ◌+◌, ◌∙◌, ◌++◌, List, Some, ap, arith, length, sym}
+use Rattle.std.proofs.Common.{◌<◌, ◌≡◌, ◌+◌, ◌-◌, ◌∙◌, ◌++◌, List, Some, ap, arith, length, sym}
 use Rattle.std.specs.Prelude.{set}
-use Rattle.debug_history.specs.Acts.{steps_act}
 use Rattle.debug_history.specs.Cutting.{acts_behind, acts_cut}
 use Rattle.debug_history.specs.Past.{acts_from, acts_until}
 use Rattle.debug_history.specs.declared.act.Act.{Act}
