@@ -31,10 +31,11 @@ use Rattle.command_shell.specs.State.{Answered, ScriptState}
 use Rattle.command_shell.specs.Stepping.{breaks_changed}
 use Rattle.command_shell.specs.Views.{flex_answer, heap_answer, shown_or}
 use Rattle.command_shell_lines.specs.Requests.{Request, Areas, Asm, Boot, Break, Call, Code, Flex, Heap, Hex, Load, Mem, Modules, Nothing, Poke, Regs, Run, Set, Step, Unbreak, Unknown}
-use Rattle.debug_history.specs.Acts.{PastMoment, fresh_moment, moment_after_acts, moment_after_boot, moment_after_program, moment_after_word, moment_of_script}
+use Rattle.debug_history.specs.Acts.{PastMoment, fresh_moment, is_anew, moment_after_acts, moment_after_boot, moment_after_deed, moment_after_program, moment_after_word, moment_of_script}
 use Rattle.debug_history.specs.Laws.{IsPastOf, NotedIsDone}
 use Rattle.debug_history.specs.Noted.{past_with_deed}
-use Rattle.debug_history.specs.Past.{PastState, moment_after_past, past_from_start, past_with_images, past_with_other_images}
+use Rattle.debug_history.specs.Past.{PastState, ends_anew, past_from_start, past_with_images, past_with_other_images}
+use Rattle.debug_history.specs.declared.act.PastDeed.{PastDeed}
 use Rattle.debug_history.specs.declared.act.PastDeed.TheVariants as deed
 use Rattle.debug_history.proofs.CallNotedLemmas.{IsCallOf, call_noted}
 use Rattle.debug_history.proofs.NotedLemmas.{deed_noted, nothing_noted, run_noted}
@@ -174,30 +175,45 @@ refused_block s number Modules block is = absurd (cc)
 refused_block s number Flex block is = absurd (cc)
 refused_block s number Unknown block is = absurd (cc)
 
-some_acts : (n : ℕ) → (suc n == 0) ≡ true → ⊥
-some_acts n e = grind (arith, nat_tests, e)
+-- after acts that leave a machine as it was made, with any images
+anew_moment : (images : List Entry) (sizes : Sizes) (d : PastDeed) (m : PastMoment) → is_anew d ≡ true
+    → moment_after_deed images sizes d m ≡ fresh_moment sizes
+anew_moment images sizes deed.Anew m is = refl
+anew_moment images sizes (deed.Steps count) m is = absurd (cc)
+anew_moment images sizes deed.FaultingStep m is = absurd (cc)
+anew_moment images sizes (deed.Boot name) m is = absurd (cc)
+anew_moment images sizes (deed.Call number b) m is = absurd (cc)
+anew_moment images sizes (deed.Load text b) m is = absurd (cc)
+anew_moment images sizes (deed.Register number value) m is = absurd (cc)
+anew_moment images sizes (deed.Word address value) m is = absurd (cc)
+anew_moment images sizes (deed.Banked mode number value) m is = absurd (cc)
+anew_moment images sizes (deed.Place address) m is = absurd (cc)
+anew_moment images sizes (deed.Routine address link) m is = absurd (cc)
+anew_moment images sizes (deed.Status status) m is = absurd (cc)
+anew_moment images sizes deed.Woken m is = absurd (cc)
+anew_moment images sizes (deed.Bytes address bytes) m is = absurd (cc)
 
-start_moment : (images other : List Entry) (sizes : Sizes) (acts : List Act) (m : PastMoment) → (length acts == 0) ≡ true
-    → moment_after_acts images sizes acts m ≡ moment_after_acts other sizes acts m
+stood_anew : (images : List Entry) (sizes : Sizes) (acts : List Act) (m : PastMoment) (b : Bool) → ends_anew b acts ≡ true
+    → (b ≡ true → m ≡ fresh_moment sizes) → moment_after_acts images sizes acts m ≡ fresh_moment sizes
+unfolding moment_after_acts ends_anew
+stood_anew images sizes [] m b is start = start is
+stood_anew images sizes (act ∷ rest) m b is start =
+    stood_anew images sizes rest (moment_after_deed images sizes act.deed m) (is_anew act.deed) is (anew_moment images sizes act.deed m)
+
+begun : (images : List Entry) (sizes : Sizes) → moment_after_acts images sizes [] (fresh_moment sizes) ≡ fresh_moment sizes
 unfolding moment_after_acts
-start_moment images other sizes [] m e = refl
-start_moment images other sizes (act ∷ rest) m e = absurd (some_acts (length rest) e)
+begun images sizes = refl
 
-no_acts : (acts : List Act) → (length acts == 0) ≡ true → acts ≡ []
-no_acts [] e = refl
-no_acts (act ∷ rest) e = absurd (some_acts (length rest) e)
-
-at_start : (p : PastState) (s : ScriptState) (k b : Bool) → p.is_kept ≡ k → (length p.acts == 0) ≡ b → IsPastOf s p
+at_start : (p : PastState) (s : ScriptState) (k b : Bool) → p.is_kept ≡ k → ends_anew true p.acts ≡ b → IsPastOf s p
     → (now : ScriptState) → SameBut s (record { state = now; text = [] }) → IsPastOf now (past_from_start (k && b))
 at_start p s true true kept e was now same = λ _.
-    same.0 ∙ was kept ∙ start_moment s.images now.images s.sizes p.acts (fresh_moment s.sizes) e
-    ∙ sym (λ i. moment_after_acts now.images (same.1 i) p.acts (fresh_moment (same.1 i)))
-    ∙ ap (λ (acts : List Act). moment_after_acts now.images now.sizes acts (fresh_moment now.sizes)) (no_acts p.acts e)
+    same.0 ∙ was kept ∙ stood_anew s.images s.sizes p.acts (fresh_moment s.sizes) true e (λ _. refl)
+    ∙ sym (ap fresh_moment same.1) ∙ sym (begun now.images now.sizes)
 at_start p s true false kept e was now same = λ k. absurd (cc)
 at_start p s false b kept e was now same = λ k. absurd (cc)
 
 pub images_noted : (s : ScriptState) (p : PastState) (a : Answered) → IsPastOf s p → SameBut s a → IsPastOf a.state (past_with_other_images p)
-images_noted s p a was same = at_start p s p.is_kept (length p.acts == 0) refl refl was a.state same
+images_noted s p a was same = at_start p s p.is_kept (ends_anew true p.acts) refl refl was a.state same
 
 -- an image that isn't there doesn't go
 none_less : (es : List Entry) (name : List ℕ) → is_some (bytes_of_image es name) ≡ false → without_entry es name ≡ es

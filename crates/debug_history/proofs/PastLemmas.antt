@@ -4,9 +4,9 @@ use Rattle.std.specs.Prelude.{map, nat_le}
 use Rattle.std.specs.List.{last_or}
 use Rattle.std.proofs.lemmas.Bool.Decides.{nat_tests}
 use Rattle.std.proofs.lemmas.List.{append-nil, drop_all, drop_more, take-append-drop, take_more}
-use Rattle.debug_history.specs.Acts.{steps_of_acts, steps_of_deed, stubs_of_deed}
-use Rattle.debug_history.specs.Cutting.{behind_cut, first_cut}
-use Rattle.debug_history.specs.Past.{act_behind, acts_before_line, acts_from, acts_until, first_steps}
+use Rattle.debug_history.specs.Acts.{is_anew, steps_of_acts, steps_of_deed}
+use Rattle.debug_history.specs.Cutting.{acts_behind_by}
+use Rattle.debug_history.specs.Past.{act_behind, acts_before_line, acts_from, acts_until, ends_anew, first_steps}
 use Rattle.debug_history.specs.declared.act.Act.{Act}
 use Rattle.debug_history.proofs.ActLemmas.{steps_joined, steps_of_none}
 
@@ -192,3 +192,21 @@ lines_first acts i act o below is =
 pub lines_end : (acts : List Act) (i : ℕ) (o : Option ℕ) → length acts ≤ i
     → last_or o (map (λ (a : Act). a.line) (drop i acts)) ≡ o
 lines_end acts i o all = ap (λ (xs : List Act). last_or o (map (λ (a : Act). a.line) xs)) (drop_all i acts all)
+
+-- whether a machine stands as it was made
+first_anew : (act : Act) (rest : List Act) (b : Bool) → ends_anew b (act ∷ rest) ≡ ends_anew (is_anew act.deed) rest
+unfolding ends_anew
+first_anew act rest b = refl
+
+none_anew : (b : Bool) → ends_anew b [] ≡ b
+unfolding ends_anew
+none_anew b = refl
+
+pub anew_first : (acts : List Act) (i : ℕ) (act : Act) (b : Bool) → i < length acts → act ≡ get_or acts i act
+    → ends_anew b (drop i acts) ≡ ends_anew (is_anew act.deed) (drop (i + 1) acts)
+anew_first acts i act b below is =
+    ap (ends_anew b) (drop_more acts i act below ∙ ap (λ (a : Act). a ∷ drop (i + 1) acts) (sym is))
+    ∙ first_anew act (drop (i + 1) acts) b
+
+pub anew_end : (acts : List Act) (i : ℕ) (b : Bool) → length acts ≤ i → ends_anew b (drop i acts) ≡ b
+anew_end acts i b all = ap (ends_anew b) (drop_all i acts all) ∙ none_anew b

@@ -96,6 +96,11 @@ moment_after_acts images sizes [] m = m
 moment_after_acts images sizes (act ∷ rest) m =
     moment_after_acts images sizes rest (moment_after_deed images sizes act.deed m)
 
+-- whether it makes the machine anew
+abbrev pub is_anew : PastDeed → Bool
+is_anew Anew = true
+is_anew _ = false
+
 -- how many steps a deed counts
 abbrev pub count_if : Bool → ℕ
 count_if is_counted = if is_counted then 1 else 0

@@ -4,8 +4,7 @@ use Rattle.std.specs.Prelude.{ℕ, zero, suc, Bool, true, false, ◌&&◌, ◌+�
 use Rattle.std.specs.List.{last_or}
 use Rattle.image_loader.specs.Entries.{Entry}
 use Rattle.profile.specs.Sizes.{Sizes}
-use Rattle.command_shell_lines.specs.declared.debug_words.stubs.Stub.{Stub}
-use Rattle.debug_history.specs.Acts.{PastMoment, fresh_moment, moment_after_acts, steps_act, steps_of_acts, steps_of_deed, stubs_of_deed}
+use Rattle.debug_history.specs.Acts.{PastMoment, fresh_moment, is_anew, moment_after_acts, steps_act, steps_of_acts, steps_of_deed}
 use Rattle.debug_history.specs.declared.act.Act.{Act}
 
 -- what was done, where it is known, and what lies ahead: what was gone back by since something was done last
@@ -27,10 +26,16 @@ past_with_act p act = if p.is_kept then (
     if nat_lt (steps_of_acts p.acts + steps_of_deed act.deed) (2 ^ 64)
     then record p { acts = p.acts ++ act ∷ []; ahead = [] } else unknown_past) else p
 
+-- whether the machine stands as it was made: nothing was done to it, or the last that was done is that it was
+-- made anew
+unfoldable pub ends_anew : Bool → List Act → Bool
+ends_anew is_new [] = is_new
+ends_anew is_new (act ∷ rest) = ends_anew (is_anew act.deed) rest
+
 -- Steps load modules from images by their names, so that with other images the past is not known any
--- more, unless nothing was done yet.
+-- more, unless the machine stands as it was made: then it begins.
 abbrev pub past_with_other_images : PastState → PastState
-past_with_other_images p = past_from_start (p.is_kept && (length p.acts == 0))
+past_with_other_images p = past_from_start (p.is_kept && ends_anew true p.acts)
 
 -- where they may be others
 abbrev pub past_with_images : Bool → PastState → PastState

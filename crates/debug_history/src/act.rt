@@ -1,7 +1,7 @@
 //! What is done to a machine.
 
-ghost use Rattle.std.specs.Prelude.{◌≡◌, ◌<◌, ◌%◌, ◌^◌, [], IfOk, MatchOption, option_map};
-ghost use Rattle.debug_history.specs.Acts.{steps_act, steps_behind, steps_of_deed, stubs_of_deed, taken_steps};
+ghost use Rattle.std.specs.Prelude.{◌≡◌, ◌<◌, ◌%◌, ◌^◌, IfOk, option_map};
+ghost use Rattle.debug_history.specs.Acts.{is_anew, steps_behind, steps_of_deed, taken_steps};
 
 use arm_core::{Mode, Psr};
 use command_shell_lines::{Origin, RegisterNumber, WordAddress};
@@ -188,6 +188,13 @@ impl Act {
 }
 
 impl PastDeed {
+    /// Whether it makes the machine anew.
+    pub fn is_anew(&self) -> bool
+        ensures { result ≡ is_anew self.now }
+    {
+        matches!(self, PastDeed::Anew)
+    }
+
     /// How many steps it counts.
     pub fn steps(&self) -> u64
         ensures { result ≡ steps_of_deed self.now }

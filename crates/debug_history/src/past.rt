@@ -6,7 +6,7 @@ ghost use Rattle.command_shell.specs.Session.{script_state};
 ghost use Rattle.debug_history.specs.Acts.{steps_of_acts};
 ghost use Rattle.debug_history.specs.Again.{script_at_moment};
 ghost use Rattle.debug_history.specs.Cutting.{acts_behind, acts_cut};
-ghost use Rattle.debug_history.specs.Past.{acts_before_line, acts_from, acts_until, line_of_last_act};
+ghost use Rattle.debug_history.specs.Past.{acts_before_line, acts_from, acts_until, ends_anew, line_of_last_act};
 
 use crate::act::Act;
 use crate::again::acts_again;
@@ -91,7 +91,7 @@ impl Past {
         ensures { self.new ≡ past_with_images are_others self.old }
     {
         if are_others {
-            let is_kept = self.is_kept && self.acts().is_empty();
+            let is_kept = self.is_kept && ends_anew(self.acts());
             self.begin(is_kept);
         }
     }
@@ -305,6 +305,17 @@ fn count_before_line(acts: &[Act], line: u64) -> usize
         count -= 1;
     }
     0
+}
+
+// Whether a machine stands as it was made after some acts.
+fn ends_anew(acts: &[Act]) -> bool
+    ensures { result ≡ ends_anew true acts.now }
+{
+    let mut is_new = true;
+    for act in acts {
+        is_new = act.deed.is_anew();
+    }
+    is_new
 }
 
 // The line of the last act.
