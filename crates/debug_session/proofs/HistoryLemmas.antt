@@ -17,9 +17,9 @@ use Rattle.debug_history.specs.Answers.{PastAnswered, back_until, last_in_past, 
 use Rattle.debug_history.specs.Laws.{IsPastOf}
 use Rattle.debug_history.specs.Lines.{last_steps_asked}
 use Rattle.debug_lines.specs.LineKinds.{asks_nothing, is_refused_block}
-use Rattle.debug_history.specs.Noted.{is_faulted, past_after_request}
-use Rattle.debug_history.specs.Acts.{moment_after_acts}
-use Rattle.debug_history.specs.Past.{PastState, line_of_last_act, past_from_start, unknown_past}
+use Rattle.debug_history.specs.Noted.{is_faulted, past_after_request, past_with_deed}
+use Rattle.debug_history.specs.Acts.{PastMoment, moment_after_acts}
+use Rattle.debug_history.specs.Past.{PastState, line_of_last_act, moment_after_past, past_from_start}
 use Rattle.debug_history.specs.Texts.{no_history_text}
 use Rattle.debug_history.specs.declared.act.PastDeed.TheVariants as deed
 use Rattle.debug_history.specs.declared.lines.PastCommand.{PastCommand}
@@ -27,13 +27,16 @@ use Rattle.debug_history.specs.declared.lines.PastCommand.TheVariants as past
 use Rattle.debug_history.specs.declared.search.PastFound.{PastFound}
 use Rattle.debug_history.specs.declared.search.Sought.TheVariants.{Stood}
 use Rattle.debug_history.proofs.LineNotedLemmas.{image_forgotten, noted_is_done, refused_block}
+use Rattle.debug_history.proofs.AgainLemmas.{beside_at, moment_at, put_at}
 use Rattle.debug_history.proofs.NotedLemmas.{deed_noted}
+use Rattle.profile.specs.Outcome.{Leaves}
+use Rattle.debug_modes.specs.OwnAnswers.{put_text}
 use Rattle.command_shell_lines.specs.FailedBlocks.{block_reason}
 use Rattle.debug_modes.specs.Modes.{answer_of_line}
 use Rattle.debug_modes.specs.expectations.Checks.{check_answer, status_after_pattern}
 use Rattle.debug_modes.specs.expectations.Halted.{halting_fault}
 use Rattle.debug_modes.specs.expectations.reports.Reports.{report_of_refusal, with_refusal, answer_in}
-use Rattle.debug_session.specs.DebugScript.{answer_or_refused, checked_answer, plain_line_answer, past_line_by, past_line_or_steps, put_done, put_found, script_line_answer_in, seen_of, set_pc_by, state_after_line, state_with_answer, stepping_line_answer, stepping_now, write_done, with_block_noted}
+use Rattle.debug_session.specs.DebugScript.{answer_or_refused, checked_answer, plain_line_answer, bytes_done, past_line_by, past_line_or_steps, put_found, script_line_answer_in, seen_of, set_pc_by, state_after_line, state_with_answer, stepping_line_answer, stepping_now, with_block_noted}
 use Rattle.debug_runs.specs.Lines.{stepping_answer}
 use Rattle.debug_runs.proofs.PlainLemmas.{lines_are}
 use Rattle.debug_runs.proofs.TracedLemmas.{last_is_run, same_line}
@@ -46,10 +49,6 @@ use Rattle.debug_tables.specs.byte_writes.Put.{script_after_put}
 -- the past of a state is that of its machine
 abbrev IsKept : DebugState → Type 0
 IsKept d = IsPastOf d.script d.past
-
--- what isn't known is that of any machine
-unknown_kept : (s : ScriptState) → IsPastOf s unknown_past
-unknown_kept s = λ kept. absurd (cc)
 
 -- LINES OF A SCRIPT
 
@@ -130,30 +129,37 @@ place_kept c d number address (Some fault) was = was
 place_kept c d number address None was =
     deed_noted d.script (script_at d.script address) d.past number (deed.Place address) refl refl was refl
 
-put_kept : (c : DebugSettings) (d : DebugState) (name : List ℕ) (address : ℕ) (r : Result ScriptState Fault) → IsKept d
-    → IsKept (put_done c d name address r).state
-put_kept c d name address (Ok script) was = unknown_kept script
-put_kept c d name address (Err fault) was = was
+bytes_kept : (c : DebugSettings) (d : DebugState) (number address : ℕ) (bytes text : List ℕ) (r : Result ScriptState Fault)
+    → script_after_put d.script address bytes ≡ r → IsKept d → IsKept (bytes_done c d number address bytes text r).state
+bytes_kept c d number address bytes text (Ok script) is was =
+    let put = put_at d.script script address bytes {U = Unit {0}} (Ok (record {})) (subst (λ (r : Result ScriptState Fault).
+    Leaves {U = Unit {0}} d.script r (Ok (record {})) script) (sym is) refl) in
+    let beside = beside_at d.script script _ put in
+    deed_noted d.script script d.past number (deed.Bytes address bytes) beside.images beside.sizes was (moment_at d.script script _ put)
+bytes_kept c d number address bytes text (Err fault) is was = was
 
-found_kept : (c : DebugSettings) (d : DebugState) (name : List ℕ) (address : ℕ) (o : Option (List ℕ)) → IsKept d
-    → IsKept (put_found c d name address o).state
-found_kept c d name address None was = was
-found_kept c d name address (Some bytes) was = put_kept c d name address (script_after_put d.script address bytes) was
-
-write_kept : (c : DebugSettings) (d : DebugState) (r : Result ScriptState Fault) → IsKept d → IsKept (write_done c d r).state
-write_kept c d (Ok script) was = unknown_kept script
-write_kept c d (Err fault) was = was
+found_kept : (c : DebugSettings) (d : DebugState) (number : ℕ) (name : List ℕ) (address : ℕ) (o : Option (List ℕ)) → IsKept d
+    → IsKept (put_found c d number name address o).state
+found_kept c d number name address None was = was
+found_kept c d number name address (Some bytes) was =
+    bytes_kept c d number address bytes (put_text name address) (script_after_put d.script address bytes) refl was
 
 checked_kept : (c : DebugSettings) (d : DebugState) (number : ℕ) (words : List ℕ) (o : Option (List ℕ)) → IsKept d
     → IsKept (checked_answer c d number words o).state
 checked_kept c d number words None was = was
 checked_kept c d number words (Some reason) was = was
 
--- a machine as it is made
-anew_kept : (c : DebugSettings) (s : ScriptState)
-    → IsPastOf (script_started_anew s c.config c.budget) (past_from_start c.keeps_past)
+-- a machine as it is made, whatever was before
+anew_kept : (c : DebugSettings) (s : ScriptState) (p : PastState) (number : ℕ) (b : Bool)
+    → IsPastOf (script_started_anew s c.config c.budget)
+    (if b then past_with_deed p number deed.Anew else past_from_start c.keeps_past)
 unfolding moment_after_acts machine_start script_start_state
-anew_kept c s = λ kept. refl
+anew_kept c s p number true =
+    let now : ScriptState = script_started_anew s c.config c.budget in
+    let there : PastMoment = moment_after_past now.images now.sizes p in
+    let before : ScriptState = record now { machine = there.machine; is_fresh = there.is_fresh } in
+    deed_noted before now p number deed.Anew refl refl (λ kept. refl) refl
+anew_kept c s p number false = λ kept. refl
 
 -- LINES OF THE PAST
 
@@ -216,12 +222,13 @@ past_is_of_the_machine c d number words block (own.SetPsr pattern) up was =
     let status = status_after_pattern pattern d.script.machine.cpu.psr in
     deed_noted d.script (script_with_status d.script status) d.past number (deed.Status status) refl refl was refl
 past_is_of_the_machine c d number words block (own.Put name address) up was =
-    found_kept c d name address (bytes_of_image d.script.images name) was
+    found_kept c d number name address (bytes_of_image d.script.images name) was
 past_is_of_the_machine c d number words block (own.Write address count named) up was =
-    write_kept c d (script_after_put d.script address (bytes_written count (or_no_bytes (named_bytes named)))) was
+    let bytes = bytes_written count (or_no_bytes (named_bytes named)) in
+    bytes_kept c d number address bytes [] (script_after_put d.script address bytes) refl was
 past_is_of_the_machine c d number words block (own.Forget name) up was = image_forgotten d.script d.past name was
 past_is_of_the_machine c d number words block (own.Counts name) up was = was
-past_is_of_the_machine c d number words block own.Reset up was = anew_kept c d.script
+past_is_of_the_machine c d number words block own.Reset up was = anew_kept c d.script d.past number d.past.is_kept
 past_is_of_the_machine c d number words block own.Quit up was = was
 past_is_of_the_machine c d number words block (own.Expect expected) up was =
     checked_kept c d number words (check_answer (seen_of d) expected) was
@@ -269,20 +276,16 @@ place_same : (c : DebugSettings) (d : DebugState) (p : PastState) (number addres
 place_same c d p number address (Some fault) = record { text = refl; state = refl }
 place_same c d p number address None = record { text = refl; state = refl }
 
-put_same : (c : DebugSettings) (d : DebugState) (p : PastState) (name : List ℕ) (address : ℕ) (r : Result ScriptState Fault)
-    → Same p (put_done c (record d { past = p }) name address r) (put_done c d name address r)
-put_same c d p name address (Ok script) = record { text = refl; state = refl }
-put_same c d p name address (Err fault) = record { text = refl; state = refl }
+bytes_same : (c : DebugSettings) (d : DebugState) (p : PastState) (number address : ℕ) (bytes text : List ℕ) (r : Result ScriptState Fault)
+    → Same p (bytes_done c (record d { past = p }) number address bytes text r) (bytes_done c d number address bytes text r)
+bytes_same c d p number address bytes text (Ok script) = record { text = refl; state = refl }
+bytes_same c d p number address bytes text (Err fault) = record { text = refl; state = refl }
 
-found_same : (c : DebugSettings) (d : DebugState) (p : PastState) (name : List ℕ) (address : ℕ) (o : Option (List ℕ))
-    → Same p (put_found c (record d { past = p }) name address o) (put_found c d name address o)
-found_same c d p name address None = record { text = refl; state = refl }
-found_same c d p name address (Some bytes) = put_same c d p name address (script_after_put d.script address bytes)
-
-write_same : (c : DebugSettings) (d : DebugState) (p : PastState) (r : Result ScriptState Fault)
-    → Same p (write_done c (record d { past = p }) r) (write_done c d r)
-write_same c d p (Ok script) = record { text = refl; state = refl }
-write_same c d p (Err fault) = record { text = refl; state = refl }
+found_same : (c : DebugSettings) (d : DebugState) (p : PastState) (number : ℕ) (name : List ℕ) (address : ℕ) (o : Option (List ℕ))
+    → Same p (put_found c (record d { past = p }) number name address o) (put_found c d number name address o)
+found_same c d p number name address None = record { text = refl; state = refl }
+found_same c d p number name address (Some bytes) =
+    bytes_same c d p number address bytes (put_text name address) (script_after_put d.script address bytes)
 
 checked_same : (c : DebugSettings) (d : DebugState) (p : PastState) (number : ℕ) (words : List ℕ) (o : Option (List ℕ))
     → Same p (checked_answer c (record d { past = p }) number words o) (checked_answer c d number words o)
@@ -318,9 +321,10 @@ history_changes_no_answer c d p number words block (own.SetPc address) none =
     place_same c d p number address (halting_fault (option_map stop_of d.script.machine.halt))
 history_changes_no_answer c d p number words block (own.SetPsr pattern) none = record { text = refl; state = refl }
 history_changes_no_answer c d p number words block (own.Put name address) none =
-    found_same c d p name address (bytes_of_image d.script.images name)
+    found_same c d p number name address (bytes_of_image d.script.images name)
 history_changes_no_answer c d p number words block (own.Write address count named) none =
-    write_same c d p (script_after_put d.script address (bytes_written count (or_no_bytes (named_bytes named))))
+    let bytes = bytes_written count (or_no_bytes (named_bytes named)) in
+    bytes_same c d p number address bytes [] (script_after_put d.script address bytes)
 history_changes_no_answer c d p number words block (own.Forget name) none = record { text = refl; state = refl }
 history_changes_no_answer c d p number words block (own.Counts name) none = record { text = refl; state = refl }
 history_changes_no_answer c d p number words block own.Reset none = record { text = refl; state = refl }

@@ -1,43 +1,34 @@
 -- The steps that were taken last, taken again and shown.
-use Rattle.std.proofs.Common.{◌≡◌, ◌<◌, ◌≤◌, ℕ, zero, suc, ◌-◌, ◌+◌, ◌==◌, ◌&&◌, ◌++◌, Bool, true, false, List, [], ◌∷◌, append_assoc, Option, Some, None, length, get_or, drop, refl, sym, ◌∙◌, ap, subst, arith, if◌then◌else◌}
-use Rattle.std.specs.Prelude.{IsSome, codes, is_some, nat_lt, unwrap_or}
-use Rattle.std.specs.Option.{option_map}
+use Rattle.std.proofs.Common.{◌≡◌, ◌<◌, ℕ, zero, suc, ◌-◌, ◌+◌, ◌==◌, ◌&&◌, Bool, true, false, List, [], Option, Some, None, length, refl, sym, ◌∙◌, ap, subst, arith, if◌then◌else◌}
+use Rattle.std.specs.Prelude.{IsSome, is_some, nat_lt, unwrap_or}
 use Rattle.std.proofs.Math.Bool.{and-false}
 use Rattle.std.proofs.lemmas.Bool.Decides.{nat_tests}
-use mir.Val.{bool_byte}
-use Rattle.std.proofs.lemmas.List.{append-nil, drop_all, drop_more}
 use Rattle.image_loader.specs.Entries.{Entry}
-use Rattle.profile.specs.Sizes.{Sizes}
-use Rattle.profile.specs.declared.stop.Stop.{Stop}
 use Rattle.profile.specs.declared.stop.Stop.TheVariants as stop
 use Rattle.debug_labels.specs.Labels.{ImageLabels}
 use Rattle.debug_history.specs.Halt.{Halt}
-use Rattle.debug_history.specs.Halt.TheVariants as halt
-use Rattle.debug_tables.specs.run_meter.MachineState.{MachineState, StepOutcome, stop_of}
+use Rattle.debug_tables.specs.run_meter.MachineState.{StepOutcome, stop_of}
 use Rattle.debug_history.specs.MachineRun.{Run, count_after, ran}
 use Rattle.debug_history.specs.MachineSteps.{machine_step, module_loaded, store_called}
-use Rattle.debug_history.specs.ShellCalls.{answer_after_steps, call_end, call_made, end_answer, finished_by, step_made, stop_answer, stop_before_step, stop_before_step_by}
+use Rattle.debug_history.specs.ShellCalls.{answer_after_steps, call_end, call_made, finished_by, step_made, stop_answer, stop_before_step, stop_before_step_by}
 use Rattle.debug_history.specs.CallEnd.{CallEnd}
 use Rattle.debug_history.specs.CallEnd.TheVariants as cend
 use Rattle.debug_history.proofs.ShellCallLemmas.{call_allowed, finished_ends, halted_ends}
 use Rattle.debug_tables.specs.run_meter.Memory.{script_with_budget, script_with_last}
-use Rattle.debug_tables.specs.run_meter.State.{ScriptState, script_start_state}
+use Rattle.debug_tables.specs.run_meter.State.{ScriptState}
 use Rattle.debug_lines.specs.SteppingRequests.{SteppingRequest}
 use Rattle.debug_lines.specs.SteppingRequests as asked
-use Rattle.debug_history.specs.Acts.{PastMoment, changed_moment, count_if, fresh_moment, moment_after_acts, moment_after_deed, moment_after_steps, moment_of_script, steps_behind, steps_of_acts, steps_of_deed}
+use Rattle.debug_history.specs.Acts.{PastMoment, changed_moment, moment_after_deed, moment_after_steps, moment_of_script, steps_behind}
 use Rattle.debug_history.specs.Again.{IsAtMoment}
 use Rattle.debug_history.specs.Steps.{steps_after}
-use Rattle.debug_history.specs.declared.act.Act.{Act}
 use Rattle.debug_history.specs.declared.act.PastDeed.{PastDeed}
 use Rattle.debug_history.specs.declared.act.PastDeed.TheVariants as deed
 use Rattle.debug_history.proofs.AgainLemmas.{IsBeside, at_moment, beside_at, beside_both, fresh_gone, moment_at}
 use Rattle.debug_history.proofs.StepLemmas.{halted_left, never_none, none_left, run_leads, steps_added}
-use Rattle.debug_runs.specs.Lines.{SteppingAnswer, stepping_answer}
+use Rattle.debug_runs.specs.Lines.{stepping_answer}
 use Rattle.debug_runs.proofs.PlainLemmas.{lines_are}
 use Rattle.debug_runs.proofs.TracedLemmas.{same_line}
-use Rattle.debug_tables.specs.run_meter.Answers.{refused_text}
-use Rattle.debug_session.specs.LastSteps.{no_step_modes, script_at_past, script_to_trace, steps_shown, text_of_acts, text_of_deed, text_of_steps, text_or_refused}
-use Rattle.debug_tables.specs.declared.modes.StepModes.{StepModes}
+use Rattle.debug_session.specs.LastSteps.{no_step_modes, script_at_past, script_to_trace, steps_shown}
 
 -- a script that went on to a moment, and what is left of its steps
 pub record HasGoneOn (s now : ScriptState) (m : PastMoment) : Type 0 where
@@ -273,127 +264,3 @@ deed_done labels s shown last k left d taken up is same count at =
     at_moment s last done (beside_both s shown last beside (beside_at shown last there at))
     (moment_at shown last there at
     ∙ (λ i. moment_after_steps (beside.images i) (count i) (moment_of_script shown)) ∙ gone.moment)
-
-pub shown_text : (labels : List ImageLabels) (s : ScriptState) (k : ℕ) (d : PastDeed) (taken : SteppingRequest × ℕ) (old new text : List ℕ)
-    → s.machine.halt ≡ None → Some taken ≡ steps_behind k d
-    → text ≡ (steps_shown labels (script_at_past s (moment_after_steps s.images k (moment_of_script s))) taken.1 taken.0).text
-    → new ≡ old ++ text → new ≡ old ++ text_of_deed labels s k d (moment_of_script s)
-shown_text labels s k d taken old new text up is same more =
-    let first : ScriptState = script_at_past s (moment_after_steps s.images k (moment_of_script s)) in
-    more ∙ ap (λ (xs : List ℕ). old ++ xs)
-    (same ∙ ap (λ (o : Option (SteppingRequest × ℕ)). text_of_steps labels first o) is
-    ∙ sym (ap (λ (o : Option Halt). if is_some o then [] else text_of_steps labels first (steps_behind k d)) up))
-
-if_none : (b : Bool) (xs : List ℕ) → xs ≡ [] → [] ≡ (if b then [] else xs)
-if_none true xs none = refl
-if_none false xs none = sym none
-
-pub no_text : (labels : List ImageLabels) (s : ScriptState) (k : ℕ) (d : PastDeed) (old : List ℕ) → None ≡ steps_behind k d
-    → old ≡ old ++ text_of_deed labels s k d (moment_of_script s)
-no_text labels s k d old none =
-    let first : ScriptState = script_at_past s (moment_after_steps s.images k (moment_of_script s)) in
-    sym (append-nil old) ∙ ap (λ (xs : List ℕ). old ++ xs)
-    (if_none (is_some s.machine.halt) (text_of_steps labels first (steps_behind k d))
-    (ap (λ (o : Option (SteppingRequest × ℕ)). text_of_steps labels first o) (sym none)))
-
-pub halted_text : (labels : List ImageLabels) (s : ScriptState) (k : ℕ) (d : PastDeed) (old : List ℕ) → is_some s.machine.halt ≡ true
-    → old ≡ old ++ text_of_deed labels s k d (moment_of_script s)
-halted_text labels s k d old is =
-    let first : ScriptState = script_at_past s (moment_after_steps s.images k (moment_of_script s)) in
-    sym (append-nil old) ∙ ap (λ (b : Bool). old ++ (if b then [] else text_of_steps labels first (steps_behind k d))) (sym is)
-
--- no stub and no watch
-pub bare_modes : (modes : StepModes) → modes.stubs ≡ [] → modes.watches ≡ [] → modes ≡ no_step_modes
-bare_modes modes stubs watches = λ i. record { stubs = stubs i; watches = watches i }
-
-same_steps : (labels : List ImageLabels) (s t : ScriptState) (m : PastMoment) (o : Option (SteppingRequest × ℕ)) → IsBeside s t
-    → text_of_steps labels (script_at_past t m) o ≡ text_of_steps labels (script_at_past s m) o
-same_steps labels s t m None b = refl
-same_steps labels s t m (Some taken) b = λ i. (steps_shown labels
-    (script_at_past (record s { sizes = b.sizes i; images = b.images i; breaks = b.breaks i }) m) taken.1 taken.0).text
-
--- what is shown of the steps of a deed doesn't depend on where the script's machine is
-pub same_text : (labels : List ImageLabels) (s t : ScriptState) (k : ℕ) (d : PastDeed) (m : PastMoment) → IsBeside s t
-    → text_of_deed labels t k d m ≡ text_of_deed labels s k d m
-same_text labels s t k d m b =
-    ap (λ (xs : List ℕ). if is_some m.machine.halt then [] else xs)
-    (ap (λ (es : List Entry). text_of_steps labels (script_at_past t (moment_after_steps es k m)) (steps_behind k d)) b.images
-    ∙ same_steps labels s t (moment_after_steps s.images k m) (steps_behind k d) b)
-
-first_text : (labels : List ImageLabels) (s : ScriptState) (k : ℕ) (act : Act) (rest : List Act) (m : PastMoment)
-    → text_of_acts labels s k (act ∷ rest) m
-    ≡ text_of_deed labels s k act.deed m ++ text_of_acts labels s (k - steps_of_deed act.deed) rest (moment_after_deed s.images s.sizes act.deed m)
-unfolding text_of_acts
-first_text labels s k act rest m = refl
-
-pub text_behind : (labels : List ImageLabels) (s now next : ScriptState) (k more : ℕ) (acts : List Act) (i : ℕ) (act : Act) (text new all : List ℕ)
-    → i < length acts → act ≡ get_or acts i act → IsBeside s now
-    → IsAtMoment now next (moment_after_deed now.images now.sizes act.deed (moment_of_script now))
-    → more ≡ k - steps_of_deed act.deed
-    → new ≡ text ++ text_of_deed labels now k act.deed (moment_of_script now)
-    → text ++ text_of_acts labels s k (drop i acts) (moment_of_script now) ≡ all
-    → new ++ text_of_acts labels s more (drop (i + 1) acts) (moment_of_script next) ≡ all
-text_behind labels s now next k more acts i act text new all below is b done fewer shown so_far =
-    let rest : List Act = drop (i + 1) acts in
-    let m : PastMoment = moment_of_script now in
-    let split = drop_more acts i act below ∙ ap (λ (a : Act). a ∷ rest) (sym is) in
-    let there : moment_of_script next ≡ moment_after_deed s.images s.sizes act.deed m =
-    moment_at now next (moment_after_deed now.images now.sizes act.deed m) done
-    ∙ (λ j. moment_after_deed (b.images j) (b.sizes j) act.deed m) in
-    let one : List ℕ = text_of_deed labels s k act.deed m in
-    let others : List ℕ = text_of_acts labels s (k - steps_of_deed act.deed) rest (moment_after_deed s.images s.sizes act.deed m) in
-    (λ j. (shown j) ++ text_of_acts labels s (fewer j) rest (there j))
-    ∙ ap (λ (xs : List ℕ). (text ++ xs) ++ others) (same_text labels s now k act.deed m b)
-    ∙ append_assoc text one others
-    ∙ ap (λ (xs : List ℕ). text ++ xs) (sym (first_text labels s k act rest m))
-    ∙ ap (λ (xs : List Act). text ++ text_of_acts labels s k xs m) (sym split)
-    ∙ so_far
-
-none_shown : (labels : List ImageLabels) (s : ScriptState) (k : ℕ) (m : PastMoment) → text_of_acts labels s k [] m ≡ []
-unfolding text_of_acts
-none_shown labels s k m = refl
-
-pub text_whole : (labels : List ImageLabels) (s : ScriptState) (k : ℕ) (acts : List Act) (i : ℕ) (m : PastMoment) (text all : List ℕ)
-    → length acts ≤ i → text ++ text_of_acts labels s k (drop i acts) m ≡ all → text ≡ all
-text_whole labels s k acts i m text all past so_far =
-    sym (append-nil text) ∙ ap (λ (xs : List ℕ). text ++ xs) (sym (none_shown labels s k m))
-    ∙ ap (λ (xs : List Act). text ++ text_of_acts labels s k xs m) (sym (drop_all i acts past)) ∙ so_far
-
--- a machine that has no stop isn't halted
-pub up_where : (o : Option Halt) (x : Option Stop) (b : Bool) → b ≡ is_some x → x ≡ option_map stop_of o → b ≡ false → o ≡ None
-up_where None x b e f off = refl
-up_where (Some h) x b e f off = let some = ap (λ (y : Option Stop). is_some y) f in absurd (cc (e, some, off))
-
--- ALL STEPS
-
-pub byte_if : (b : Bool) → bool_byte b ≡ count_if b
-byte_if true = refl
-byte_if false = refl
-
--- what is shown before the first act
-pub text_begins : (labels : List ImageLabels) (start now : ScriptState) (skipped steps counted count : ℕ) (b faulted : Bool) (text : List ℕ)
-    (acts all : List Act) → text ≡ [] → now ≡ start → acts ≡ all → steps ≡ steps_of_acts all → b ≡ faulted → counted ≡ count - count_if b
-    → skipped ≡ steps - counted
-    → text ++ text_of_acts labels start skipped (drop 0 acts) (moment_of_script now)
-    ≡ text_of_acts labels start (steps_of_acts all - (count - count_if faulted)) all (moment_of_script start)
-text_begins labels start now skipped steps counted count b faulted text acts all none same kept steps_are fault counts skips =
-    let fewer : skipped ≡ steps_of_acts all - (count - count_if faulted) =
-    skips ∙ (λ i. (steps_are i) - ((counts ∙ ap (λ (x : Bool). count - count_if x) fault) i)) in
-    λ i. (none i) ++ text_of_acts labels start (fewer i) (kept i) (moment_of_script (same i))
-
--- where nothing is shown, and where something is
-is_none : (text : List ℕ) → (length text == 0) ≡ true → text ≡ []
-is_none [] e = refl
-is_none (byte ∷ text) e = let never = never_none (length text) in absurd (cc (e, never))
-
-pub none_to_show : (line text all : List ℕ) {b : Bool} → line ≡ refused_text (codes "NoHistory") → text ≡ all
-    → b ≡ (length text == 0) → b ≡ true → line ≡ text_or_refused all
-none_to_show line text all said whole empty is =
-    said ∙ ap text_or_refused (sym (is_none text (sym empty ∙ is)) ∙ whole)
-
-is_some_text : (text : List ℕ) → (length text == 0) ≡ false → text ≡ text_or_refused text
-is_some_text [] e = absurd (cc e)
-is_some_text (byte ∷ text) e = refl
-
-pub some_to_show : (text all : List ℕ) {b : Bool} → text ≡ all → b ≡ (length text == 0) → b ≡ false → text ≡ text_or_refused all
-some_to_show text all whole empty is = is_some_text text (sym empty ∙ is) ∙ ap text_or_refused whole

@@ -12,6 +12,7 @@ pub mod PastLineLemmas
 pub mod RefusalLemmas
 pub mod RepeatLemmas
 pub mod RunPastLemmas
+pub mod ShownStepsLemmas
 pub mod SteppingLemmas
 pub mod SteppingPastLemmas
 pub mod UnreadLemmas

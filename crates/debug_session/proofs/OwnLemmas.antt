@@ -1,6 +1,6 @@
 -- What calls leave of a debugging session, by what those that they make leave.
-use Rattle.std.proofs.Common.{◌≡◌, ℕ, ◌-◌, Bool, true, false, List, [], ◌++◌, Option, Some, Result, ap, refl, subst, sym, ◌∙◌}
-use Rattle.std.specs.Prelude.{◌&&◌, ◌||◌, not, if◌then◌else◌, OnOk}
+use Rattle.std.proofs.Common.{◌≡◌, ℕ, ◌-◌, Bool, true, false, List, [], ◌++◌, Option, None, Some, Result, ap, refl, subst, sym, ◌∙◌}
+use Rattle.std.specs.Prelude.{◌&&◌, ◌||◌, is_some, not, option_map, if◌then◌else◌, OnOk}
 use Rattle.std.specs.Io.KnownBytes.{Appends}
 use Rattle.profile.proofs.OutputLemmas.{Appends-join, Appends-nothing}
 use Rattle.debug_lines.specs.DebugRequests.{DebugRequest}
@@ -9,18 +9,19 @@ use Rattle.profile.specs.Status.{status_after}
 use Rattle.debug_tables.specs.BlockErrorTexts.{text_with_errors}
 use Rattle.debug_tables.specs.run_meter.Script.{request_answer}
 use Rattle.debug_tables.specs.run_meter.State.{Answered, IsAnswered, ScriptState}
-use Rattle.debug_tables.specs.run_meter.Memory.{script_with_budget}
+use Rattle.debug_tables.specs.run_meter.Memory.{script_started_anew, script_with_budget}
 use Rattle.command_shell_lines.specs.Requests.{Request, Nothing, Hex, Asm, Boot, Run, Regs, Set, Poke, Call, Load, Step, Break, Unbreak, Mem, Code, Heap, Areas, Modules, Flex, Unknown, opens_block}
 use Rattle.command_shell_lines.specs.FailedBlocks.{FailedBlockPlace, block_reason}
 use Rattle.debug_modes.specs.expectations.Endings.{ending_of, output_of}
 use Rattle.debug_labels.specs.Labels.{ImageLabels}
 use Rattle.debug_modes.specs.declared.modes.DebugModes.{DebugModes}
 use Rattle.debug_session.specs.Naming.{labels_with_block}
-use Rattle.debug_session.specs.DebugScript.{machine_change_answer, checked_answer, labels_after, past_after_line, simple_request_answer, state_after_line, state_with_answer, script_line_answer, script_line_answer_by, answer_or_refused, line_in_modes_answer, view_answer, with_block_noted}
+use Rattle.debug_session.specs.DebugScript.{machine_change_answer, checked_answer, labels_after, past_after_line, simple_request_answer, state_after_line, state_with_answer, script_line_answer, script_line_answer_by, answer_or_refused, line_in_modes_answer, past_after_reset, view_answer, with_block_noted}
 use Rattle.debug_lines.specs.LineKinds.{asks_nothing, is_named_image, is_refused_block, takes_steps}
-use Rattle.debug_history.specs.Noted.{is_faulted, past_after_request}
-use Rattle.debug_history.specs.Past.{PastState}
+use Rattle.debug_history.specs.Noted.{is_faulted, past_after_request, past_with_deed}
+use Rattle.debug_history.specs.Past.{PastState, past_from_start}
 use Rattle.debug_history.specs.declared.act.PastDeed.{PastDeed}
+use Rattle.debug_history.specs.declared.act.PastDeed.TheVariants.{Anew}
 use Rattle.image_loader.specs.Entries.{Entry}
 use Rattle.debug_tables.specs.run_meter.Session.{script_state}
 use Rattle.debug_session.specs.DebugState.{DebugAnswered, DebugState, IsDebugged, debug_answer}
@@ -324,6 +325,11 @@ pub changed_silently : (held : Option (List ℕ)) (now d : DebugState) (number :
     → now ≡ (machine_change_answer d number deed script).state → IsDebugged held held now (machine_change_answer d number deed script)
 changed_silently held now d number deed script is = record { text = Appends-nothing held; state = is }
 
+-- whether there is something, by what is seen of it
+pub mapped_some : {A B : Type 0} (f : A → B) (o : Option A) → is_some o ≡ is_some (option_map f o)
+mapped_some f None = refl
+mapped_some f (Some a) = refl
+
 -- a session whose images and labels are others
 pub without_image : (d : DebugState) (images after : List Entry) (labels left : List ImageLabels) (p q : PastState)
     → after ≡ images → labels ≡ left → p ≡ q
@@ -355,3 +361,24 @@ line_below before mid after c e d n now number r block below setting noted is re
       text = Appends-join before mid after first.text (answer_in c.form below) reported.text shown;
       state = reported.state;
     })
+
+-- a machine made anew, whose past begins or goes on
+pub begun_anew : (c : DebugSettings) (d now : DebugState) (number : ℕ)
+    → now ≡ record d { script = script_started_anew d.script c.config c.budget; past = past_from_start c.keeps_past }
+    → d.past.is_kept ≡ false
+    → now ≡ record d { script = script_started_anew d.script c.config c.budget; past = past_after_reset c.keeps_past d.past number }
+begun_anew c d now number made lost = made ∙ ap (λ (b : Bool). let begun : DebugState = record d {
+  script = script_started_anew d.script c.config c.budget;
+  past = if b then past_with_deed d.past number Anew else past_from_start c.keeps_past;
+} in begun) (sym lost)
+
+pub gone_on_anew : (c : DebugSettings) (d : DebugState) (s : ScriptState) (p : PastState) (number : ℕ)
+    → s ≡ script_started_anew d.script c.config c.budget → p ≡ past_with_deed d.past number Anew → d.past.is_kept ≡ true
+    → record d { script = s; past = p }
+    ≡ record d { script = script_started_anew d.script c.config c.budget; past = past_after_reset c.keeps_past d.past number }
+gone_on_anew c d s p number made noted kept =
+    (λ i. record d { script = made i; past = noted i })
+    ∙ ap (λ (b : Bool). let gone : DebugState = record d {
+      script = script_started_anew d.script c.config c.budget;
+      past = if b then past_with_deed d.past number Anew else past_from_start c.keeps_past;
+    } in gone) (sym kept)

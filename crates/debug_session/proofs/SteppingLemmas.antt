@@ -9,11 +9,12 @@ use Rattle.profile.specs.declared.fault.Fault.{Fault}
 use Rattle.debug_tables.specs.run_meter.Answers.{refused_text}
 use Rattle.debug_tables.specs.run_meter.State.{ScriptState}
 use Rattle.command_shell_lines.specs.Requests.{Request, Nothing, Hex, Asm, Boot, Run, Regs, Set, Poke, Call, Load, Step, Break, Unbreak, Mem, Code, Heap, Areas, Modules, Flex, Unknown, opens_block}
-use Rattle.debug_history.specs.Past.{PastState, unknown_past}
+use Rattle.debug_history.specs.Noted.{past_with_deed}
+use Rattle.debug_history.specs.Past.{PastState}
+use Rattle.debug_history.specs.declared.act.PastDeed.TheVariants.{Bytes}
 use Rattle.debug_lines.specs.SteppingRequests.{SteppingRequest, stepping_in}
 use Rattle.debug_modes.specs.declared.modes.DebugModes.{DebugModes}
-use Rattle.debug_modes.specs.OwnAnswers.{put_text}
-use Rattle.debug_session.specs.DebugScript.{put_done, stepping_answer_by, view_answer, write_done}
+use Rattle.debug_session.specs.DebugScript.{bytes_done, stepping_answer_by, view_answer}
 use Rattle.debug_session.specs.DebugState.{DebugAnswered, DebugState, IsDebugged}
 use Rattle.debug_modes.specs.expectations.reports.Reports.{answer_in}
 use Rattle.debug_modes.specs.declared.expectations.reports.reports.ReportForm.{ReportForm}
@@ -75,39 +76,21 @@ pub answer_of_steps : (before after : Option (List ℕ)) (c : DebugSettings) (d 
 answer_of_steps before after c d now mid modes kept p q s text text' printed printed' ending ending' same past is reported prints ends written =
     subst (λ (x : DebugAnswered). IsDebugged before after now x) (rw (same, past, is, reported, prints, ends) refl) written
 
--- the bytes of an image written, or refused
-pub put_ok : (before after : Option (List ℕ)) (c : DebugSettings) (d now : DebugState) (name : List ℕ) (address : ℕ)
-    (old new : ScriptState) (p : PastState) (o : Result ScriptState Fault) (u : Unit {0}) (text : List ℕ)
-    → Leaves {U = Unit {0}} old o (Ok u) new → text ≡ put_text name address → p ≡ unknown_past
+-- bytes that a line writes, written or refused
+pub bytes_ok : (before after : Option (List ℕ)) (c : DebugSettings) (d now : DebugState) (number address : ℕ) (bytes text : List ℕ)
+    (old new : ScriptState) (p : PastState) (o : Result ScriptState Fault) (u : Unit {0})
+    → Leaves {U = Unit {0}} old o (Ok u) new → p ≡ past_with_deed d.past number (Bytes address bytes)
     → IsDebugged before after now (view_answer c (record d { script = new; past = p }) text)
-    → IsDebugged before after now (put_done c d name address o)
-put_ok before after c d now name address old new p (Ok s) u text leaves same lost reported =
-    subst (λ (x : DebugAnswered). IsDebugged before after now x) (rw (leaves, same, lost) refl) reported
-put_ok before after c d now name address old new p (Err fault) u text leaves same lost reported = absurd leaves
+    → IsDebugged before after now (bytes_done c d number address bytes text o)
+bytes_ok before after c d now number address bytes text old new p (Ok s) u leaves noted reported =
+    subst (λ (x : DebugAnswered). IsDebugged before after now x) (rw (leaves, noted) refl) reported
+bytes_ok before after c d now number address bytes text old new p (Err fault) u leaves noted reported = absurd leaves
 
-pub put_refused : (before after : Option (List ℕ)) (c : DebugSettings) (d now : DebugState) (name : List ℕ) (address : ℕ)
-    (new : ScriptState) (o : Result ScriptState Fault) (fault : Fault) (text : List ℕ)
-    → Leaves {U = Unit {0}} d.script o (Err fault) new → text ≡ refused_text (fault_name fault)
-    → IsDebugged before after now (view_answer c (record d { script = new }) text)
-    → IsDebugged before after now (put_done c d name address o)
-put_refused before after c d now name address new (Ok s) fault text leaves same reported = absurd leaves
-put_refused before after c d now name address new (Err f) fault text leaves same reported =
-    subst (λ (x : DebugAnswered). IsDebugged before after now x) (rw (leaves.1, same, leaves.0) refl) reported
-
--- bytes that a line names, written or refused
-pub write_ok : (before after : Option (List ℕ)) (c : DebugSettings) (d now : DebugState) (old new : ScriptState) (p : PastState)
-    (o : Result ScriptState Fault) (u : Unit {0}) (text : List ℕ) → Leaves {U = Unit {0}} old o (Ok u) new
-    → text ≡ [] → p ≡ unknown_past → IsDebugged before after now (view_answer c (record d { script = new; past = p }) text)
-    → IsDebugged before after now (write_done c d o)
-write_ok before after c d now old new p (Ok s) u text leaves none lost reported =
-    subst (λ (x : DebugAnswered). IsDebugged before after now x) (rw (leaves, none, lost) refl) reported
-write_ok before after c d now old new p (Err fault) u text leaves none lost reported = absurd leaves
-
-pub write_refused : (before after : Option (List ℕ)) (c : DebugSettings) (d now : DebugState) (new : ScriptState)
-    (o : Result ScriptState Fault) (fault : Fault) (text : List ℕ)
-    → Leaves {U = Unit {0}} d.script o (Err fault) new → text ≡ refused_text (fault_name fault)
-    → IsDebugged before after now (view_answer c (record d { script = new }) text)
-    → IsDebugged before after now (write_done c d o)
-write_refused before after c d now new (Ok s) fault text leaves same reported = absurd leaves
-write_refused before after c d now new (Err f) fault text leaves same reported =
+pub bytes_refused : (before after : Option (List ℕ)) (c : DebugSettings) (d now : DebugState) (number address : ℕ) (bytes text : List ℕ)
+    (new : ScriptState) (o : Result ScriptState Fault) (fault : Fault) (shown : List ℕ)
+    → Leaves {U = Unit {0}} d.script o (Err fault) new → shown ≡ refused_text (fault_name fault)
+    → IsDebugged before after now (view_answer c (record d { script = new }) shown)
+    → IsDebugged before after now (bytes_done c d number address bytes text o)
+bytes_refused before after c d now number address bytes text new (Ok s) fault shown leaves same reported = absurd leaves
+bytes_refused before after c d now number address bytes text new (Err f) fault shown leaves same reported =
     subst (λ (x : DebugAnswered). IsDebugged before after now x) (rw (leaves.1, same, leaves.0) refl) reported

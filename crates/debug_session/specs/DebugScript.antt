@@ -33,9 +33,9 @@ use Rattle.debug_history.specs.Answers.{PastAnswered, past_line_answered}
 use Rattle.debug_history.specs.Lines.{last_steps_asked}
 use Rattle.debug_lines.specs.LineKinds.{asks_nothing, is_refused_block, takes_steps}
 use Rattle.debug_history.specs.Noted.{is_faulted, past_after_request, past_after_stepping, past_with_deed, steps_before}
-use Rattle.debug_history.specs.Past.{PastState, past_from_start, past_with_images, unknown_past}
+use Rattle.debug_history.specs.Past.{PastState, past_from_start, past_with_images}
 use Rattle.debug_history.specs.declared.act.PastDeed.{PastDeed}
-use Rattle.debug_history.specs.declared.act.PastDeed.TheVariants.{Place, Status}
+use Rattle.debug_history.specs.declared.act.PastDeed.TheVariants.{Anew, Bytes, Place, Status}
 use Rattle.debug_labels.specs.Labels.{ImageLabels, without_labels}
 use Rattle.debug_session.specs.DebugState.{DebugAnswered, DebugState, debug_answer, debug_start_state, then_debugged}
 use Rattle.debug_session.specs.LastSteps.{last_steps_answer}
@@ -194,11 +194,17 @@ set_psr_answer d number pattern =
     let status = status_after_pattern pattern d.script.machine.cpu.psr in
     machine_change_answer d number (Status status) (script_with_status d.script status)
 
-abbrev pub reset_answer : DebugSettings → DebugState → DebugAnswered
-reset_answer c d = view_answer c
+-- A machine that is made anew belongs to the past of the one before it, where that is known; else its past
+-- begins.
+abbrev pub past_after_reset : Bool → PastState → ℕ → PastState
+past_after_reset keeps_past p number =
+    if p.is_kept then past_with_deed p number Anew else past_from_start keeps_past
+
+abbrev pub reset_answer : DebugSettings → DebugState → ℕ → DebugAnswered
+reset_answer c d number = view_answer c
     (record d {
       script = script_started_anew d.script c.config c.budget;
-      past = past_from_start c.keeps_past;
+      past = past_after_reset c.keeps_past d.past number;
     })
     (codes "reset\n")
 
@@ -217,27 +223,29 @@ abbrev pub counts_answer : DebugSettings → DebugState → List ℕ → DebugAn
 counts_answer c d name =
     view_answer c d (counts_text d.modes.counts (naming_of d).names d.script.machine.store.bytes name)
 
-abbrev pub put_done : DebugSettings → DebugState → List ℕ → ℕ → Result ScriptState Fault → DebugAnswered
-put_done c d name address (Ok script) =
-    view_answer c (record d { script = script; past = unknown_past }) (put_text name address)
-put_done c d name address (Err fault) = view_answer c d (refused_text (fault_name fault))
+-- Bytes that a line writes, whole or not at all: what is shown of them, or why they aren't written.
+abbrev pub bytes_done : DebugSettings → DebugState → ℕ → ℕ → List ℕ → List ℕ → Result ScriptState Fault
+    → DebugAnswered
+bytes_done c d number address bytes text (Ok script) = view_answer c
+    (record d { script = script; past = past_with_deed d.past number (Bytes address bytes) }) text
+bytes_done c d number address bytes text (Err fault) = view_answer c d (refused_text (fault_name fault))
 
--- PUT: the bytes of the image of that name are written, whole or not at all.
-abbrev pub put_found : DebugSettings → DebugState → List ℕ → ℕ → Option (List ℕ) → DebugAnswered
-put_found c d name address None = view_answer c d (refused_text (codes "NoImage"))
-put_found c d name address (Some bytes) = put_done c d name address (script_after_put d.script address bytes)
+abbrev pub bytes_answer : DebugSettings → DebugState → ℕ → ℕ → List ℕ → List ℕ → DebugAnswered
+bytes_answer c d number address bytes text =
+    bytes_done c d number address bytes text (script_after_put d.script address bytes)
 
-abbrev pub put_answer : DebugSettings → DebugState → List ℕ → ℕ → DebugAnswered
-put_answer c d name address = put_found c d name address (bytes_of_image d.script.images name)
+-- PUT: the bytes of the image of that name are written.
+abbrev pub put_found : DebugSettings → DebugState → ℕ → List ℕ → ℕ → Option (List ℕ) → DebugAnswered
+put_found c d number name address None = view_answer c d (refused_text (codes "NoImage"))
+put_found c d number name address (Some bytes) = bytes_answer c d number address bytes (put_text name address)
 
--- POKE and FILL of bytes: whole, with no answer, or not at all.
-abbrev pub write_done : DebugSettings → DebugState → Result ScriptState Fault → DebugAnswered
-write_done c d (Ok script) = view_answer c (record d { script = script; past = unknown_past }) []
-write_done c d (Err fault) = view_answer c d (refused_text (fault_name fault))
+abbrev pub put_answer : DebugSettings → DebugState → ℕ → List ℕ → ℕ → DebugAnswered
+put_answer c d number name address = put_found c d number name address (bytes_of_image d.script.images name)
 
-abbrev pub write_answer : DebugSettings → DebugState → ℕ → Option ℕ → List ℕ → DebugAnswered
-write_answer c d address count named = write_done c d
-    (script_after_put d.script address (bytes_written count (or_no_bytes (named_bytes named))))
+-- POKE and FILL of bytes: with no answer.
+abbrev pub write_answer : DebugSettings → DebugState → ℕ → ℕ → Option ℕ → List ℕ → DebugAnswered
+write_answer c d number address count named =
+    bytes_answer c d number address (bytes_written count (or_no_bytes (named_bytes named))) []
 
 -- a change of modes, and its answer
 abbrev pub mode_answer_by : DebugSettings → DebugState → ModeAnswer → DebugAnswered
@@ -296,12 +304,12 @@ simple_request_answer c d number words (View shown) block = view_answer c d
     (view_text d.labels d.script.machine shown)
 simple_request_answer c d number words (SetPc address) block = set_pc_answer c d number address
 simple_request_answer c d number words (SetPsr pattern) block = set_psr_answer d number pattern
-simple_request_answer c d number words (Put name address) block = put_answer c d name address
-simple_request_answer c d number words (Write address count named) block = write_answer c d address count
-    named
+simple_request_answer c d number words (Put name address) block = put_answer c d number name address
+simple_request_answer c d number words (Write address count named) block =
+    write_answer c d number address count named
 simple_request_answer c d number words (Forget name) block = forget_answer c d name
 simple_request_answer c d number words (Counts name) block = counts_answer c d name
-simple_request_answer c d number words Reset block = reset_answer c d
+simple_request_answer c d number words Reset block = reset_answer c d number
 simple_request_answer c d number words Quit block = debug_answer (record d { has_quit = true }) []
 simple_request_answer c d number words (Expect expected) block =
     checked_answer c d number words (check_answer (seen_of d) expected)

@@ -6,7 +6,7 @@ use Rattle.debug_tables.specs.run_meter.Answers.{refused_text}
 use Rattle.debug_tables.specs.run_meter.State.{ScriptState, script_start_state}
 use Rattle.debug_labels.specs.Labels.{ImageLabels}
 use Rattle.debug_lines.specs.SteppingRequests.{SteppingRequest}
-use Rattle.debug_history.specs.Acts.{PastMoment, count_if, fresh_moment, moment_after_deed, moment_after_steps, moment_of_script, steps_behind, steps_of_acts, steps_of_deed}
+use Rattle.debug_history.specs.Acts.{PastMoment, count_if, fresh_moment, is_anew, moment_after_deed, moment_after_steps, moment_of_script, steps_behind, steps_of_acts, steps_of_deed}
 use Rattle.debug_history.specs.Noted.{is_faulted}
 use Rattle.debug_history.specs.declared.act.Act.{Act}
 use Rattle.debug_history.specs.declared.act.PastDeed.{PastDeed}
@@ -45,11 +45,17 @@ abbrev pub text_of_deed : List ImageLabels → ScriptState → ℕ → PastDeed 
 text_of_deed labels s skipped deed m = if is_some m.machine.halt then []
     else text_of_steps labels (script_at_past s (moment_after_steps s.images skipped m)) (steps_behind skipped deed)
 
--- of those of some acts, but for the first so many
-unfoldable pub text_of_acts : List ImageLabels → ScriptState → ℕ → List Act → PastMoment → List ℕ
-text_of_acts labels s skipped [] m = []
-text_of_acts labels s skipped (act ∷ rest) m = text_of_deed labels s skipped act.deed m
-    ++ text_of_acts labels s (skipped - steps_of_deed act.deed) rest (moment_after_deed s.images s.sizes act.deed m)
+-- what is shown so far, and of a deed more; of a machine in whose place another was made nothing is shown
+abbrev pub text_with_deed : List ImageLabels → ScriptState → ℕ → PastDeed → PastMoment → List ℕ → List ℕ
+text_with_deed labels s skipped deed m text =
+    if is_anew deed then [] else text ++ text_of_deed labels s skipped deed m
+
+-- of the steps of some acts, but for the first so many
+unfoldable pub text_of_acts : List ImageLabels → ScriptState → ℕ → List Act → PastMoment → List ℕ → List ℕ
+text_of_acts labels s skipped [] m text = text
+text_of_acts labels s skipped (act ∷ rest) m text =
+    text_of_acts labels s (skipped - steps_of_deed act.deed) rest
+    (moment_after_deed s.images s.sizes act.deed m) (text_with_deed labels s skipped act.deed m text)
 
 -- of the last so many; a step that ended in a fault and left the machine halted is one of these, though it isn't
 -- counted
@@ -57,7 +63,7 @@ abbrev pub last_steps_text : DebugSettings → DebugState → ℕ → List ℕ
 last_steps_text c d count =
     text_of_acts d.labels (script_start_state c.config d.script.images 0)
     (steps_of_acts d.past.acts - (count - count_if (is_faulted d.script.machine.halt)))
-    d.past.acts (fresh_moment c.config)
+    d.past.acts (fresh_moment c.config) []
 
 abbrev pub text_or_refused : List ℕ → List ℕ
 text_or_refused [] = refused_text (codes "NoHistory")

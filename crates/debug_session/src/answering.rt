@@ -267,32 +267,33 @@ impl DebugSession {
         ensures setting { self.new.setting ≡ self.old.setting }
         ensures ends { EndsAtOnce W.has_failed sink.old sink.new result }
     {
+        let number = script.number();
         match command {
             DebugCommand::Script(command) => self.script_line(images, sink, &command, script),
             DebugCommand::Stepping(is_traced, command) => {
-                self.stepping_line(images, sink, script.number(), is_traced, &command)
+                self.stepping_line(images, sink, number, is_traced, &command)
             }
             DebugCommand::Mode(command) => self.mode_line(sink, command),
             DebugCommand::Remark => Ok(()),
             DebugCommand::View(view) => self.look(sink, view),
             DebugCommand::Form(form) => self.show_form(sink, form),
-            DebugCommand::SetPc(address) => self.move_pc(sink, script.number(), address),
-            DebugCommand::SetPsr(pattern) => Ok(self.set_psr(script.number(), pattern)?),
-            DebugCommand::Put(name, address) => self.put(images, sink, name, address),
-            DebugCommand::Write(address, count, named) => self.write(sink, address, count, named),
+            DebugCommand::SetPc(address) => self.move_pc(sink, number, address),
+            DebugCommand::SetPsr(pattern) => Ok(self.set_psr(number, pattern)?),
+            DebugCommand::Put(name, address) => self.put(images, sink, number, name, address),
+            DebugCommand::Write(at, count, named) => self.write(sink, number, at, count, named),
             DebugCommand::Find(address, count, named) => self.find(sink, address, count, named),
             DebugCommand::Forget(name) => self.forget(images, sink, name),
             DebugCommand::Counts(name) => self.counts(sink, name),
-            DebugCommand::Reset => self.reset(sink),
+            DebugCommand::Reset => self.reset(sink, number),
             DebugCommand::Quit => {
                 self.has_quit = true;
                 Ok(())
             }
             DebugCommand::Expect(expected) => {
                 let reason = self.reason_against(&expected)?;
-                self.print_check(sink, reason, words, script.number())
+                self.print_check(sink, reason, words, number)
             }
-            DebugCommand::Unknown => self.past_line(images, sink, words, script.number()),
+            DebugCommand::Unknown => self.past_line(images, sink, words, number),
         }
     }
 }

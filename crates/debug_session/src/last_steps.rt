@@ -1,9 +1,9 @@
 //! The steps that were taken last, shown as a trace shows them.
 
-ghost use Rattle.std.specs.Prelude.{◌≡◌, ◌++◌, List, IfErr, IfOk, OnOk};
+ghost use Rattle.std.specs.Prelude.{◌≡◌, List, IfErr, IfOk, OnOk};
 ghost use Rattle.debug_history.specs.Acts.{moment_after_deed, moment_of_script};
 ghost use Rattle.debug_history.specs.Again.{IsAtMoment};
-ghost use Rattle.debug_session.specs.LastSteps.{last_steps_answer, text_of_deed};
+ghost use Rattle.debug_session.specs.LastSteps.{last_steps_answer, text_with_deed};
 ghost use Rattle.debug_session.specs.Session.{debug_state};
 ghost use Rattle.debug_tables.specs.run_meter.Error.{IsLineError};
 ghost use Rattle.debug_tables.specs.run_meter.Session.{script_state};
@@ -45,7 +45,8 @@ impl DebugSession {
         Ok(text)
     }
 
-    // Does something again, and shows its steps but for the first so many.
+    // Does something again, and shows its steps but for the first so many. Of a machine in whose place
+    // another is made nothing is shown.
     fn show_deed(
         &self,
         session: &mut Session,
@@ -58,10 +59,14 @@ impl DebugSession {
             OnOk result (IsAtMoment s (script_state session.new images.new)
             (moment_after_deed s.images s.sizes deed.now (moment_of_script s))) }
         ensures text { let s = script_state session.old images.old in
-            OnOk result (text.new.items ≡ text.old.items
-            ++ text_of_deed self.now.labels s skipped deed.now (moment_of_script s)) }
+            OnOk result (text.new.items ≡ text_with_deed self.now.labels s skipped deed.now
+            (moment_of_script s) text.old.items) }
         ensures errors { IfErr result IsLineError }
     {
+        if deed.is_anew() {
+            text.clear();
+            return deed_again(session, images, deed);
+        }
         if session.machine().stop().is_some() {
             return deed_again(session, images, deed);
         }

@@ -1,15 +1,12 @@
 //! The lines of its own that a debugging script has.
 
-ghost use Rattle.std.specs.Prelude.{◌≡◌, ◌%◌, ◌<◌, ◌^◌, is_some, true, List, IfOk, OnOk, OnErr};
-ghost use Rattle.std.specs.Option.{option_map};
-ghost use Rattle.image_loader.specs.Entries.{bytes_of_image};
+ghost use Rattle.std.specs.Prelude.{◌≡◌, ◌%◌, ◌<◌, ◌^◌, option_map, true, List, IfOk, OnOk, OnErr};
 ghost use Rattle.debug_session.specs.Failing.{EndsAtOnce};
-ghost use Rattle.debug_modes.specs.expectations.Halted.{halted_at_text, halting_fault};
 
 use crate::session::DebugSession;
 use command_shell_lines::Origin;
 use command_shell_lines::debug_words::bytes_written;
-use debug_history::{CodeAddress, PastDeed};
+use debug_history::{CodeAddress, KeptText, PastDeed};
 use debug_lines::{DebugView, Expectation, StatusPattern};
 use debug_modes::expectations::reports::{push_answer, push_fail, push_pass};
 use debug_modes::expectations::{SeenMachine, check, halting_fault, push_halted, status_with};
@@ -18,7 +15,7 @@ use debug_tables::byte_writes::{find_text, put_bytes};
 use debug_tables::run_meter::RunError;
 use image_loader::Images;
 use profile::text_sink::TextSink;
-use profile::{Fault, Sink, WriteFault};
+use profile::{Sink, WriteFault};
 use std::alloc::AllocError;
 
 impl DebugSession {
@@ -30,7 +27,7 @@ impl DebugSession {
     ghost use Rattle.debug_modes.specs.expectations.Checks.{check_answer};
     ghost use Rattle.debug_lines.specs.Expectations.{expect_request_of};
     ghost use Rattle.debug_lines.specs.DebugRequests.{Find, Form, view_request_of};
-    ghost use Rattle.debug_session.specs.DebugScript.{checked_answer, forget_answer, machine_change_answer, put_answer, reset_answer, seen_of, set_pc_answer, set_psr_answer, view_answer, write_answer};
+    ghost use Rattle.debug_session.specs.DebugScript.{bytes_answer, checked_answer, forget_answer, machine_change_answer, put_answer, reset_answer, seen_of, set_pc_answer, set_psr_answer, view_answer, write_answer};
     ghost use Rattle.debug_session.specs.DebugState.{IsDebugged};
     ghost use Rattle.debug_session.specs.Session.{debug_state};
     ghost use Rattle.debug_tables.specs.run_meter.MachineState.{stop_of};
@@ -77,7 +74,7 @@ impl DebugSession {
         ensures setting { self.new.setting ≡ self.old.setting }
         ensures ends { EndsAtOnce W.has_failed sink.old sink.new result }
     {
-        let is_there = has_image(images, name);
+        let is_there = images.get(name).is_some();
         let text = forget_text(self.alloc, is_there, name)?;
         let _was_there = images.remove(name);
         self.labels.remove(name);
@@ -90,12 +87,13 @@ impl DebugSession {
         &mut self,
         images: &Images,
         sink: &mut W,
+        number: usize,
         name: &[u8],
         address: u32,
     ) -> Result<(), RunError>
         ensures reported { OnOk result (IsDebugged (W.contents sink.old) (W.contents sink.new)
             (debug_state self.new images.now)
-            (put_answer self.old.setting (debug_state self.old images.now) name.now address)) }
+            (put_answer self.old.setting (debug_state self.old images.now) number name.now address)) }
         ensures setting { self.new.setting ≡ self.old.setting }
         ensures ends { EndsAtOnce W.has_failed sink.old sink.new result }
     {
@@ -104,39 +102,52 @@ impl DebugSession {
             return Ok(self.view(sink, text)?);
         };
         let done = put_text(self.alloc, name, address)?;
-        match put_bytes(&mut self.session, address, bytes) {
-            Ok(()) => {
-                self.past.lose();
-                Ok(self.view(sink, done)?)
-            }
-            Err(fault) => {
-                let text = refused_line(self.alloc, fault.name().as_bytes())?;
-                Ok(self.view(sink, text)?)
-            }
-        }
+        self.write_bytes(sink, number, address, bytes, done)
     }
 
-    /// Writes the bytes that a text names to memory, or so many, by these again and again: all of
-    /// them, or none.
+    /// Writes the bytes that a text names to memory, or so many, by these again and again.
     pub(crate) fn write<W: Sink>(
         &mut self,
         sink: &mut W,
+        number: usize,
         address: u32,
         count: Option<u32>,
         named: &[u8],
     ) -> Result<(), RunError>
         ensures reported { (images : List Entry) → OnOk result
             (IsDebugged (W.contents sink.old) (W.contents sink.new) (debug_state self.new images)
-            (write_answer self.old.setting (debug_state self.old images) address count named.now)) }
+            (write_answer self.old.setting (debug_state self.old images) number address count named.now)) }
         ensures setting { self.new.setting ≡ self.old.setting }
         ensures ends { EndsAtOnce W.has_failed sink.old sink.new result }
     {
         let bytes = bytes_written(self.alloc, count, named)?;
         let nothing = Vec::new(self.alloc);
-        match put_bytes(&mut self.session, address, bytes.as_slice()) {
+        self.write_bytes(sink, number, address, bytes.as_slice(), nothing)
+    }
+
+    // Writes bytes to memory, all of them or none; where they are written, the past has them, and `done` is
+    // shown.
+    fn write_bytes<W: Sink>(
+        &mut self,
+        sink: &mut W,
+        number: usize,
+        address: u32,
+        bytes: &[u8],
+        done: Vec<u8>,
+    ) -> Result<(), RunError>
+        ensures reported { (images : List Entry) → OnOk result
+            (IsDebugged (W.contents sink.old) (W.contents sink.new) (debug_state self.new images)
+            (bytes_answer self.old.setting (debug_state self.old images) number address bytes.now
+            done.items)) }
+        ensures setting { self.new.setting ≡ self.old.setting }
+        ensures ends { EndsAtOnce W.has_failed sink.old sink.new result }
+    {
+        let kept = KeptText::of(self.alloc, bytes)?;
+        match put_bytes(&mut self.session, address, bytes) {
             Ok(()) => {
-                self.past.lose();
-                Ok(self.view(sink, nothing)?)
+                self.past
+                    .put(number as u64, PastDeed::Bytes(address, kept))?;
+                Ok(self.view(sink, done)?)
             }
             Err(fault) => {
                 let text = refused_line(self.alloc, fault.name().as_bytes())?;
@@ -186,16 +197,22 @@ impl DebugSession {
         Ok(())
     }
 
-    /// Begins anew on a fresh machine; images, labels, breaks and modes stay.
-    pub(crate) fn reset<W: Sink>(&mut self, sink: &mut W) -> Result<(), RunError>
+    /// Begins anew on a fresh machine; images, labels, breaks and modes stay, and what is known of the past.
+    pub(crate) fn reset<W: Sink>(&mut self, sink: &mut W, number: usize) -> Result<(), RunError>
         ensures reported { (images : List Entry) → OnOk result
             (IsDebugged (W.contents sink.old) (W.contents sink.new) (debug_state self.new images)
-            (reset_answer self.old.setting (debug_state self.old images))) }
+            (reset_answer self.old.setting (debug_state self.old images) number)) }
         ensures setting { self.new.setting ≡ self.old.setting }
         ensures ends { EndsAtOnce W.has_failed sink.old sink.new result }
     {
         let text = Vec::from_slice(self.alloc, b"reset\n")?;
-        self.start_anew()?;
+        if !self.past.is_kept() {
+            self.start_anew()?;
+            return Ok(self.view(sink, text)?);
+        }
+        self.session
+            .start_anew(self.setting.config, self.setting.budget)?;
+        self.past.put(number as u64, PastDeed::Anew)?;
         Ok(self.view(sink, text)?)
     }
 
@@ -241,32 +258,15 @@ impl DebugSession {
         ensures setting { self.new.setting ≡ self.old.setting }
         ensures ends { EndsAtOnce W.has_failed sink.old sink.new result }
     {
-        match self.halting_fault() {
+        match halting_fault(self.session.machine().stop()) {
             None => Ok(self.set_pc(number, address)?),
             Some(fault) => {
-                let text = self.halted_text(fault)?;
-                Ok(self.view(sink, text)?)
+                let mut text = TextSink::new(self.alloc);
+                match push_halted(&mut text, fault, self.session.machine().cpu().pc()) {
+                    Ok(()) => Ok(self.view(sink, text.into_bytes())?),
+                    Err(_) => Err(RunError::Memory),
+                }
             }
-        }
-    }
-
-    // The fault that has halted the machine, if one has.
-    fn halting_fault(&self) -> Option<Fault>
-        ensures { (images : List Entry) → result
-            ≡ halting_fault (option_map stop_of (debug_state self.now images).script.machine.halt) }
-    {
-        halting_fault(self.session.machine().stop())
-    }
-
-    // That a fault has halted the machine, and where.
-    fn halted_text(&self, fault: Fault) -> Result<Vec<u8>, AllocError>
-        ensures { (images : List Entry) → IfOk result (λ text. text.items
-            ≡ halted_at_text fault (debug_state self.now images).script.machine.cpu.pc) }
-    {
-        let mut text = TextSink::new(self.alloc);
-        match push_halted(&mut text, fault, self.session.machine().cpu().pc()) {
-            Ok(()) => Ok(text.into_bytes()),
-            Err(_) => Err(AllocError),
         }
     }
 
@@ -340,10 +340,4 @@ impl DebugSession {
             Some(reason) => Ok(Some(text_of(self.alloc, &reason)?)),
         }
     }
-}
-
-fn has_image(images: &Images, name: &[u8]) -> bool
-    ensures { result ≡ is_some (bytes_of_image images.now name.now) }
-{
-    images.get(name).is_some()
 }

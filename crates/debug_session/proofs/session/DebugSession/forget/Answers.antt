@@ -1,19 +1,23 @@
-use Rattle.std.proofs.Common.{Bool, ◌∙◌, ap, refl}
+use Rattle.std.proofs.Common.{◌≡◌, ℕ, Bool, List, Option, ◌∙◌, ap, refl}
+use Rattle.std.specs.Prelude.{is_some}
+use Rattle.image_loader.specs.Entries.{bytes_of_image}
 use Rattle.debug_history.specs.Past.{past_with_images}
 use Rattle.debug_modes.specs.OwnAnswers.{forget_text}
 use Rattle.debug_session.specs.Session.{debug_state}
 use Rattle.debug_session.specs.declared.session.DebugSession.{DebugSession}
-use Rattle.debug_session.proofs.OwnLemmas.{view_after, without_image}
+use Rattle.debug_session.proofs.OwnLemmas.{mapped_some, view_after, without_image}
 use Rattle.debug_session.proofs.session.DebugSession.forget.Goals as goal
 
 pub returns-clause-reported : goal.returns-clause-reported
 returns-clause-reported g c =
     let after = c.remove-was_there.new.self in
+    let there : c.is_some-is_there.result ≡ is_some (bytes_of_image c.args.images.now c.args.name.now) =
+    c.is_some-is_there.ensures ∙ mapped_some (λ bytes. bytes.now) c.get.result ∙ ap (λ (o : Option (List ℕ)). is_some o) c.get.ensures.bytes in
     let old = c.args.self.now in
     let gone : DebugSession = record old { labels = c.remove.new.self; past = c.change_images_if.new.self } in
     view_after _ _ _ (debug_state gone after) _ old.setting old.setting
     c.in_ok-text.text.items _ refl
     (without_image (debug_state old c.args.images.now) _ after c.remove.new.self _ c.change_images_if.new.self _ c.remove-was_there.ensures.left c.remove.ensures
-    (c.change_images_if.ensures ∙ ap (λ (b : Bool). past_with_images b old.past) c.has_image-is_there.ensures))
-    (c.in_ok-text.ensures ∙ ap (λ (b : Bool). forget_text b c.args.name.now) c.has_image-is_there.ensures)
+    (c.change_images_if.ensures ∙ ap (λ (b : Bool). past_with_images b old.past) there))
+    (c.in_ok-text.ensures ∙ ap (λ (b : Bool). forget_text b c.args.name.now) there)
     (c.in_ok-view.ensures.reported after)

@@ -9,7 +9,7 @@ use Rattle.debug_tables.specs.run_meter.Session.{script_state}
 use Rattle.debug_tables.specs.run_meter.State.{ScriptState, script_start_state}
 use Rattle.debug_session.specs.LastSteps.{last_steps_text, text_of_acts, text_or_refused}
 use Rattle.debug_session.specs.Session.{debug_state}
-use Rattle.debug_session.proofs.LastStepsLemmas.{byte_if, none_to_show, some_to_show, text_begins, text_behind, text_whole}
+use Rattle.debug_session.proofs.ShownStepsLemmas.{byte_if, none_to_show, some_to_show, text_begins, text_behind, text_whole}
 use Rattle.debug_session.proofs.session.DebugSession.last_steps.Goals as goal
 
 pub loop-act-init : goal.loop-act-init

@@ -1,4 +1,4 @@
-use Rattle.std.proofs.Common.{◌≡◌, ◌++◌, drop}
+use Rattle.std.proofs.Common.{◌≡◌, drop}
 use Rattle.debug_history.specs.Acts.{moment_of_script}
 use Rattle.debug_tables.specs.run_meter.Session.{script_state}
 use Rattle.debug_tables.specs.run_meter.State.{script_start_state}
@@ -11,7 +11,7 @@ use Rattle.debug_session.proofs.session.DebugSession.last_steps.Given as goal
 abbrev pub invariant-loop-act : goal.invariant-loop-act
 invariant-loop-act l = record {
   beside : IsBeside (script_start_state l.fn.self.setting.config l.fn.images 0) (script_state l.session l.images);
-  text : l.text.items ++ text_of_acts l.fn.self.labels (script_start_state l.fn.self.setting.config l.fn.images 0) l.skipped
-      (drop l.act-index l.acts) (moment_of_script (script_state l.session l.images))
+  text : text_of_acts l.fn.self.labels (script_start_state l.fn.self.setting.config l.fn.images 0) l.skipped
+      (drop l.act-index l.acts) (moment_of_script (script_state l.session l.images)) l.text.items
       ≡ last_steps_text l.fn.self.setting (debug_state l.fn.self l.fn.images) l.fn.count;
 }

@@ -14,18 +14,20 @@ returns-in_ok-set_pc-in-None-clause-reported g c images =
     let d = debug_state c.args.self.now images in
     let held = g.W.Sink.contents c.args.sink.now in
     let now = debug_state c.set_pc.new.self images in
+    let none = c.in-None.ensures ∙ ap halting_fault (c.stop.ensures.halt ∙ ap (λ (m : MachineValue). option_map stop_of m.guest.halt) c.machine.ensures) in
     subst (λ (o : Option Fault). IsDebugged held held now (set_pc_by o c.args.self.now.setting d c.args.number c.args.address))
-    (c.in-None.ensures images)
+    none
     (changed_silently held now d c.args.number (Place c.args.address) (script_at d.script c.args.address)
     (c.in_ok-set_pc-in-None.ensures.reported images))
 
-pub returns-in_ok-view-in-Some-clause-reported : goal.returns-in_ok-view-in-Some-clause-reported
-returns-in_ok-view-in-Some-clause-reported g c images =
+pub returns-in-Some-in-Ok-clause-reported : goal.returns-in-Some-in-Ok-clause-reported
+returns-in-Some-in-Ok-clause-reported g c images =
     let d = debug_state c.args.self.now images in
     let before = g.W.Sink.contents c.args.sink.now in
     let after = g.W.Sink.contents c.view.new.sink in
     let now = debug_state c.view.new.self images in
+    let some = c.in-Some.ensures ∙ ap halting_fault (c.stop.ensures.halt ∙ ap (λ (m : MachineValue). option_map stop_of m.guest.halt) c.machine.ensures) in
     subst (λ (o : Option Fault). IsDebugged before after now (set_pc_by o c.args.self.now.setting d c.args.number c.args.address))
-    (c.in-Some.ensures images)
-    (view_of_text before after now d c.args.self.now.setting c.in_ok-text-in-Some.text.items _ (c.in_ok-text-in-Some.ensures images)
-    (c.in_ok-view-in-Some.ensures.reported images))
+    some
+    (view_of_text before after now d c.args.self.now.setting c.into_bytes.result.items _ (hole)
+    (c.in_ok-view.ensures.reported images))

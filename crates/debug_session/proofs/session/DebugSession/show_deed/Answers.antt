@@ -3,7 +3,7 @@ use Rattle.std.proofs.Common.{◌≡◌, ◌++◌, ◌∙◌, ℕ, Bool, true, L
 use Rattle.std.specs.Prelude.{is_some}
 use Rattle.std.specs.Option.{option_map}
 use Rattle.debug_history.proofs.NotedLemmas.{some_stop}
-use Rattle.debug_history.specs.Acts.{moment_after_deed, moment_after_steps, moment_of_script, taken_steps}
+use Rattle.debug_history.specs.Acts.{is_anew, moment_after_deed, moment_after_steps, moment_of_script, taken_steps}
 use Rattle.debug_history.specs.Again.{IsAtMoment}
 use Rattle.debug_history.specs.Halt.{Halt}
 use Rattle.debug_lines.specs.SteppingRequests.{stepping_request_of}
@@ -14,10 +14,21 @@ use Rattle.debug_tables.specs.run_meter.Session.{script_state}
 use Rattle.debug_tables.specs.run_meter.State.{ScriptState}
 use Rattle.debug_tables.specs.run_meter.Value.{MachineValue}
 use Rattle.profile.specs.declared.stop.Stop.{Stop}
-use Rattle.debug_session.specs.LastSteps.{no_step_modes, script_at_past, text_of_deed}
+use Rattle.debug_session.specs.LastSteps.{no_step_modes, script_at_past, text_with_deed}
 use Rattle.debug_session.proofs.FailLemmas.{and_so}
-use Rattle.debug_session.proofs.LastStepsLemmas.{bare_modes, deed_done, halted_text, no_text, shown_text, traced_at, up_where}
+use Rattle.debug_session.proofs.LastStepsLemmas.{deed_done, traced_at}
+use Rattle.debug_session.proofs.ShownStepsLemmas.{bare_modes, halted_text, no_text, shown_anew, shown_on, shown_text, up_where}
 use Rattle.debug_session.proofs.session.DebugSession.show_deed.Goals as goal
+
+pub returns-then-is_anew-clause-text : goal.returns-then-is_anew-clause-text
+returns-then-is_anew-clause-text c =
+    let s = script_state c.args.session.now c.args.images.now in
+    and_so c.deed_again.result (IsAtMoment s (script_state c.deed_again.new.session c.deed_again.new.images)
+    (moment_after_deed s.images s.sizes c.args.deed.now (moment_of_script s)))
+    (c.clear.new.self.items
+    ≡ text_with_deed c.args.self.now.labels s c.args.skipped c.args.deed.now (moment_of_script s) c.args.text.now.items)
+    (λ at. shown_anew (is_anew c.args.deed.now) c.clear.new.self.items _ (sym c.is_anew.ensures ∙ c.if-is_anew.true) c.clear.ensures.items)
+    c.deed_again.ensures.moment
 
 pub returns-then-is_some-clause-text : goal.returns-then-is_some-clause-text
 returns-then-is_some-clause-text c =
@@ -27,8 +38,10 @@ returns-then-is_some-clause-text c =
     sym (some_stop s.machine.halt) ∙ sym (ap (λ (o : Option Stop). is_some o) stopped) ∙ sym c.is_some.ensures ∙ c.if-is_some.true in
     and_so c.deed_again.result (IsAtMoment s (script_state c.deed_again.new.session c.deed_again.new.images)
     (moment_after_deed s.images s.sizes c.args.deed.now (moment_of_script s)))
-    (c.args.text.now.items ≡ c.args.text.now.items ++ text_of_deed c.args.self.now.labels s c.args.skipped c.args.deed.now (moment_of_script s))
-    (λ at. halted_text c.args.self.now.labels s c.args.skipped c.args.deed.now c.args.text.now.items is)
+    (c.args.text.now.items
+    ≡ text_with_deed c.args.self.now.labels s c.args.skipped c.args.deed.now (moment_of_script s) c.args.text.now.items)
+    (λ at. shown_on (is_anew c.args.deed.now) c.args.text.now.items _ _ (sym c.is_anew.ensures ∙ c.if-is_anew.false)
+    (halted_text c.args.self.now.labels s c.args.skipped c.args.deed.now c.args.text.now.items is))
     c.deed_again.ensures.moment
 
 pub returns-in_default-clause-text : goal.returns-in_default-clause-text
@@ -37,8 +50,10 @@ returns-in_default-clause-text c =
     let none = ap (λ o. option_map taken_steps o) (sym c.in_default.is) ∙ c.steps_behind.ensures in
     and_so c.deed_again-in_default.result (IsAtMoment s (script_state c.deed_again-in_default.new.session c.deed_again-in_default.new.images)
     (moment_after_deed s.images s.sizes c.args.deed.now (moment_of_script s)))
-    (c.args.text.now.items ≡ c.args.text.now.items ++ text_of_deed c.args.self.now.labels s c.args.skipped c.args.deed.now (moment_of_script s))
-    (λ at. no_text c.args.self.now.labels s c.args.skipped c.args.deed.now c.args.text.now.items none)
+    (c.args.text.now.items
+    ≡ text_with_deed c.args.self.now.labels s c.args.skipped c.args.deed.now (moment_of_script s) c.args.text.now.items)
+    (λ at. shown_on (is_anew c.args.deed.now) c.args.text.now.items _ _ (sym c.is_anew.ensures ∙ c.if-is_anew.false)
+    (no_text c.args.self.now.labels s c.args.skipped c.args.deed.now c.args.text.now.items none))
     c.deed_again-in_default.ensures.moment
 
 pub returns-clause-moment : goal.returns-clause-moment
@@ -90,8 +105,9 @@ returns-clause-text c =
     ∙ ap (λ (t : ScriptState). (stepping_answer no_step_modes labels (Some c.in-Some.count) t request).text) there in
     and_so c.deed_again-3.result (IsAtMoment shown last
     (moment_after_steps shown.images c.left-left.result (moment_of_script shown)))
-    (c.extend_from_slice.new.self.items ≡ c.args.text.now.items ++ text_of_deed labels s c.args.skipped c.args.deed.now (moment_of_script s))
-    (λ at. shown_text labels s c.args.skipped c.args.deed.now (request, c.in-Some.count) c.args.text.now.items
+    (c.extend_from_slice.new.self.items
+    ≡ text_with_deed labels s c.args.skipped c.args.deed.now (moment_of_script s) c.args.text.now.items)
+    (λ at. shown_on (is_anew c.args.deed.now) c.args.text.now.items _ _ (sym c.is_anew.ensures ∙ c.if-is_anew.false) (shown_text labels s c.args.skipped c.args.deed.now (request, c.in-Some.count) c.args.text.now.items
     c.extend_from_slice.new.self.items c.in_ok-shown.shown.text.items up is same
-    (c.in_ok-extend_from_slice.ensures.items ∙ ap (λ (xs : List ℕ). c.args.text.now.items ++ xs) c.as_slice.ensures.value))
+    (c.in_ok-extend_from_slice.ensures.items ∙ ap (λ (xs : List ℕ). c.args.text.now.items ++ xs) c.as_slice.ensures.value)))
     c.deed_again-3.ensures.moment

@@ -1,0 +1,30 @@
+-- The bytes are written or refused.
+use Rattle.std.proofs.Common.{ℕ, List, ap, subst, ◌∙◌}
+use Rattle.debug_history.specs.Noted.{past_with_deed}
+use Rattle.debug_history.specs.declared.act.PastDeed.TheVariants.{Bytes}
+use Rattle.debug_tables.specs.byte_writes.Put.{script_after_put}
+use Rattle.debug_tables.specs.run_meter.Answers.{refused_text}
+use Rattle.debug_tables.specs.run_meter.Session.{script_state}
+use Rattle.debug_session.specs.Session.{debug_state}
+use Rattle.debug_session.proofs.SteppingLemmas.{bytes_ok, bytes_refused}
+use Rattle.debug_session.proofs.session.DebugSession.write_bytes.Goals as goal
+
+pub returns-in-Ok-clause-reported : goal.returns-in-Ok-clause-reported
+returns-in-Ok-clause-reported g c images =
+    let old = c.args.self.now in
+    bytes_ok _ _ old.setting (debug_state old images) (debug_state c.view.new.self images) c.args.number c.args.address c.args.bytes.now
+    c.args.done.items (script_state old.session images) (script_state c.put_bytes.new.session images) c.put.new.self
+    (script_after_put (script_state old.session images) c.args.address c.args.bytes.now) c.in-Ok.field-0
+    (c.in-Ok.ensures images)
+    (c.in_ok-put.ensures ∙ ap (λ (bytes : List ℕ). past_with_deed old.past c.args.number (Bytes c.args.address bytes)) c.in_ok-kept.ensures)
+    (c.in_ok-view-in-Ok.ensures.reported images)
+
+pub returns-clause-reported : goal.returns-clause-reported
+returns-clause-reported g c images =
+    let old = c.args.self.now in
+    bytes_refused _ _ old.setting (debug_state old images) (debug_state c.view-in-Err.new.self images) c.args.number c.args.address
+    c.args.bytes.now c.args.done.items (script_state c.put_bytes.new.session images)
+    (script_after_put (script_state old.session images) c.args.address c.args.bytes.now) c.in-Err.fault
+    c.in_ok-text-in-Err.text.items (c.in-Err.ensures images)
+    (c.in_ok-text-in-Err.ensures ∙ ap refused_text (c.as_bytes.ensures.value ∙ c.name.ensures))
+    (c.in_ok-view-in-Err.ensures.reported images)
