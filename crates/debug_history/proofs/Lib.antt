@@ -8,6 +8,7 @@ pub mod LinesLemmas
 pub mod LookingLemmas
 pub mod NotedLemmas
 pub mod PastLemmas
+pub mod PieceLemmas
 pub mod ScanLemmas
 pub mod SearchLemmas
 pub mod StepLemmas

@@ -2,7 +2,7 @@
 use Rattle.std.proofs.Common.{◌≡◌, ◌<◌, ◌≤◌, ℕ, Bool, true, false, zero, suc, ◌+◌, ◌-◌, ◌&&◌, ◌==◌, Option, Some, None, List, [], ◌∷◌, ◌++◌, length, get_or, take, drop, refl, sym, ◌∙◌, ap, subst, arith}
 use Rattle.std.specs.List.{flat_map}
 use Rattle.std.specs.Option.{option_or}
-use Rattle.std.proofs.lemmas.List.{append-nil, drop_all, drop_more}
+use Rattle.std.proofs.lemmas.List.{append-nil, drop_all, drop_more, take-append-drop, take_all}
 use Rattle.image_loader.specs.Entries.{Entry}
 use Rattle.command_shell_lines.specs.declared.debug_words.stubs.Stub.{Stub}
 use Rattle.profile.specs.Sizes.{Sizes}
@@ -12,7 +12,7 @@ use Rattle.debug_tables.specs.Stubs.{stubbed_step}
 use Rattle.debug_history.specs.Acts.{PastMoment, changed_moment, fresh_moment, moment_after_acts, moment_after_deed, moment_after_steps, moment_of_script, steps_act, steps_of_acts, steps_of_deed}
 use Rattle.debug_history.specs.Again.{IsAtMoment}
 use Rattle.debug_history.specs.Scan.{scan_past}
-use Rattle.debug_history.specs.Search.{found_between, last_found, value_in, single_steps, units, units_of, units_of_act}
+use Rattle.debug_history.specs.Search.{found_between, last_among, last_found, value_in, single_steps, units, units_of, units_of_act}
 use Rattle.debug_history.specs.Steps.{steps_after}
 use Rattle.debug_history.specs.declared.act.PastDeed.{PastDeed}
 use Rattle.debug_history.specs.declared.act.PastDeed.TheVariants as deed
@@ -21,7 +21,7 @@ use Rattle.debug_history.specs.declared.scan.Scan.{Scan}
 use Rattle.debug_history.specs.declared.search.PastFound.{PastFound}
 use Rattle.debug_history.specs.declared.search.Sought.{Sought}
 use Rattle.debug_history.proofs.ActLemmas.{acts_joined, steps_joined, steps_of_one}
-use Rattle.debug_history.proofs.PastLemmas.{counted_first}
+use Rattle.debug_history.proofs.PastLemmas.{counted_first, fewer_taken}
 use Rattle.debug_history.proofs.AgainLemmas.{AreUnderWay, IsBeside, at_moment, beside_at, beside_both, beside_itself, moment_at, none_done}
 
 or_again : (a b c : Option PastFound) → option_or (option_or a b) c ≡ option_or a (option_or b c)
@@ -32,7 +32,7 @@ or_none : (a : Option PastFound) → a ≡ option_or a None
 or_none None = refl
 or_none (Some f) = refl
 
-last_joined : (images : List Entry) (sizes : Sizes) (x : Sought) (m : PastMoment) (step : ℕ) (us vs : List Act)
+pub last_joined : (images : List Entry) (sizes : Sizes) (x : Sought) (m : PastMoment) (step : ℕ) (us vs : List Act)
     → last_found images sizes x m step (us ++ vs)
     ≡ option_or (last_found images sizes x (moment_after_acts images sizes us m) (step + steps_of_acts us) vs)
     (last_found images sizes x m step us)
@@ -273,20 +273,43 @@ or_nothing : (o : Option PastFound) → option_or o None ≡ o
 or_nothing None = refl
 or_nothing (Some f) = refl
 
-found_from : (images : List Entry) (sizes : Sizes) (x : Sought) (us : List Act) (m : PastMoment) (start : Scan) → start.step ≡ 0
-    → start.found ≡ None → (scan_past images sizes x us m start).found ≡ last_found images sizes x m 0 us
-found_from images sizes x us m start step none =
-    (λ i. option_or (last_found images sizes x m (step i) us) (none i)) ∙ or_nothing (last_found images sizes x m 0 us)
-
-pub found_in_past : (s : ScriptState) (images : List Entry) (sizes : Sizes) (budget : ℕ) (x : Sought) (acts : List Act) (start scan : Scan)
-    → s ≡ script_start_state sizes images budget → start.step ≡ 0 → start.found ≡ None
-    → scan ≡ scan_past s.images s.sizes x (units acts) (moment_of_script s) start
-    → scan.found ≡ last_found images sizes x (fresh_moment sizes) 0 (units acts)
+-- what is found among some acts, before which others were done
+pub found_among : (s now : ScriptState) (images : List Entry) (sizes : Sizes) (budget : ℕ) (x : Sought) (before part : List Act) (start scan : Scan)
+    → s ≡ script_start_state sizes images budget
+    → IsAtMoment s now (moment_after_acts s.images s.sizes before (moment_of_script s))
+    → start.step ≡ steps_of_acts before → start.found ≡ None
+    → scan ≡ scan_past now.images now.sizes x (units part) (moment_of_script now) start
+    → scan.found ≡ last_found images sizes x (moment_after_acts images sizes before (fresh_moment sizes)) (steps_of_acts before) (units part)
 unfolding script_start_state
-found_in_past s images sizes budget x acts start scan fresh step none led =
+found_among s now images sizes budget x before part start scan fresh there step none led =
+    let m : PastMoment = moment_after_acts s.images s.sizes before (moment_of_script s) in
+    let b = beside_at s now m there in
+    let moment = moment_at s now m there in
     ap (λ (y : Scan). y.found) led
-    ∙ ap (λ (t : ScriptState). (scan_past t.images t.sizes x (units acts) (moment_of_script t) start).found) fresh
-    ∙ found_from images sizes x (units acts) (fresh_moment sizes) start step none
+    ∙ (λ i. option_or (last_found (b.images i) (b.sizes i) x (moment i) (step i) (units part)) (none i))
+    ∙ or_nothing (last_found s.images s.sizes x m (steps_of_acts before) (units part))
+    ∙ ap (λ (t : ScriptState). last_found t.images t.sizes x (moment_after_acts t.images t.sizes before (moment_of_script t))
+    (steps_of_acts before) (units part)) fresh
+
+-- all acts from the first to the last
+pub all_among : (images : List Entry) (sizes : Sizes) (acts : List Act) (x : Sought) (count : ℕ) → count ≡ length acts
+    → last_among images sizes acts x 0 count ≡ last_found images sizes x (fresh_moment sizes) 0 (units acts)
+unfolding moment_after_acts steps_of_acts
+all_among images sizes acts x count is =
+    let all : length acts ≤ count = omega (arith, is) in
+    ap (λ (done : List Act). last_found images sizes x (fresh_moment sizes) 0 (units done)) (take_all count acts all)
+
+pub images_stay : (s now : ScriptState) (m : PastMoment) → IsAtMoment s now m → now.images ≡ s.images
+images_stay s now m is = ap (λ (x : ScriptState). x.images) is
+
+pub parts_fit : (acts : List Act) (from until : ℕ)
+    → steps_of_acts (take from (take until acts)) + steps_of_acts (drop from (take until acts)) ≤ steps_of_acts acts
+parts_fit acts from until =
+    let done : List Act = take until acts in
+    let joined = steps_joined (take from done) (drop from done) in
+    let whole = ap steps_of_acts (take-append-drop from done) in
+    let fewer = fewer_taken acts until in
+    omega (arith, joined, whole, fewer)
 
 -- a deed that isn't steps is a unit
 pub units_other : (line : ℕ) (d : PastDeed) → ((stubs : List Stub) (n : ℕ) → d ≡ deed.Steps stubs n → ⊥) → units_of line d ≡ record { line = line; deed = d } ∷ []

@@ -1,6 +1,6 @@
 -- The last time that something was so: the last change of a word, a byte, a register or the status, the
 -- last time that the machine stood at an address, or that a block of a heap was made or taken away.
-use Rattle.std.specs.Prelude.{ℕ, zero, suc, Bool, true, false, is_some, not, ◌+◌, ◌-◌, ◌^◌, ◌==◌, ◌&&◌, nat_lt, List, [], ◌∷◌, Option, Some, None, if◌then◌else◌}
+use Rattle.std.specs.Prelude.{ℕ, zero, suc, Bool, true, false, is_some, not, ◌+◌, ◌-◌, ◌^◌, ◌==◌, ◌&&◌, nat_lt, List, [], ◌∷◌, take, drop, Option, Some, None, if◌then◌else◌}
 use Rattle.std.specs.List.{flat_map}
 use Rattle.std.specs.Option.{option_or}
 use Rattle.std.specs.Result.{result_ok}
@@ -15,7 +15,7 @@ use Rattle.os_heap.specs.declared.payload.Payload.{Payload}
 use Rattle.os_heap.specs.declared.payload.Payload.TheVariants.{Outside, Inside, Other}
 use Rattle.profile.specs.Sizes.{Sizes}
 use Rattle.command_shell.specs.MachineState.{MachineState}
-use Rattle.debug_history.specs.Acts.{PastMoment, moment_after_acts, moment_after_deed, steps_act, steps_of_acts, steps_of_deed}
+use Rattle.debug_history.specs.Acts.{PastMoment, fresh_moment, moment_after_acts, moment_after_deed, steps_act, steps_of_acts, steps_of_deed}
 use Rattle.debug_history.specs.declared.act.Act.{Act}
 use Rattle.debug_history.specs.declared.act.PastDeed.{PastDeed}
 use Rattle.debug_history.specs.declared.act.PastDeed.TheVariants.{Steps}
@@ -100,3 +100,9 @@ last_found images sizes x m step (unit ∷ rest) =
     let steps = steps_of_deed unit.deed in
     option_or (last_found images sizes x after (step + steps) rest)
     (found_between x unit.line step steps (value_in x m.machine) (value_in x after.machine))
+
+-- The same among the acts of a past from one index up to another: those before them are done first.
+abbrev pub last_among : List Entry → Sizes → List Act → Sought → ℕ → ℕ → Option PastFound
+last_among images sizes acts x from until = let done = take until acts in
+    last_found images sizes x (moment_after_acts images sizes (take from done) (fresh_moment sizes))
+    (steps_of_acts (take from done)) (units (drop from done))

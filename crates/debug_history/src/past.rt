@@ -329,8 +329,8 @@ fn last_line_of(acts: &[Act]) -> Option<u64>
     line
 }
 
-// How many steps some acts count.
-fn count_steps(acts: &[Act]) -> u64
+/// How many steps some acts count.
+pub(crate) fn count_steps(acts: &[Act]) -> u64
     requires { steps_of_acts acts.now < 2 ^ 64 }
     ensures { result ≡ steps_of_acts acts.now }
 {

@@ -1,18 +1,18 @@
 //! The search: what was done is done again, and after each step it is seen whether that was what is sought.
 
-ghost use Rattle.std.specs.Prelude.{◌≡◌, ◌+◌, ◌<◌, ◌^◌, OnOk, IfOk, IfErr};
+ghost use Rattle.std.specs.Prelude.{◌≡◌, ◌≤◌, ◌+◌, ◌<◌, ◌^◌, length, OnOk, IfOk, IfErr};
 ghost use Rattle.std.specs.Option.{option_or};
 ghost use Rattle.command_shell.specs.Error.{IsLineError};
 ghost use Rattle.command_shell.specs.Session.{script_state};
 ghost use Rattle.debug_history.specs.Acts.{fresh_moment, moment_after_acts, moment_of_script, steps_of_acts, steps_of_deed};
 ghost use Rattle.debug_history.specs.Again.{IsAtMoment};
 ghost use Rattle.debug_history.specs.Scan.{scan_past};
-ghost use Rattle.debug_history.specs.Search.{found_between, last_found, value_in, single_steps, units, units_of_act};
+ghost use Rattle.debug_history.specs.Search.{found_between, last_among, last_found, value_in, single_steps, units, units_of_act};
 ghost use Rattle.command_shell.specs.GuestState.{state_of};
 
 use crate::act::{Act, PastDeed};
-use crate::again::deed_again;
-use crate::past::Past;
+use crate::again::{acts_again, deed_again};
+use crate::past::{Past, count_steps};
 use crate::search::{PastFound, Sought};
 use command_shell::{Machine, Nowhere, RunError, Session};
 use debug_tables::Stubs;
@@ -47,15 +47,43 @@ impl Past {
         ensures images { OnOk result (images.new ≡ images.old) }
         ensures errors { IfErr result IsLineError }
     {
+        self.last_among(alloc, images, config, sought, 0, self.acts().len())
+    }
+
+    /// The last time that something was so while the acts were done from one index up to another. Those
+    /// before them are done again first, on a machine of its own.
+    ///
+    /// # Errors
+    ///
+    /// `Memory` where the host has none for a fresh machine.
+    pub fn last_among(
+        &self,
+        alloc: Global,
+        images: &mut Images,
+        config: Config,
+        sought: Sought,
+        from: usize,
+        until: usize,
+    ) -> Result<Option<PastFound>, RunError>
+        requires from { from ≤ until }
+        requires until { until ≤ length self.now.acts }
+        ensures found { IfOk result (λ found. found
+            ≡ last_among images.old config self.now.acts sought from until) }
+        ensures images { OnOk result (images.new ≡ images.old) }
+        ensures errors { IfErr result IsLineError }
+    {
         // The steps in all are counted below 2^64: the sum is looked at for the proof alone.
         let _steps = self.steps();
+        let halves = self.acts().split_at(until);
+        let parts = halves.0.split_at(from);
         let mut session = Session::on_fresh_machine(alloc, config, 0)?;
+        acts_again(&mut session, images, parts.0)?;
         let mut scan = Scan {
-            step: 0,
+            step: count_steps(parts.0),
             seen: sought.seen(session.machine()),
             found: None,
         };
-        scan_acts(&mut session, images, &sought, self.acts(), &mut scan)?;
+        scan_acts(&mut session, images, &sought, parts.1, &mut scan)?;
         Ok(scan.found)
     }
 }
