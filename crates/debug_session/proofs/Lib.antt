@@ -1,3 +1,4 @@
+pub use Rattle.debug_history.proofs.PieceLemmas as PastPieceLemmas
 pub use Rattle.debug_tables.proofs.RunMeterLemmas.SliceLemmas
 pub mod AloneLemmas
 pub mod AsBeforeLemmas

@@ -8,6 +8,7 @@ pub use Rattle.debug_history.specs.Again as PastAgain
 pub use Rattle.debug_history.specs.Answers as PastAnswers
 pub use Rattle.debug_history.specs.Noted as PastNoted
 pub use Rattle.debug_history.specs.Past
+pub use Rattle.debug_history.specs.Search as PastSearch
 pub use Rattle.debug_history.specs.declared.act.PastDeed
 pub use Rattle.debug_history.specs.declared.search.PastFound
 pub use Rattle.debug_history.specs.declared.search.Sought
