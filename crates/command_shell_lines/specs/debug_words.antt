@@ -3,6 +3,7 @@ pub use Rattle.assembler_text.specs.naming.SwiNames
 pub mod ErrorNumbers
 pub mod Forms
 pub mod NamedBytes
+pub mod PastTexts
 pub mod Spelling
 pub mod StubLines
 pub mod Texts

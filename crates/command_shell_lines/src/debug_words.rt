@@ -5,6 +5,7 @@
 mod error_names;
 mod forms;
 mod named_bytes;
+mod past_texts;
 mod spelling;
 mod stubs;
 mod texts;
@@ -14,6 +15,7 @@ pub use assembler_text::naming::swi_named;
 pub use error_names::error_shown;
 pub use forms::{form_of_line, form_of_word};
 pub use named_bytes::{bytes_named, bytes_written, names_bytes};
+pub use past_texts::{no_history, push_address, push_number, push_step, undone_line, when_line};
 pub use spelling::{is_spelt, is_well_spelt};
 pub use stubs::{
     MOST_STUB_REGISTERS, MOST_STUB_WORDS, Stub, StubFlags, StubRegister, stub_of_line,

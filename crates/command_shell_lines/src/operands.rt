@@ -110,6 +110,15 @@ impl Model for Origin {
 }
 
 impl Origin {
+    /// The origin of that number.
+    pub fn new(address: u32) -> Origin
+        requires aligned { address % 4 ≡ 0 }
+        requires inside { address < 2 ^ 26 }
+        ensures { result ≡ address }
+    {
+        Origin { address }
+    }
+
     /// The origin that a number spells, if it is one.
     pub fn spelled(word: &[u8]) -> Option<Origin>
         ensures { result ≡ origin_of word.now }

@@ -4,7 +4,7 @@ use Rattle.command_shell.specs.State.{ScriptState}
 use Rattle.debug_history.specs.Answers.{past_asked, past_shown}
 use Rattle.debug_history.specs.Laws.{LookingBackChangesNothing, LooksBackOnly}
 use Rattle.debug_history.specs.Past.{PastState}
-use Rattle.debug_history.specs.Texts.{no_history_text}
+use Rattle.command_shell_lines.specs.debug_words.PastTexts.{no_history_text}
 use Rattle.debug_history.specs.declared.lines.PastCommand.TheVariants.{Last, When}
 use Rattle.std.specs.Prelude.{if◌then◌else◌}
 

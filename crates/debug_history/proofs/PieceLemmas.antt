@@ -4,6 +4,7 @@ use Rattle.std.specs.Option.{option_or}
 use Rattle.std.proofs.lemmas.Grind.{flat_map-append}
 use Rattle.std.proofs.lemmas.List.{take-append-drop}
 use Rattle.image_loader.specs.Entries.{Entry}
+use Rattle.command_shell_lines.specs.declared.debug_words.stubs.Stub.{Stub}
 use Rattle.profile.specs.Sizes.{Sizes}
 use Rattle.debug_history.specs.Acts.{PastMoment, fresh_moment, moment_after_acts, moment_after_deed, moment_after_steps, steps_of_acts}
 use Rattle.debug_history.specs.Search.{last_among, last_found, single_steps, units, units_of, units_of_act}
@@ -22,21 +23,22 @@ fresh_no_more : (fresh : Bool) (k : ℕ) → ((fresh && (1 == 0)) && (k == 0)) �
 fresh_no_more false k = refl
 fresh_no_more true k = sym (never_none k)
 
-step_first : (images : List Entry) (k : ℕ) (m : PastMoment)
-    → moment_after_steps images k (moment_after_steps images 1 m) ≡ moment_after_steps images (suc k) m
+step_first : (stubs : List Stub) (images : List Entry) (k : ℕ) (m : PastMoment)
+    → moment_after_steps stubs images k (moment_after_steps stubs images 1 m) ≡ moment_after_steps stubs images (suc k) m
 unfolding steps_after
-step_first images k m = ap (λ (b : Bool). record { machine = steps_after images (suc k) m.machine; is_fresh = b }) (fresh_no_more m.is_fresh k)
+step_first stubs images k m = ap (λ (b : Bool). record { machine = steps_after stubs images (suc k) m.machine; is_fresh = b }) (fresh_no_more m.is_fresh k)
 
-singles_lead : (images : List Entry) (sizes : Sizes) (line count : ℕ) (m : PastMoment)
-    → moment_after_acts images sizes (single_steps line count) m ≡ moment_after_steps images count m
+singles_lead : (images : List Entry) (sizes : Sizes) (line : ℕ) (stubs : List Stub) (count : ℕ) (m : PastMoment)
+    → moment_after_acts images sizes (single_steps line stubs count) m ≡ moment_after_steps stubs images count m
 unfolding moment_after_acts single_steps
-singles_lead images sizes line zero m = sym (none_left images m)
-singles_lead images sizes line (suc k) m = singles_lead images sizes line k (moment_after_steps images 1 m) ∙ step_first images k m
+singles_lead images sizes line stubs zero m = sym (none_left stubs images m)
+singles_lead images sizes line stubs (suc k) m =
+    singles_lead images sizes line stubs k (moment_after_steps stubs images 1 m) ∙ step_first stubs images k m
 
 unit_leads : (images : List Entry) (sizes : Sizes) (line : ℕ) (d : PastDeed) (m : PastMoment)
     → moment_after_acts images sizes (units_of line d) m ≡ moment_after_deed images sizes d m
 unfolding moment_after_acts
-unit_leads images sizes line (deed.Steps count) m = singles_lead images sizes line count m
+unit_leads images sizes line (deed.Steps stubs count) m = singles_lead images sizes line stubs count m
 unit_leads images sizes line d m = refl
 
 units_lead : (images : List Entry) (sizes : Sizes) (acts : List Act) (m : PastMoment)

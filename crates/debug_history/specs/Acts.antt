@@ -1,5 +1,5 @@
 -- What is done to a machine: steps, calls, and changes from outside.
-use Rattle.std.specs.Prelude.{Box, ℕ, zero, Bool, true, false, ◌&&◌, ◌+◌, ◌-◌, ◌==◌, length, nat_lt, List, [], ◌∷◌, Option, Some, None, Result, Ok, Err, if◌then◌else◌}
+use Rattle.std.specs.Prelude.{ℕ, zero, Bool, true, false, ◌&&◌, ◌+◌, ◌-◌, ◌==◌, length, nat_lt, List, [], ◌∷◌, Option, Some, None, Result, Ok, Err, if◌then◌else◌}
 use Rattle.image_loader.specs.Entries.{Entry, bytes_of_image}
 use Rattle.command_shell_lines.specs.declared.debug_words.stubs.Stub.{Stub}
 use Rattle.profile.specs.Sizes.{Sizes}
@@ -120,11 +120,6 @@ steps_of_acts (act ∷ rest) = steps_of_deed act.deed + steps_of_acts rest
 abbrev pub stubs_of_deed : PastDeed → List Stub
 stubs_of_deed (Steps stubs count) = stubs
 stubs_of_deed _ = []
-
--- stubs that may be kept
-abbrev pub boxed_stubs : {Z : Type 0} → Option (Box (List Stub) Z) → List Stub
-boxed_stubs (Some kept) = kept.value
-boxed_stubs None = []
 
 -- so many steps, by a line, with stubs
 abbrev pub steps_act : ℕ → List Stub → ℕ → Act

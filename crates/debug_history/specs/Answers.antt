@@ -12,7 +12,8 @@ use Rattle.debug_history.specs.Acts.{fresh_moment, steps_of_acts}
 use Rattle.debug_history.specs.Again.{script_at_moment}
 use Rattle.debug_history.specs.Past.{PastState, line_of_last_act, moment_after_past, past_before_line, past_until}
 use Rattle.debug_history.specs.Search.{last_found, units}
-use Rattle.debug_history.specs.Texts.{last_seen_text, no_history_text, not_there_text, text_with_step, undone_text, when_text}
+use Rattle.command_shell_lines.specs.debug_words.PastTexts.{no_history_text, text_with_step, undone_text, when_text}
+use Rattle.debug_history.specs.Texts.{last_seen_text, not_there_text}
 use Rattle.debug_history.specs.declared.lines.PastCommand.{PastCommand}
 use Rattle.debug_history.specs.declared.lines.PastCommand.TheVariants.{Back, BackTo, BackUntil, Last, Undo, When}
 use Rattle.debug_history.specs.declared.search.PastFound.{PastFound}

@@ -8,6 +8,7 @@ pub mod Acts
 pub mod Again
 pub mod Answers
 pub mod Cutting
+pub mod KeptStubs
 pub mod Laws
 pub mod Lines
 pub mod Noted

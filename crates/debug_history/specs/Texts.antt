@@ -4,12 +4,10 @@ use Rattle.std.specs.Fmt.{decimal}
 use Rattle.arm_core.specs.declared.psr.Mode.{Mode}
 use Rattle.arm_core.specs.declared.psr.Mode.TheVariants.{User, FastInterrupt, Interrupt, Supervisor}
 use Rattle.profile.specs.Digits.{hex_word}
+use Rattle.command_shell_lines.specs.debug_words.PastTexts.{address_text}
 use Rattle.debug_history.specs.declared.search.PastFound.{PastFound}
 use Rattle.debug_history.specs.declared.search.Sought.{Sought}
 use Rattle.debug_history.specs.declared.search.Sought.TheVariants as sought
-
-abbrev pub no_history_text : List ℕ
-no_history_text = codes "refused NoHistory\n"
 
 abbrev pub not_there_text : List ℕ
 not_there_text = codes "refused NotThere\n"
@@ -19,21 +17,6 @@ abbrev pub never_text : Sought → List ℕ
 never_text (sought.Claimed address) = codes "no claim since step 0\n"
 never_text (sought.Freed address) = codes "no free since step 0\n"
 never_text x = codes "no change since step 0\n"
-
--- where the machine stands, without its end, and the step that comes next
-abbrev pub text_with_step : List ℕ → ℕ → List ℕ
-text_with_step place step =
-    take (length place - 1) place ++ (codes " step " ++ (decimal step ++ codes "\n"))
-
--- `step 36`, or `step 36 of 39` where three steps lie ahead
-abbrev pub when_text : ℕ → ℕ → List ℕ
-when_text steps all = codes "step " ++ (decimal steps
-    ++ ((if nat_lt steps all then codes " of " ++ decimal all else []) ++ codes "\n"))
-
--- `undone line 14, at step 0`
-abbrev pub undone_text : ℕ → ℕ → List ℕ
-undone_text line steps =
-    codes "undone line " ++ (decimal line ++ (codes ", at step " ++ (decimal steps ++ codes "\n")))
 
 -- a value: a byte by two digits, `--------` or `--` where no memory is mapped, and `none` where no block is
 abbrev pub value_text : Sought → Option ℕ → List ℕ
@@ -54,8 +37,8 @@ bank_text Supervisor = codes "_svc="
 
 -- `[00009020]=`, `R0=`, `R13_svc=`, `block `
 abbrev pub looked_text : Sought → List ℕ
-looked_text (sought.Word address) = codes "[" ++ (hex_word address ++ codes "]=")
-looked_text (sought.Byte address) = codes "[" ++ (hex_word address ++ codes "]=")
+looked_text (sought.Word address) = address_text address
+looked_text (sought.Byte address) = address_text address
 looked_text (sought.Register mode number) = codes "R" ++ (decimal number ++ codes "=")
 looked_text (sought.Banked mode number) = codes "R" ++ (decimal number ++ bank_text mode)
 looked_text sought.Status = codes "FLAGS="

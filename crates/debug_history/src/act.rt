@@ -1,136 +1,14 @@
 //! What is done to a machine.
 
-ghost use Rattle.std.specs.Prelude.{◌≡◌, ◌<◌, ◌%◌, ◌^◌, IfOk, option_map};
-ghost use Rattle.debug_history.specs.Acts.{is_anew, steps_behind, steps_of_deed, taken_steps};
+ghost use Rattle.std.specs.Prelude.{◌≡◌, IfOk, option_map};
+ghost use Rattle.debug_history.specs.Acts.{is_anew, steps_act, steps_behind, steps_of_deed, stubs_of_deed, taken_steps};
 
+use crate::kept_stubs::KeptStubs;
 use arm_core::{Mode, Psr};
-use command_shell_lines::{Origin, RegisterNumber, WordAddress};
+use command_shell_lines::{KeptText, Origin, RegisterNumber, WordAddress};
 use debug_lines::SteppingCommand;
 use debug_tables::Stubs;
 use std::alloc::{AllocError, Global};
-use std::marker::Model;
-
-/// A text that a line had, or bytes that it wrote.
-#[derive(Drop)]
-pub struct KeptText {
-    bytes: Vec<u8>,
-}
-
-impl Model for KeptText {
-    ghost use Rattle.std.specs.Prelude.{ℕ, List};
-
-    ghost Value = { List ℕ };
-
-    ghost view = { λ t. t.bytes.items };
-}
-
-impl KeptText {
-    /// The same text, in memory of its own.
-    ///
-    /// # Errors
-    ///
-    /// Memory ran out.
-    pub fn of(alloc: Global, text: &[u8]) -> Result<KeptText, AllocError>
-        ensures { IfOk result (λ kept. kept ≡ text.now) }
-    {
-        let bytes = Vec::from_slice(alloc, text)?;
-        Ok(KeptText { bytes })
-    }
-
-    pub(crate) fn bytes(&self) -> &[u8]
-        ensures { result.now ≡ self.now }
-    {
-        self.bytes.as_slice()
-    }
-}
-
-/// The stubs with which steps were taken.
-#[derive(Drop)]
-pub struct KeptStubs {
-    // None are kept as nothing.
-    stubs: Option<Box<Stubs>>,
-}
-
-impl Model for KeptStubs {
-    ghost use Rattle.std.specs.Prelude.{List};
-    ghost use Rattle.command_shell_lines.specs.declared.debug_words.stubs.Stub.{Stub};
-    ghost use Rattle.debug_history.specs.Acts.{boxed_stubs};
-
-    ghost Value = { List Stub };
-
-    ghost view = { λ k. boxed_stubs k.stubs };
-}
-
-impl KeptStubs {
-    /// No stub.
-    pub fn none() -> KeptStubs
-        ensures { result ≡ [] }
-    {
-        KeptStubs { stubs: None }
-    }
-
-    /// The same stubs, in memory of their own.
-    ///
-    /// # Errors
-    ///
-    /// Memory ran out.
-    pub fn of(alloc: Global, stubs: &Stubs) -> Result<KeptStubs, AllocError>
-        ensures { IfOk result (λ kept. kept ≡ stubs.now) }
-    {
-        if stubs.is_empty() {
-            return Ok(KeptStubs::none());
-        }
-        let kept = Box::new(alloc, stubs.copied())?;
-        Ok(KeptStubs { stubs: Some(kept) })
-    }
-
-    // The stubs, if there are any.
-    pub(crate) fn table(&self) -> Option<&Stubs>
-        ensures { MatchOption result (self.now ≡ []) (λ stubs. stubs.now ≡ self.now) }
-    {
-        match &self.stubs {
-            Some(stubs) => Some(&**stubs),
-            None => None,
-        }
-    }
-}
-
-/// An address at which an instruction may stand: a multiple of 4 below 2^26.
-#[derive(Clone, Copy, Debug)]
-pub struct CodeAddress {
-    address: u32,
-}
-
-impl Model for CodeAddress {
-    ghost use Rattle.std.specs.Prelude.{◌≡◌, ◌<◌, ◌%◌, ◌^◌, ℕ};
-
-    ghost Value = { ℕ };
-
-    ghost view = { λ c. c.address };
-
-    ghost invariant = { λ c. (c.address % 4 ≡ 0) × (c.address < 2 ^ 26) };
-
-    ghost inverse = { λ n. record { address = n } };
-}
-
-impl CodeAddress {
-    /// The address of that number.
-    pub fn new(address: u32) -> CodeAddress
-        requires aligned { address % 4 ≡ 0 }
-        requires inside { address < 2 ^ 26 }
-        ensures { result ≡ address }
-    {
-        CodeAddress { address }
-    }
-
-    pub(crate) fn number(self) -> u32
-        ensures value { result ≡ self }
-        ensures aligned { result % 4 ≡ 0 }
-        ensures inside { result < 2 ^ 26 }
-    {
-        self.address
-    }
-}
 
 /// What is done to a machine, by itself or from outside.
 #[derive(Drop)]
@@ -152,7 +30,7 @@ pub enum PastDeed {
     /// One of R0 to R14 of a mode is set, whatever the present one.
     Banked(Mode, RegisterNumber, u32),
     /// The program counter is set.
-    Place(CodeAddress),
+    Place(Origin),
     /// A routine is called: R14 of the present mode is set, and the program counter.
     Routine(Origin, u32),
     /// The status is set.

@@ -8,7 +8,8 @@ ghost use Rattle.debug_history.specs.Acts.{changed_moment, moment_after_acts, mo
 ghost use Rattle.debug_history.specs.Again.{IsAtMoment};
 ghost use Rattle.debug_history.specs.declared.act.PastDeed.TheVariants.{FaultingStep};
 
-use crate::act::{Act, KeptStubs, PastDeed};
+use crate::act::{Act, PastDeed};
+use crate::kept_stubs::KeptStubs;
 use command_shell::{Nowhere, OutsideCall, RunError, Session};
 use command_shell_lines::ScriptCommand;
 use debug_tables::Stubs;
@@ -133,10 +134,7 @@ pub fn deed_again(
             let number = register.number();
             session.set_register_in(*mode, number, *value);
         }
-        PastDeed::Place(address) => {
-            let pc = address.number();
-            session.set_pc(pc);
-        }
+        PastDeed::Place(address) => session.set_pc(address.address()),
         PastDeed::Routine(address, link) => {
             session.set_register(14, *link);
             session.set_pc(address.address());

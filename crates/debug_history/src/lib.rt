@@ -7,6 +7,7 @@
 mod act;
 mod again;
 mod answering;
+mod kept_stubs;
 pub mod laws;
 mod lines;
 mod noting;
@@ -15,9 +16,11 @@ mod scan;
 mod search;
 mod texts;
 
-pub use act::{Act, CodeAddress, KeptStubs, KeptText, PastDeed};
+pub use act::{Act, PastDeed};
 pub use again::deed_again;
 pub use answering::PastSetting;
+pub use command_shell_lines::KeptText;
+pub use kept_stubs::KeptStubs;
 pub use lines::{PastCommand, last_steps_asked, past_line};
 pub use noting::{SteppingNote, StepsBefore, has_returned, is_faulted};
 pub use past::Past;

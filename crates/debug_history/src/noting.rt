@@ -7,11 +7,12 @@ ghost use Rattle.debug_lines.specs.SteppingRequests.{stepping_request_of};
 ghost use Rattle.debug_history.specs.Noted.{has_returned, is_faulted, past_after_request, past_after_stepping, past_with_call, past_with_deed, past_with_gosub, past_with_steps, past_with_stubbed, steps_before};
 ghost use Rattle.image_loader.specs.Entries.{Entry};
 
-use crate::act::{Act, CodeAddress, KeptStubs, KeptText, PastDeed};
+use crate::act::{Act, PastDeed};
+use crate::kept_stubs::KeptStubs;
 use crate::past::Past;
 use arm_core::Psr;
 use command_shell::Session;
-use command_shell_lines::{Origin, RegisterNumber, ScriptCommand};
+use command_shell_lines::{KeptText, Origin, RegisterNumber, ScriptCommand};
 use debug_lines::SteppingCommand;
 use debug_tables::Stubs;
 use debug_tables::routines::ROUTINE_END;
@@ -28,7 +29,7 @@ pub struct StepsBefore {
     /// R14 of its mode.
     pub link: u32,
     /// Its program counter.
-    pub place: CodeAddress,
+    pub place: Origin,
 }
 
 impl StepsBefore {
@@ -42,7 +43,7 @@ impl StepsBefore {
             is_halted: machine.stop().is_some(),
             status: cpu.psr(),
             link: cpu.register(14),
-            place: CodeAddress::new(cpu.pc()),
+            place: Origin::new(cpu.pc()),
         }
     }
 }

@@ -1,63 +1,14 @@
 //! The texts of what lines are answered that have to do with the past.
 
 ghost use Rattle.std.specs.Prelude.{◌≡◌, ◌++◌, codes, None, IfOk, OnOk};
-ghost use Rattle.debug_history.specs.Texts.{bank_text, last_seen_text, looked_text, never_text, no_history_text, text_with_step, undone_text, value_text, values_text, when_found_text, when_text};
+ghost use Rattle.debug_history.specs.Texts.{bank_text, last_seen_text, looked_text, never_text, value_text, values_text, when_found_text};
 ghost use Rattle.std.specs.Fmt.{decimal};
 
 use crate::search::{PastFound, Sought};
 use arm_core::Mode;
-use itoa::Buffer;
+use command_shell_lines::debug_words::{push_address, push_number};
 use profile::HexText;
 use std::alloc::{AllocError, Global};
-
-/// Puts the step that comes next behind the line that says where the machine stands.
-///
-/// # Errors
-///
-/// Memory ran out.
-pub(crate) fn push_step(place: &mut Vec<u8>, step: u64) -> Result<(), AllocError>
-    ensures { OnOk result (place.new.items ≡ text_with_step place.old.items step) }
-{
-    place.pop();
-    place.extend_from_slice(b" step ")?;
-    push_number(place, step)?;
-    place.push(b'\n')?;
-    Ok(())
-}
-
-/// How many steps were taken.
-///
-/// # Errors
-///
-/// Memory ran out.
-pub(crate) fn when_line(alloc: Global, steps: u64, all: u64) -> Result<Vec<u8>, AllocError>
-    ensures { IfOk result (λ text. text.items ≡ when_text steps all) }
-{
-    let mut text = Vec::from_slice(alloc, b"step ")?;
-    push_number(&mut text, steps)?;
-    if all > steps {
-        text.extend_from_slice(b" of ")?;
-        push_number(&mut text, all)?;
-    }
-    text.push(b'\n')?;
-    Ok(text)
-}
-
-/// The line that was undone.
-///
-/// # Errors
-///
-/// Memory ran out.
-pub(crate) fn undone_line(alloc: Global, line: u64, steps: u64) -> Result<Vec<u8>, AllocError>
-    ensures { IfOk result (λ text. text.items ≡ undone_text line steps) }
-{
-    let mut text = Vec::from_slice(alloc, b"undone line ")?;
-    push_number(&mut text, line)?;
-    text.extend_from_slice(b", at step ")?;
-    push_number(&mut text, steps)?;
-    text.push(b'\n')?;
-    Ok(text)
-}
 
 /// What changed a part of the machine last, where so many steps were counted in all.
 ///
@@ -159,14 +110,6 @@ fn never_text(sought: &Sought) -> &'static [u8]
     }
 }
 
-fn push_address(text: &mut Vec<u8>, address: u32) -> Result<(), AllocError>
-    ensures { OnOk result (text.new.items ≡ text.old.items ++ looked_text (Sought.Byte address)) }
-{
-    text.push(b'[')?;
-    text.extend_from_slice(HexText::word(address).as_slice())?;
-    text.extend_from_slice(b"]=")
-}
-
 fn push_value(text: &mut Vec<u8>, sought: &Sought, value: Option<u32>) -> Result<(), AllocError>
     ensures { OnOk result (text.new.items ≡ text.old.items ++ value_text sought.now value) }
 {
@@ -189,22 +132,4 @@ fn nothing_text(sought: &Sought) -> &'static [u8]
         Sought::Block(_) | Sought::Claimed(_) | Sought::Freed(_) => b"none",
         _ => b"--------",
     }
-}
-
-fn push_number(text: &mut Vec<u8>, number: u64) -> Result<(), AllocError>
-    ensures { OnOk result (text.new.items ≡ text.old.items ++ decimal number) }
-{
-    let mut digits = Buffer::new();
-    text.extend_from_slice(digits.format(number).as_bytes())
-}
-
-/// Why a line changes nothing: its moment isn't known.
-///
-/// # Errors
-///
-/// Memory ran out.
-pub(crate) fn no_history(alloc: Global) -> Result<Vec<u8>, AllocError>
-    ensures { IfOk result (λ text. text.items ≡ no_history_text) }
-{
-    Vec::from_slice(alloc, b"refused NoHistory\n")
 }

@@ -20,7 +20,7 @@ use Rattle.debug_lines.specs.LineKinds.{asks_nothing, is_refused_block}
 use Rattle.debug_history.specs.Noted.{is_faulted, past_after_request, past_with_deed}
 use Rattle.debug_history.specs.Acts.{PastMoment, moment_after_acts}
 use Rattle.debug_history.specs.Past.{PastState, line_of_last_act, moment_after_past, past_from_start}
-use Rattle.debug_history.specs.Texts.{no_history_text}
+use Rattle.command_shell_lines.specs.debug_words.PastTexts.{no_history_text}
 use Rattle.debug_history.specs.declared.act.PastDeed.TheVariants as deed
 use Rattle.debug_history.specs.declared.lines.PastCommand.{PastCommand}
 use Rattle.debug_history.specs.declared.lines.PastCommand.TheVariants as past

@@ -15,7 +15,7 @@ mod script_lines;
 mod session;
 mod stepping_lines;
 
-pub use debug_history::{CodeAddress, KeptText, PastDeed, PastFound, Sought, is_faulted};
+pub use debug_history::{KeptText, PastDeed, PastFound, Sought, is_faulted};
 pub use debug_modes::expectations::begins_ending;
 pub use debug_modes::expectations::reports::{CheckTally, ReportForm, push_missing_end};
 pub use debug_tables::StubDeed;

@@ -6,7 +6,7 @@ ghost use Rattle.debug_session.specs.Failing.{EndsAtOnce};
 use crate::session::DebugSession;
 use command_shell_lines::Origin;
 use command_shell_lines::debug_words::bytes_written;
-use debug_history::{CodeAddress, KeptText, PastDeed};
+use debug_history::{KeptText, PastDeed};
 use debug_lines::{DebugView, Expectation, StatusPattern};
 use debug_modes::expectations::reports::{push_answer, push_fail, push_pass};
 use debug_modes::expectations::{SeenMachine, check, halting_fault, push_halted, status_with};
@@ -238,8 +238,7 @@ impl DebugSession {
         ensures setting { self.new.setting ≡ self.old.setting }
     {
         let pc = address.address();
-        let at = CodeAddress::new(pc);
-        self.past.put(number as u64, PastDeed::Place(at))?;
+        self.past.put(number as u64, PastDeed::Place(address))?;
         self.session.set_pc(pc);
         self.answer = Vec::new(self.alloc);
         Ok(())

@@ -6,8 +6,8 @@ ghost use Rattle.command_shell.specs.Error.{IsLineError};
 
 use crate::session::session::{GDB_LINE, GdbSession};
 use command_shell::RunError;
-use command_shell_lines::RegisterNumber;
-use debug_session::{CodeAddress, PastDeed};
+use command_shell_lines::{Origin, RegisterNumber};
+use debug_session::PastDeed;
 use gdb_machine::{
     RegisterWrite, Watch, WatchKind, break_refusal, decoded, wanted_write, watch_refusal,
 };
@@ -54,7 +54,7 @@ impl GdbSession {
                 self.debug.session.set_register(number, value);
             }
             RegisterWrite::Place(address) => {
-                let at = CodeAddress::new(address);
+                let at = Origin::new(address);
                 self.debug.past.put(GDB_LINE, PastDeed::Place(at))?;
                 self.debug.past.put(GDB_LINE, PastDeed::Woken)?;
                 self.debug.session.set_pc(address);
