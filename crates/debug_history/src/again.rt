@@ -12,13 +12,12 @@ use crate::act::{Act, PastDeed};
 use crate::kept_stubs::KeptStubs;
 use command_shell::{Nowhere, OutsideCall, RunError, Session};
 use command_shell_lines::ScriptCommand;
-use debug_tables::Stubs;
 use debug_tables::byte_writes::put_bytes;
 use image_loader::Images;
 use profile::WriteFault;
 use profile::text_lines::Lines;
 
-// Takes so many steps again, past all breaks.
+// Takes so many steps again, past all breaks: with stubs one by one.
 fn steps_again(
     session: &mut Session,
     images: &Images,
@@ -29,33 +28,19 @@ fn steps_again(
         OnOk result (IsAtMoment s (script_state session.new images.now)
         (moment_after_steps stubs.now s.images count (moment_of_script s))) }
 {
-    match stubs.table() {
-        Some(stubs) => stubbed_again(session, images, stubs, count),
-        None => take_again(session, images, count),
-    }
-}
-
-// One by one, with stubs.
-fn stubbed_again(
-    session: &mut Session,
-    images: &Images,
-    stubs: &Stubs,
-    count: u64,
-) -> Result<(), WriteFault>
-    ensures { let s = script_state session.old images.now in
-        OnOk result (IsAtMoment s (script_state session.new images.now)
-        (moment_after_steps stubs.now s.images count (moment_of_script s))) }
-{
+    let Some(table) = stubs.table() else {
+        return take_again(session, images, count);
+    };
     let mut left = count;
     while left > 0 {
         session.set_budget(1);
-        stubs.take_step(session, images, &mut Nowhere)?;
+        table.take_step(session, images, &mut Nowhere)?;
         left -= 1;
     }
     Ok(())
 }
 
-// In runs, with none.
+// With no stubs, in runs.
 fn take_again(session: &mut Session, images: &Images, count: u64) -> Result<(), WriteFault>
     ensures { let s = script_state session.old images.now in
         OnOk result (IsAtMoment s (script_state session.new images.now)

@@ -155,7 +155,8 @@ fn scan_steps(
         OnOk result (IsAtMoment s (script_state session.new images.now)
         (moment_after_acts s.images s.sizes (single_steps line stubs.now count) (moment_of_script s))) }
     ensures scan { let s = script_state session.old images.now in OnOk result (scan.new
-        ≡ scan_past s.images s.sizes sought.now (single_steps line stubs.now count) (moment_of_script s) scan.old) }
+        ≡ scan_past s.images s.sizes sought.now (single_steps line stubs.now count)
+        (moment_of_script s) scan.old) }
 {
     let mut left = count;
     while left > 0 {

@@ -58,7 +58,7 @@ impl Sought {
     {
         match self {
             Sought::Word(address) => machine.memory().load_word(address.address()).ok(),
-            Sought::Byte(address) => byte_at(machine, *address),
+            Sought::Byte(address) => machine.memory().load_byte(*address).ok().map(u32::from),
             Sought::Register(mode, number) | Sought::Banked(mode, number) => Some(
                 machine.cpu().register_in(*mode, number.number()),
             ),
@@ -105,15 +105,6 @@ fn block_holding(machine: &Machine, address: u32, held: u32) -> Option<u32>
     match machine.heaps().live_payload(machine.memory(), held) {
         Payload::Inside { at, len: _ } if at == held => Some(address),
         _ => None,
-    }
-}
-
-fn byte_at(machine: &Machine, address: u32) -> Option<u32>
-    ensures { result ≡ value_in (Sought.Byte address) (state_of machine.now.guest) }
-{
-    match machine.memory().load_byte(address) {
-        Ok(byte) => Some(u32::from(byte)),
-        Err(_) => None,
     }
 }
 

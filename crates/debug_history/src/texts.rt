@@ -1,7 +1,7 @@
 //! The texts of what lines are answered that have to do with the past.
 
 ghost use Rattle.std.specs.Prelude.{◌≡◌, ◌++◌, codes, None, IfOk, OnOk};
-ghost use Rattle.debug_history.specs.Texts.{bank_text, last_seen_text, looked_text, never_text, value_text, values_text, when_found_text};
+ghost use Rattle.debug_history.specs.Texts.{bank_text, last_seen_text, looked_text, never_text, value_text, when_found_text};
 ghost use Rattle.std.specs.Fmt.{decimal};
 
 use crate::search::{PastFound, Sought};
@@ -30,19 +30,11 @@ pub(crate) fn last_seen_line(
     push_when(&mut text, steps, &found)?;
     text.extend_from_slice(b": ")?;
     push_looked(&mut text, sought)?;
-    push_values(&mut text, sought, &found)?;
-    Ok(text)
-}
-
-// What is seen after it, and before it.
-fn push_values(text: &mut Vec<u8>, sought: &Sought, found: &PastFound) -> Result<(), AllocError>
-    ensures { OnOk result (text.new.items ≡ text.old.items ++ values_text sought.now found.now) }
-{
-    push_value(text, sought, found.after)?;
+    push_value(&mut text, sought, found.after)?;
     text.extend_from_slice(b" was ")?;
-    push_value(text, sought, found.before)?;
+    push_value(&mut text, sought, found.before)?;
     text.push(b'\n')?;
-    Ok(())
+    Ok(text)
 }
 
 fn push_when(text: &mut Vec<u8>, steps: u64, found: &PastFound) -> Result<(), AllocError>

@@ -1,13 +1,28 @@
-use Rattle.std.proofs.Common.{◌≡◌, List, subst, sym}
+use Rattle.std.proofs.Common.{◌≡◌, List, ap, arith, subst, sym}
 use Rattle.command_shell_lines.specs.declared.debug_words.stubs.Stub.{Stub}
 use Rattle.command_shell.specs.Session.{script_state}
-use Rattle.debug_history.specs.Acts.{moment_after_steps, moment_of_script}
-use Rattle.debug_history.specs.Again.{IsAtMoment}
+use Rattle.command_shell.specs.State.{ScriptState}
+use Rattle.debug_tables.specs.Stubs.{stubbed_step}
+use Rattle.debug_history.proofs.AgainLemmas.{stub_goes_on, way_begins, way_ends}
 use Rattle.debug_history.proofs.again.steps_again.Goals as goal
 
-pub returns-in-Some : goal.returns-in-Some
-returns-in-Some c ok =
-    let s = script_state c.args.session.now c.args.images.now in
-    let now = script_state c.stubbed_again.new.session c.args.images.now in
-    subst (λ (stubs : List Stub). IsAtMoment s now (moment_after_steps stubs s.images c.args.count (moment_of_script s)))
-    c.in-Some.ensures c.stubbed_again.ensures
+pub loop-left-init : goal.loop-left-init
+loop-left-init c = way_begins c.args.stubs.now (script_state c.args.session.now c.args.images.now) c.args.count
+
+pub take_step-requires : goal.take_step-requires
+take_step-requires c =
+    let e : c.set_budget.new.self.left ≡ 1 = ap (λ (t : ScriptState). t.left) (c.set_budget.ensures c.args.images.now) in
+    omega (arith, e)
+
+pub loop-left-preserved : goal.loop-left-preserved
+loop-left-preserved c =
+    let images = c.args.images.now in
+    stub_goes_on c.args.stubs.now (script_state c.args.session.now images) (script_state c.loop-left.session images)
+    (script_state c.set_budget.new.self images) (script_state c.take_step.new.session images) c.args.count c.loop-left.left
+    c.loop-left.invariant c.loop-left-test.true (c.set_budget.ensures images) c.in_ok-take_step.ensures.state
+
+pub returns : goal.returns
+returns c =
+    let images = c.args.images.now in
+    way_ends c.args.stubs.now (script_state c.args.session.now images) (script_state c.loop-left.session images) c.args.count
+    c.loop-left.left c.loop-left.invariant (omega (arith, c.loop-left-test.false))

@@ -1,6 +1,6 @@
 use Rattle.command_shell.specs.Session.{script_state}
 use Rattle.debug_history.proofs.AgainLemmas.{IsUnderWay}
-use Rattle.debug_history.proofs.again.stubbed_again.Given as goal
+use Rattle.debug_history.proofs.again.steps_again.Given as goal
 
 -- the steps that are left lead where all of them lead
 abbrev pub invariant-loop-left : goal.invariant-loop-left
