@@ -89,6 +89,8 @@ CALLS = (
     "SWI &161",
     "SWI OS_NewLine",
     "SWI XOS_WriteC",
+    "SWI &6",
+    "SWI &20006",
 )
 # what programs begin with
 A_HEAP, A_BLOCK, ANOTHER, A_FREE, AN_AREA = (CALLS[number] for number in (0, 1, 2, 3, 15))
@@ -113,11 +115,15 @@ QUESTIONS += ("LAST CHANGE WORD &9004", "LAST CHANGE WORD R8+8", "LAST CHANGE WO
 QUESTIONS += ("LAST CHANGE BYTE &B010", "LAST CHANGE BYTE R13-4", "LAST CLAIM &B018", "LAST CLAIM &B0E0")
 QUESTIONS += ("LAST FREE &B018", "LAST FREE &B0E0", "LAST CHANGE BLOCK &B018", "LAST CHANGE BLOCK &B00C")
 QUESTIONS += ("LAST STEPS 1", "LAST STEPS 3", "last steps 7", "LAST STEPS 1000")
-# lines after which the past isn't known
-LOSING = ('POKE &9000 "ab"', "FILL &9000 8 BYTES 1", "PUT p &9100", "ASM q &9000")
+# bytes that lines write, some of which can't be
+BYTES = ('POKE &9000 "ab"', "FILL &9000 8 BYTES 1", "PUT p &9100", "POKE R8+5 BYTES 1 2 3", "POKE start+5 BYTES &10")
+BYTES += ('REPEAT 2 POKE &9002 "x"', "FILL &100 8 0", "PUT nothing &9000", "FILL &B000 40 0", "PUT p &900A")
+# a line after which the past isn't known, unless the machine stands as it was made
+LOSING = ("ASM q &9000",)
 LOOKING = ("REGS", "WORDS &9000 4", "WHERE", "EXPECT R0 0", "HEAP &B000", "# a remark", "BREAK nowhere", "HELP BACK")
 LOOKING += ("COUNT ON", "COUNT OFF", "TRACE ON", "TRACE OFF", "BREAK sub", "BREAK &8018", "UNBREAK sub", "WHEN")
-LOOKING += ("STUB 6 R0 1", "UNSTUB 6", "FORGET nothing", "ASM p &8000", "ASM wrong &8000")
+LOOKING += ("STUB 6 R0 1", "STUB 6 R3 9 &9004 77", "STUB 6 AT sub", "UNSTUB 6")
+LOOKING += ("FORGET nothing", "ASM p &8000", "ASM wrong &8000")
 LOOKING += ("WATCH &9000", "WATCH &9000", "UNWATCH &9000", "WATCH &900C", "UNWATCH &900C")
 # what the lines above leave set, taken away
 AS_BEFORE = ["COUNT OFF", "TRACE OFF", "UNBREAK sub", "UNBREAK &8018", "UNSTUB 6", "UNWATCH &9000", "UNWATCH &900C"]
@@ -176,7 +182,7 @@ def stepping(choice: random.Random) -> str:
 
 def changing(choice: random.Random) -> str:
     """A line that changes the machine, or should."""
-    kind = choice.randrange(12)
+    kind = choice.randrange(15)
     if kind < 5:
         value = choice.choice((choice.randrange(1000), "R1+4", "&B00C", -1, "start"))
         return f"SET {choice.choice(SET_REGISTERS)} {value}"
@@ -188,7 +194,9 @@ def changing(choice: random.Random) -> str:
         return choice.choice(("SET PSR Z", "SET PSR nzcv", "SET PSR SVC", "SET PSR N FIQ", "SET PSR USR"))
     if kind == 10:
         return choice.choice(("REPEAT 3 SET R3 R3+1", "REPEAT 2 POKE &9000 R3+2", "SET R0 0"))
-    return choice.choice(("BOOT p", "BOOT nothing", "BOOT m"))
+    if kind == 11:
+        return choice.choice(("RESET", "RESET", "BOOT p", "BOOT nothing", "BOOT m"))
+    return choice.choice(BYTES)
 
 
 def going_back(choice: random.Random) -> str:
@@ -205,7 +213,7 @@ def going_back(choice: random.Random) -> str:
 def made(choice: random.Random) -> Script:
     program = [text for text in spelled(choice.choice(BEGIN)) if text.strip()]
     program += [text for _ in range(choice.randrange(3, 14)) for text in instructions(choice)]
-    lines = choice.choice(([], ["LOAD m"], ["BREAK &8018"], ["BREAK sub", "LOAD m"]))
+    lines = choice.choice(([], ["LOAD m"], ["BREAK &8018"], ["BREAK sub", "LOAD m"], ["STUB 6 R0 1"]))
     for _ in range(choice.randrange(2, 16)):
         kind = choice.randrange(40)
         if kind < 16 or not lines:
@@ -256,4 +264,9 @@ def is_routine(text: str) -> bool:
 
 
 def is_change(text: str) -> bool:
-    return re.match(r"(REPEAT \d+ )?(SET|POKE|BOOT)\b", text) is not None and text not in LOSING
+    return re.match(r"(REPEAT \d+ )?(SET|POKE|BOOT|FILL|PUT|RESET)\b", text) is not None
+
+
+def is_bytes(text: str) -> bool:
+    """Whether a line writes bytes, all of them or none: where none are written, nothing was done."""
+    return re.match(r"(REPEAT \d+ )?(FILL|PUT|POKE \S+ (\"|BYTES))", text) is not None

@@ -29,13 +29,15 @@ NO_ADDRESS = re.compile(r"R\d+(_\w+)?|SP|LR|FLAGS")
 
 @dataclass
 class Unit:
-    """A step, or a change from outside, by a line; what was answered, shown and read of memory behind it."""
+    """A step, or a change from outside, by a line, and the line STUB in force; what was answered, shown and read of
+    memory behind it."""
 
     line: int
     text: str
     count: int
     at: int | None = None
     is_fault: bool = False
+    stub: str = ""
     parts: list[str] = field(default_factory=list)
     registers: dict[str, str] = field(default_factory=dict)
 
@@ -85,7 +87,6 @@ class Entry:
     address: int | None = None
     before: str = ""
     answer: str = ""
-    steps: int = 0
     when: str = ""
     shown: str = ""
     path: list[Unit] = field(default_factory=list)
@@ -115,15 +116,26 @@ class Singles:
         self.lines = [*back_scripts.MODULES]
         self.count = 0
         self.read: list[str] = []
+        self.stub = ""
 
     def begin(self, script: Script, read: list[str]) -> Unit:
         """A script whose memory is read so; the unit before all that is done."""
         self.read = read
         self.lines += typed(script)
+        self.stub = ""
         return self.done(Unit(0, "RESET", 0))
+
+    def stub_lines(self, stub: str) -> list[str]:
+        """The lines after which that stub alone is set."""
+        lines = [] if stub == self.stub else ["UNSTUB 6", *([stub] if stub else [])]
+        self.stub = stub
+        return lines
 
     def done(self, unit: Unit) -> Unit:
         text = f"TRACE {unit.text}" if unit.is_step else unit.text
+        if lines := self.stub_lines(unit.stub):
+            self.lines += [*lines, MARK]
+            self.count += 1
         self.lines += [text, MARK, *SHOWN, MARK, *self.read, MARK]
         unit.at = self.count
         self.count += 3
@@ -131,8 +143,15 @@ class Singles:
 
     def stand(self, path: list[Unit]) -> None:
         """Stands behind these units, which begin with a fresh machine."""
-        self.lines += [*(unit.text for unit in path), MARK]
+        self.lines += [line for unit in path for line in [*self.stub_lines(unit.stub), unit.text]]
+        self.lines.append(MARK)
         self.count += 1
+
+
+def since_made(path: list[Unit]) -> list[Unit]:
+    """What was done since the machine was made last."""
+    made = max(place for place, unit in enumerate(path) if unit.text == "RESET")
+    return path[made:]
 
 
 def steps_of(path: list[Unit]) -> int:
@@ -172,6 +191,8 @@ def units_of(entry: Entry, taken: int, is_halted: bool) -> list[Unit]:
     if back_scripts.is_change(text):
         if "PC" in text.split() and entry.answer:
             return []
+        if back_scripts.is_bytes(text) and entry.answer.startswith("refused"):
+            return []
         found = re.match(r"REPEAT (\d+) (.*)", text)
         return [Unit(number, found[2] if found else text, 0) for _ in range(int(found[1]) if found else 1)]
     stops = re.findall(r"stop (\w+)", entry.answer)
@@ -197,7 +218,7 @@ class Walk:
         words = sorted({place & ~3 for entry in entries if (place := entry.address) is not None})
         self.read = [f"MEM &{word:X} 4" for word in words]
         self.singles = singles
-        self.is_known, self.has_stub = True, False
+        self.is_known, self.stub = True, ""
         self.path = [singles.begin(script, self.read)]
         self.ahead: list[Unit] = []
         self.is_there = True
@@ -211,21 +232,22 @@ class Walk:
         text = entry.text
         entry.path, entry.ahead = [*self.path], [*self.ahead]
         total = steps_of(self.path)
-        if text == "RESET":
-            self.path, self.ahead, self.is_known, self.is_there = self.path[:1], [], True, False
+        if text == "RESET" and not self.is_known:
+            self.begin()
         elif text in back_scripts.LOSING:
-            # an image that is added where nothing is done, or where all was undone, loses nothing
-            is_first = text.startswith("ASM") and len(self.path) == 1
+            # the past of a machine that stands as it was made begins with an image that is added
             if not entry.answer.startswith("refused"):
-                self.is_known, self.ahead = self.is_known and is_first, []
+                self.is_known = self.is_known and self.path[-1].text == "RESET"
+                if self.is_known:
+                    self.begin()
+                self.ahead = []
         elif text.startswith(("STUB", "UNSTUB")):
-            self.has_stub = text.startswith("STUB")
+            if entry.answer.startswith(("stub", "unstub")):
+                self.stub = text if text.startswith("STUB") else ""
         elif not self.is_known:
             return
         elif back_scripts.is_back(text):
             self.go_back(entry, total)
-        elif back_scripts.takes_steps(text) and self.has_stub and self.may_be_stubbed(entry):
-            self.is_known = False
         elif back_scripts.takes_steps(text) or back_scripts.is_change(text):
             now = re.fullmatch(r"step (\d+)( of \d+)?\n", entry.when)
             taken = int(now[1]) - total if now else 0
@@ -233,20 +255,17 @@ class Walk:
                 self.wrong.append(f"{text}: WHEN {entry.when!r} behind step {total}")
                 return
             for unit in units_of(entry, taken, self.is_halted):
+                unit.stub = self.stub
                 self.add(unit)
+
+    def begin(self) -> None:
+        """A past begins, on a machine as it was made."""
+        self.path, self.ahead, self.is_known, self.is_there = self.path[:1], [], True, False
 
     @property
     def is_halted(self) -> bool:
         """Whether a fault has halted the machine."""
-        return any(unit.is_fault for unit in self.path)
-
-    def may_be_stubbed(self, entry: Entry) -> bool:
-        """Whether a line took a step, counted or not; of one that is repeated only the last count is known."""
-        if entry.text.startswith("REPEAT"):
-            return entry.when == NO_HISTORY
-        stops = re.findall(r"stop (\w+)", entry.answer)
-        is_faulted = bool(stops) and stops[-1] not in ("Exit", "Budget", "Break", "Watch")
-        return entry.steps > 0 or is_faulted and not self.is_halted
+        return any(unit.is_fault for unit in since_made(self.path))
 
     def add(self, unit: Unit) -> None:
         if unit.text:
@@ -294,7 +313,7 @@ class Walk:
 
     def wanted_steps(self, entry: Entry) -> str:
         """What LAST STEPS has to answer."""
-        traces = [unit.trace for unit in self.path_shown(entry.path) if unit.is_step and unit.trace]
+        traces = [unit.trace for unit in since_made(self.path_shown(entry.path)) if unit.is_step and unit.trace]
         return "".join(traces[-int(entry.text.split()[-1]) :]) or NO_HISTORY
 
     def wanted_last(self, entry: Entry) -> str:
@@ -352,7 +371,7 @@ class Walk:
                 wanted = self.wanted_last(entry)
             elif back_scripts.is_back(entry.text):
                 wanted = self.wanted_back(entry)
-            elif back_scripts.is_change(entry.text) and entry.now != entry.path and entry.is_known:
+            elif back_scripts.is_change(entry.text) and len(entry.now) > len(entry.path) and entry.is_known:
                 wanted = "".join(unit.parts[0] for unit in entry.now[len(entry.path) :])
             if not entry.is_known and wanted is not None and wanted != "? line":
                 wanted = NO_HISTORY

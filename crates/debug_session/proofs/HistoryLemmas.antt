@@ -1,6 +1,5 @@
 -- The past of a debugging session is that of its machine, and changes no answer of other lines.
-use Rattle.std.proofs.Common.{◌≡◌, ℕ, ◌-◌, Bool, true, false, List, [], Option, Some, None, Result, Ok, Err, refl, sym, ◌∙◌, ap, subst, if◌then◌else◌, ◌++◌}
-use Rattle.std.specs.Prelude.{IsSome}
+use Rattle.std.proofs.Common.{◌≡◌, ℕ, ◌-◌, Bool, true, false, List, [], Option, Some, None, Result, Ok, Err, refl, sym, ap, subst, if◌then◌else◌, ◌++◌}
 use Rattle.std.specs.Option.{option_map}
 use Rattle.image_loader.specs.Entries.{bytes_of_image}
 use Rattle.profile.specs.declared.fault.Fault.{Fault}
@@ -37,9 +36,6 @@ use Rattle.debug_modes.specs.expectations.Checks.{check_answer, status_after_pat
 use Rattle.debug_modes.specs.expectations.Halted.{halting_fault}
 use Rattle.debug_modes.specs.expectations.reports.Reports.{report_of_refusal, with_refusal, answer_in}
 use Rattle.debug_session.specs.DebugScript.{answer_or_refused, checked_answer, plain_line_answer, bytes_done, past_line_by, past_line_or_steps, put_found, script_line_answer_in, seen_of, set_pc_by, state_after_line, state_with_answer, stepping_line_answer, stepping_now, with_block_noted}
-use Rattle.debug_runs.specs.Lines.{stepping_answer}
-use Rattle.debug_runs.proofs.PlainLemmas.{lines_are}
-use Rattle.debug_runs.proofs.TracedLemmas.{last_is_run, same_line}
 use Rattle.debug_session.specs.DebugState.{DebugAnswered, DebugState}
 use Rattle.debug_session.specs.History.{HistoryChangesNoAnswer, IsSameButPast, IsUnhaltedWhereFresh, PastIsOfTheMachine}
 use Rattle.debug_session.specs.declared.session.DebugSettings.{DebugSettings}

@@ -1,7 +1,7 @@
--- What runs of a debugger did to the machine: runs with watches, to a goal, or of a routine, where no stub
--- answers a SWI, and where no step was taken.
-use Rattle.std.proofs.Common.{◌≡◌, ◌<◌, ◌≤◌, ℕ, zero, suc, ◌-◌, ◌==◌, ◌&&◌, Bool, true, false, List, [], ◌∷◌, Option, Some, None, length, refl, sym, ◌∙◌, ap, subst, arith, if◌then◌else◌}
-use Rattle.std.specs.Prelude.{is_some, not, ◌||◌, ◌↔◌}
+-- What runs of a debugger did to the machine: runs with watches and stubs, to a goal, or of a routine, and where no
+-- step was taken.
+use Rattle.std.proofs.Common.{◌≡◌, ◌<◌, ◌≤◌, ℕ, zero, suc, ◌-◌, ◌==◌, ◌&&◌, Bool, true, false, List, Option, Some, None, refl, sym, ◌∙◌, ap, subst, arith}
+use Rattle.std.specs.Prelude.{is_some, not, ◌||◌}
 use Rattle.std.proofs.Math.Bool.{and-false}
 use Rattle.std.proofs.lemmas.Bool.Decides.{nat_tests}
 use Rattle.profile.specs.declared.stop.Stop.{Stop}
@@ -9,18 +9,15 @@ use Rattle.profile.specs.declared.stop.Stop.TheVariants as stop
 use Rattle.debug_labels.specs.Labels.{ImageLabels}
 use Rattle.debug_history.specs.Halt.{Halt}
 use Rattle.debug_history.specs.Halt.TheVariants as halt
-use Rattle.debug_tables.specs.run_meter.MachineState.{MachineState, StepOutcome, stop_of}
+use Rattle.debug_tables.specs.run_meter.MachineState.{StepOutcome, stop_of}
 use Rattle.debug_history.specs.MachineRun.{count_after}
-use Rattle.debug_history.specs.MachineSteps.{machine_step}
 use Rattle.debug_history.specs.ShellCalls.{step_made, stop_before_step_by}
 use Rattle.debug_tables.specs.run_meter.Memory.{script_with_last}
 use Rattle.debug_history.specs.CallEnd.TheVariants as cend
 use Rattle.debug_history.proofs.ShellCallLemmas.{can_step}
 use Rattle.debug_tables.specs.run_meter.State.{ScriptState}
-use Rattle.debug_tables.specs.Stubs.{stubbed_step}
 use Rattle.debug_tables.specs.declared.modes.StepModes.{StepModes}
 use Rattle.command_shell_lines.specs.declared.debug_words.stubs.Stub.{Stub}
-use Rattle.debug_tables.proofs.StubLemmas.{no_stub, real_steps}
 use Rattle.debug_runs.specs.Endings.{line_end_answer, line_stop_answer}
 use Rattle.debug_runs.specs.Lines.{answer_unless}
 use Rattle.debug_runs.specs.Runs.{SteppingRun, end_after, next_step, run_behind, run_end_by, run_ended, run_unless, steps_run, text_of_next}
@@ -30,34 +27,28 @@ use Rattle.debug_runs.specs.declared.endings.EndKind.TheVariants as kind
 use Rattle.debug_runs.specs.declared.running.RunEnd.{RunEnd}
 use Rattle.debug_runs.specs.declared.running.RunEnd.TheVariants as end
 use Rattle.debug_runs.specs.declared.running.RunGoal.{RunGoal}
-use Rattle.debug_runs.specs.declared.running.RunGoal.TheVariants as goal
 use Rattle.debug_history.specs.Laws.{IsPastOf}
-use Rattle.debug_history.specs.Noted.{is_faulted, past_with_steps}
+use Rattle.debug_history.specs.Noted.{is_faulted, past_with_stubbed}
 use Rattle.debug_history.specs.Past.{PastState}
 use Rattle.debug_history.proofs.CallNotedLemmas.{IsCalled, called_end, called_on, none_taken}
 use Rattle.debug_history.proofs.NotedLemmas.{led_more, led_nowhere, steps_noted}
 use Rattle.debug_session.specs.History.{IsUnhaltedWhereFresh}
 
--- RUNS WITHOUT STUBS
+-- RUNS
 
 -- the state that a run leaves, as a call leaves it
 abbrev pub left_by : SteppingRun → ScriptState
 left_by r = (line_end_answer kind.Call r.now r.ended).state
 
-no_stub_step : (modes : StepModes) (s : ScriptState) → modes.stubs ≡ [] → next_step modes s ≡ machine_step s.images s.machine
-no_stub_step modes s none =
-    ap (λ (stubs : List Stub). stubbed_step stubs s.images s.machine) none
-    ∙ real_steps [] s.images s.machine (no_stub s.machine)
+ended_called : (stubs : List Stub) (s : ScriptState) (e : RunEnd) → IsCalled stubs s (left_by (run_ended s e))
+ended_called stubs s end.Reached = called_end stubs s cend.Returned
+ended_called stubs s (end.Watched hit) = called_end stubs s (cend.Stopped (stop.Break s.machine.cpu.pc))
+ended_called stubs s (end.Stopped x) = called_end stubs s (cend.Stopped x)
 
-ended_called : (s : ScriptState) (e : RunEnd) → IsCalled s (left_by (run_ended s e))
-ended_called s end.Reached = called_end s cend.Returned
-ended_called s (end.Watched hit) = called_end s (cend.Stopped (stop.Break s.machine.cpu.pc))
-ended_called s (end.Stopped x) = called_end s (cend.Stopped x)
-
-pub unless_called : (after : ScriptState) (e : Option RunEnd) (rest : SteppingRun) (text printed : List ℕ)
-    → (e ≡ None → IsCalled after (left_by rest)) → IsCalled after (left_by (run_behind text printed (run_unless after e rest)))
-unless_called after (Some e) rest text printed more = ended_called after e
-unless_called after None rest text printed more = more refl
+pub unless_called : (stubs : List Stub) (after : ScriptState) (e : Option RunEnd) (rest : SteppingRun) (text printed : List ℕ)
+    → (e ≡ None → IsCalled stubs after (left_by rest)) → IsCalled stubs after (left_by (run_behind text printed (run_unless after e rest)))
+unless_called stubs after (Some e) rest text printed more = ended_called stubs after e
+unless_called stubs after None rest text printed more = more refl
 
 pub halted_end : (watches : List ℕ) (g : RunGoal) (s after : ScriptState) (rest : SteppingRun) (text printed : List ℕ) (h : Halt)
     → after.machine.halt ≡ Some h
@@ -70,7 +61,7 @@ goes_by : (watches : List ℕ) (g : RunGoal) (s after : ScriptState) (o : Option
 goes_by watches g s after None none = refl
 goes_by watches g s after (Some h) none = absurd (cc)
 
-goes_unhalted : (watches : List ℕ) (g : RunGoal) (s after : ScriptState) → end_after watches g s after ≡ None → after.machine.halt ≡ None
+pub goes_unhalted : (watches : List ℕ) (g : RunGoal) (s after : ScriptState) → end_after watches g s after ≡ None → after.machine.halt ≡ None
 unfolding end_after
 goes_unhalted watches g s after none = goes_by watches g s after after.machine.halt none
 
@@ -81,30 +72,21 @@ enough_after watches g s a n enough none =
     let count : count_after a.now.halt ≡ 1 = ap count_after (goes_unhalted watches g s (step_made s a) none) in
     omega (arith, count, enough)
 
-stepped_called : (watches : List ℕ) (g : RunGoal) (s : ScriptState) (a : StepOutcome) (rest : SteppingRun) (text : List ℕ)
-    → a ≡ machine_step s.images s.machine → s.is_fresh ≡ false → 0 < s.left
-    → (end_after watches g s (step_made s a) ≡ None → IsCalled (step_made s a) (left_by rest))
-    → IsCalled s (left_by (run_behind text a.printed (run_unless (step_made s a) (end_after watches g s (step_made s a)) rest)))
-stepped_called watches g s a rest text is old some more =
-    let after : ScriptState = step_made s a in
-    let final : ScriptState = left_by (run_behind text a.printed (run_unless after (end_after watches g s after) rest)) in
-    let e : after ≡ step_made s (machine_step s.images s.machine) = ap (step_made s) is in
-    called_on s final (machine_step s.images s.machine).now.halt old some refl
-    (subst (λ (t : ScriptState). IsCalled t final) e (unless_called after (end_after watches g s after) rest text a.printed more))
-    (λ h halted. halted_end watches g s after rest text a.printed h (ap (λ (x : StepOutcome). x.now.halt) is ∙ halted)
-    ∙ ap (λ (t : ScriptState). script_with_last t (stop_of h)) e)
-
 pub run_called : (modes : StepModes) (labels : List ImageLabels) (g : RunGoal) (n : ℕ) (o : Option ℕ) (s : ScriptState)
-    → modes.stubs ≡ [] → s.is_fresh ≡ false → n ≤ s.left → IsCalled s (left_by (steps_run modes labels g n o s))
+    → s.is_fresh ≡ false → n ≤ s.left → IsCalled modes.stubs s (left_by (steps_run modes labels g n o s))
 unfolding steps_run
-run_called modes labels g zero o s none old enough = ended_called s (end.Stopped stop.Budget)
-run_called modes labels g (suc n) o s none old enough =
+run_called modes labels g zero o s old enough = ended_called modes.stubs s (end.Stopped stop.Budget)
+run_called modes labels g (suc n) o s old enough =
     let a : StepOutcome = next_step modes s in
     let after : ScriptState = step_made s a in
     let some : 0 < s.left = omega (arith, enough) in
-    stepped_called modes.watches g s a (steps_run modes labels g n (one_answer o) after) (text_of_next modes labels o s)
-    (no_stub_step modes s none) old some
-    (λ e. run_called modes labels g n (one_answer o) after none refl (enough_after modes.watches g s a n enough e))
+    let rest : SteppingRun = steps_run modes labels g n (one_answer o) after in
+    let text : List ℕ = text_of_next modes labels o s in
+    called_on modes.stubs s (left_by (run_behind text a.printed (run_unless after (end_after modes.watches g s after) rest))) a.now.halt
+    old some refl
+    (unless_called modes.stubs after (end_after modes.watches g s after) rest text a.printed
+    (λ e. run_called modes labels g n (one_answer o) after refl (enough_after modes.watches g s a n enough e)))
+    (λ h halted. halted_end modes.watches g s after rest text a.printed h halted)
 
 -- whether a machine is fresh plays no part in a run's steps
 first_same : (modes : StepModes) (labels : List ImageLabels) (g : RunGoal) (n : ℕ) (o : Option ℕ) (s : ScriptState)
@@ -114,7 +96,7 @@ first_same modes labels g n o s = refl
 
 -- HOW MANY STEPS
 
-ended_left : (s : ScriptState) (e : RunEnd) → (left_by (run_ended s e)).left ≡ s.left
+pub ended_left : (s : ScriptState) (e : RunEnd) → (left_by (run_ended s e)).left ≡ s.left
 ended_left s end.Reached = refl
 ended_left s (end.Watched hit) = refl
 ended_left s (end.Stopped x) = refl
@@ -169,8 +151,8 @@ run_some modes labels g n o s some =
     (run_less modes labels g n (one_answer o) after)
 
 -- what a run leaves that took a step, of a machine that may be fresh
-pub record IsRun (s final : ScriptState) : Type 0 where
-  pub called : IsCalled (record s { is_fresh = false }) final
+pub record IsRun (stubs : List Stub) (s final : ScriptState) : Type 0 where
+  pub called : IsCalled stubs (record s { is_fresh = false }) final
   pub some : is_faulted final.machine.halt ≡ false → final.left < s.left
 
 pub steps_some : (modes : StepModes) (labels : List ImageLabels) (g : RunGoal) (most : ℕ) (o : Option ℕ) (s : ScriptState) → most ≤ s.left
@@ -179,26 +161,28 @@ pub steps_some : (modes : StepModes) (labels : List ImageLabels) (g : RunGoal) (
 steps_some modes labels g zero o s enough can = let some = can_step s.machine.halt zero can in absurd (omega (arith, some))
 steps_some modes labels g (suc n) o s enough can = run_some modes labels g n o s (omega (arith, enough))
 
-pub steps_are_run : (modes : StepModes) (labels : List ImageLabels) (g : RunGoal) (most : ℕ) (o : Option ℕ) (s : ScriptState) → modes.stubs ≡ []
-    → most ≤ s.left → stop_before_step_by s.machine.halt most ≡ None → IsRun s (left_by (steps_run modes labels g most o s))
-steps_are_run modes labels g zero o s none enough can = let some = can_step s.machine.halt zero can in absurd (omega (arith, some))
-steps_are_run modes labels g (suc n) o s none enough can =
+pub steps_are_run : (modes : StepModes) (labels : List ImageLabels) (g : RunGoal) (most : ℕ) (o : Option ℕ) (s : ScriptState)
+    → most ≤ s.left → stop_before_step_by s.machine.halt most ≡ None → IsRun modes.stubs s (left_by (steps_run modes labels g most o s))
+steps_are_run modes labels g zero o s enough can = let some = can_step s.machine.halt zero can in absurd (omega (arith, some))
+steps_are_run modes labels g (suc n) o s enough can =
     let old : ScriptState = record s { is_fresh = false } in
     record {
-      called = subst (λ (r : SteppingRun). IsCalled old (left_by r)) (first_same modes labels g n o s)
-          (run_called modes labels g (suc n) o old none refl enough);
+      called = subst (λ (r : SteppingRun). IsCalled modes.stubs old (left_by r)) (first_same modes labels g n o s)
+          (run_called modes labels g (suc n) o old refl enough);
       some = run_some modes labels g n o s (omega (arith, enough));
     }
 
 -- a line of steps alone differs from a call in the last stop alone
-pub steps_like_calls : (could_all : Bool) (s now : ScriptState) (e : RunEnd) → IsRun s (line_end_answer kind.Call now e).state
-    → IsRun s (line_end_answer (kind.Steps could_all) now e).state
-steps_like_calls could_all s now end.Reached is = record {
-  called = record { images = is.called.images; sizes = is.called.sizes; fresh = is.called.fresh; less = is.called.less; led = is.called.led };
-  some = is.some;
-}
-steps_like_calls could_all s now (end.Watched hit) is = is
-steps_like_calls could_all s now (end.Stopped x) is = is
+pub steps_like_calls : (stubs : List Stub) (could_all : Bool) (s now : ScriptState) (e : RunEnd)
+    → IsRun stubs s (line_end_answer kind.Call now e).state → IsRun stubs s (line_end_answer (kind.Steps could_all) now e).state
+steps_like_calls stubs could_all s now end.Reached is =
+    let t = is.called in
+    record {
+      called = record { images = t.images; sizes = t.sizes; fresh = t.fresh; less = t.less; led = t.led };
+      some = is.some;
+    }
+steps_like_calls stubs could_all s now (end.Watched hit) is = is
+steps_like_calls stubs could_all s now (end.Stopped x) is = is
 
 -- WHAT IS KEPT
 
@@ -212,21 +196,22 @@ faulted_old : (b : Bool) (o : Option Halt) → (b ≡ true → o ≡ None) → i
 faulted_old false o up is = refl
 faulted_old true o up is = let none = ap is_faulted (up refl) in absurd (cc (none, is))
 
-abbrev pub IsNoted : ScriptState → ScriptState → PastState → ℕ → Type 0
-IsNoted s t p line = IsPastOf t (past_with_steps p line (s.left - t.left) (is_faulted t.machine.halt))
+abbrev pub IsNoted : List Stub → ScriptState → ScriptState → PastState → ℕ → Type 0
+IsNoted stubs s t p line = IsPastOf t (past_with_stubbed p line stubs (s.left - t.left) (is_faulted t.machine.halt))
 
-pub run_noted : (s final : ScriptState) (p : PastState) (line : ℕ) → IsPastOf s p → IsRun s final → IsNoted s final p line
-run_noted s final p line was is =
-    let c = is.called in
-    let fresh : final.is_fresh ≡ false = c.fresh in
-    steps_noted s final p line (s.left - final.left) c.images c.sizes was c.led
+pub run_noted : (stubs : List Stub) (s final : ScriptState) (p : PastState) (line : ℕ) → IsPastOf s p → IsRun stubs s final
+    → IsNoted stubs s final p line
+run_noted stubs s final p line was is =
+    let t = is.called in
+    let fresh : final.is_fresh ≡ false = t.fresh in
+    steps_noted s final p line stubs (s.left - final.left) t.images t.sizes was t.led
     (λ e. let some = is.some e in fresh ∙ sym (none_fresh s.is_fresh (s.left - final.left) (omega (arith, some)))) (λ e. fresh)
 
-pub stopped_noted : (s : ScriptState) (p : PastState) (line : ℕ) (x : Option Stop) → IsUnhaltedWhereFresh s → IsPastOf s p
-    → IsNoted s (record s { last = x }) p line
-stopped_noted s p line x up was =
-    steps_noted s (record s { last = x }) p line (s.left - s.left) refl refl was
-    (led_more s.images s.machine s.machine 0 (s.left - s.left) (none_taken s.left) (led_nowhere s.images s.machine))
+pub stopped_noted : (stubs : List Stub) (s : ScriptState) (p : PastState) (line : ℕ) (x : Option Stop) → IsUnhaltedWhereFresh s
+    → IsPastOf s p → IsNoted stubs s (record s { last = x }) p line
+stopped_noted stubs s p line x up was =
+    steps_noted s (record s { last = x }) p line stubs (s.left - s.left) refl refl was
+    (led_more stubs s.images s.machine s.machine 0 (s.left - s.left) (none_taken s.left) (led_nowhere stubs s.images s.machine))
     (λ e. still_fresh s.is_fresh s.left) (λ e. faulted_old s.is_fresh s.machine.halt up e)
 
 stop_state : (k : EndKind) (s : ScriptState) (x : Stop) → script_with_last s x ≡ (line_stop_answer k s x).state
@@ -234,12 +219,13 @@ stop_state (kind.Steps could_all) s x = refl
 stop_state kind.Call s x = refl
 stop_state (kind.Routine caller) s x = refl
 
-pub unless_noted : (o : Option ℕ) (s : ScriptState) (k : EndKind) (r : SteppingRun) (x : Option Stop) (p : PastState) (line : ℕ)
-    → IsUnhaltedWhereFresh s → IsPastOf s p → (x ≡ None → IsRun s (line_end_answer k r.now r.ended).state)
-    → IsNoted s (answer_unless o s k r x).now p line
-unless_noted o s k r (Some x) p line up was more =
-    subst (λ (t : ScriptState). IsNoted s t p line) (stop_state k s x) (stopped_noted s p line (Some x) up was)
-unless_noted o s k r None p line up was more = run_noted s (line_end_answer k r.now r.ended).state p line was (more refl)
+pub unless_noted : (stubs : List Stub) (o : Option ℕ) (s : ScriptState) (k : EndKind) (r : SteppingRun) (x : Option Stop) (p : PastState)
+    (line : ℕ) → IsUnhaltedWhereFresh s → IsPastOf s p → (x ≡ None → IsRun stubs s (line_end_answer k r.now r.ended).state)
+    → IsNoted stubs s (answer_unless o s k r x).now p line
+unless_noted stubs o s k r (Some x) p line up was more =
+    subst (λ (t : ScriptState). IsNoted stubs s t p line) (stop_state k s x) (stopped_noted stubs s p line (Some x) up was)
+unless_noted stubs o s k r None p line up was more =
+    run_noted stubs s (line_end_answer k r.now r.ended).state p line was (more refl)
 
 -- A line that could take a step isn't idle.
 busy_by : (taken : ℕ) (faulted : Bool) → (faulted ≡ false → 0 < taken) → ((taken == 0) && not faulted) ≡ false
@@ -250,14 +236,3 @@ pub busy : (o : Option Halt) (most taken : ℕ) (faulted : Bool) → stop_before
     → (is_some o || ((taken == 0) && not faulted)) ≡ false
 busy (Some h) most taken faulted can some = absurd (cc)
 busy None most taken faulted can some = busy_by taken faulted some
-
--- where no step is lost, a line that isn't idle has no stubs
-pub bare_by : (bare idle : Bool) → (not bare && not idle) ≡ false → idle ≡ false → bare ≡ true
-bare_by true idle lost busy = refl
-bare_by false idle lost busy = absurd (cc (ap not busy, lost))
-
-pub none_of_them : {A : Type 0} (b : Bool) (xs : List A) → (b ≡ true) ↔ (xs ≡ []) → b ≡ (length xs == 0)
-none_of_them true [] is = refl
-none_of_them false [] is = is.1 refl
-none_of_them true (x ∷ xs) is = absurd (let none = is.0 refl in cc)
-none_of_them false (x ∷ xs) is = grind (arith, nat_tests)

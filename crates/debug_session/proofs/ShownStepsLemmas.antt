@@ -6,30 +6,33 @@ use mir.Val.{bool_byte}
 use Rattle.std.proofs.lemmas.List.{append-nil, drop_all, drop_more}
 use Rattle.image_loader.specs.Entries.{Entry}
 use Rattle.profile.specs.declared.stop.Stop.{Stop}
+use Rattle.command_shell_lines.specs.declared.debug_words.stubs.Stub.{Stub}
 use Rattle.debug_labels.specs.Labels.{ImageLabels}
 use Rattle.debug_history.specs.Halt.{Halt}
 use Rattle.debug_tables.specs.run_meter.MachineState.{stop_of}
 use Rattle.debug_tables.specs.run_meter.State.{ScriptState}
 use Rattle.debug_lines.specs.SteppingRequests.{SteppingRequest}
-use Rattle.debug_history.specs.Acts.{PastMoment, count_if, is_anew, moment_after_deed, moment_after_steps, moment_of_script, steps_behind, steps_of_acts, steps_of_deed}
+use Rattle.debug_history.specs.Acts.{PastMoment, count_if, is_anew, moment_after_deed, moment_after_steps, moment_of_script, steps_behind, steps_of_acts, steps_of_deed, stubs_of_deed}
 use Rattle.debug_history.specs.Again.{IsAtMoment}
 use Rattle.debug_history.specs.declared.act.Act.{Act}
 use Rattle.debug_history.specs.declared.act.PastDeed.{PastDeed}
 use Rattle.debug_history.proofs.AgainLemmas.{IsBeside, moment_at}
 use Rattle.debug_history.proofs.StepLemmas.{never_none}
 use Rattle.debug_tables.specs.run_meter.Answers.{refused_text}
-use Rattle.debug_session.specs.LastSteps.{no_step_modes, script_at_past, steps_shown, text_of_acts, text_of_deed, text_of_steps, text_or_refused, text_with_deed}
+use Rattle.debug_session.specs.LastSteps.{modes_with_stubs, script_at_past, steps_shown, text_of_acts, text_of_deed, text_of_steps, text_or_refused, text_with_deed}
 use Rattle.debug_tables.specs.declared.modes.StepModes.{StepModes}
 
 pub shown_text : (labels : List ImageLabels) (s : ScriptState) (k : ℕ) (d : PastDeed) (taken : SteppingRequest × ℕ) (old new text : List ℕ)
     → s.machine.halt ≡ None → Some taken ≡ steps_behind k d
-    → text ≡ (steps_shown labels (script_at_past s (moment_after_steps s.images k (moment_of_script s))) taken.1 taken.0).text
+    → text ≡ (steps_shown (stubs_of_deed d) labels
+    (script_at_past s (moment_after_steps (stubs_of_deed d) s.images k (moment_of_script s))) taken.1 taken.0).text
     → new ≡ old ++ text → new ≡ old ++ text_of_deed labels s k d (moment_of_script s)
 shown_text labels s k d taken old new text up is same more =
-    let first : ScriptState = script_at_past s (moment_after_steps s.images k (moment_of_script s)) in
+    let stubs = stubs_of_deed d in
+    let first : ScriptState = script_at_past s (moment_after_steps stubs s.images k (moment_of_script s)) in
     more ∙ ap (λ (xs : List ℕ). old ++ xs)
-    (same ∙ ap (λ (o : Option (SteppingRequest × ℕ)). text_of_steps labels first o) is
-    ∙ sym (ap (λ (o : Option Halt). if is_some o then [] else text_of_steps labels first (steps_behind k d)) up))
+    (same ∙ ap (λ (o : Option (SteppingRequest × ℕ)). text_of_steps stubs labels first o) is
+    ∙ sym (ap (λ (o : Option Halt). if is_some o then [] else text_of_steps stubs labels first (steps_behind k d)) up))
 
 if_none : (b : Bool) (xs : List ℕ) → xs ≡ [] → [] ≡ (if b then [] else xs)
 if_none true xs none = refl
@@ -38,34 +41,37 @@ if_none false xs none = sym none
 pub no_text : (labels : List ImageLabels) (s : ScriptState) (k : ℕ) (d : PastDeed) (old : List ℕ) → None ≡ steps_behind k d
     → old ≡ old ++ text_of_deed labels s k d (moment_of_script s)
 no_text labels s k d old none =
-    let first : ScriptState = script_at_past s (moment_after_steps s.images k (moment_of_script s)) in
+    let stubs = stubs_of_deed d in
+    let first : ScriptState = script_at_past s (moment_after_steps stubs s.images k (moment_of_script s)) in
     sym (append-nil old) ∙ ap (λ (xs : List ℕ). old ++ xs)
-    (if_none (is_some s.machine.halt) (text_of_steps labels first (steps_behind k d))
-    (ap (λ (o : Option (SteppingRequest × ℕ)). text_of_steps labels first o) (sym none)))
+    (if_none (is_some s.machine.halt) (text_of_steps stubs labels first (steps_behind k d))
+    (ap (λ (o : Option (SteppingRequest × ℕ)). text_of_steps stubs labels first o) (sym none)))
 
 pub halted_text : (labels : List ImageLabels) (s : ScriptState) (k : ℕ) (d : PastDeed) (old : List ℕ) → is_some s.machine.halt ≡ true
     → old ≡ old ++ text_of_deed labels s k d (moment_of_script s)
 halted_text labels s k d old is =
-    let first : ScriptState = script_at_past s (moment_after_steps s.images k (moment_of_script s)) in
-    sym (append-nil old) ∙ ap (λ (b : Bool). old ++ (if b then [] else text_of_steps labels first (steps_behind k d))) (sym is)
+    let stubs = stubs_of_deed d in
+    let first : ScriptState = script_at_past s (moment_after_steps stubs s.images k (moment_of_script s)) in
+    sym (append-nil old) ∙ ap (λ (b : Bool). old ++ (if b then [] else text_of_steps stubs labels first (steps_behind k d))) (sym is)
 
--- no stub and no watch
-pub bare_modes : (modes : StepModes) → modes.stubs ≡ [] → modes.watches ≡ [] → modes ≡ no_step_modes
-bare_modes modes stubs watches = λ i. record { stubs = stubs i; watches = watches i }
+-- stubs, and no watch
+pub stubs_alone : (modes : StepModes) (stubs : List Stub) → modes.stubs ≡ stubs → modes.watches ≡ [] → modes ≡ modes_with_stubs stubs
+stubs_alone modes stubs same watches = λ i. record { stubs = same i; watches = watches i }
 
-same_steps : (labels : List ImageLabels) (s t : ScriptState) (m : PastMoment) (o : Option (SteppingRequest × ℕ)) → IsBeside s t
-    → text_of_steps labels (script_at_past t m) o ≡ text_of_steps labels (script_at_past s m) o
-same_steps labels s t m None b = refl
-same_steps labels s t m (Some taken) b = λ i. (steps_shown labels
+same_steps : (stubs : List Stub) (labels : List ImageLabels) (s t : ScriptState) (m : PastMoment) (o : Option (SteppingRequest × ℕ))
+    → IsBeside s t → text_of_steps stubs labels (script_at_past t m) o ≡ text_of_steps stubs labels (script_at_past s m) o
+same_steps stubs labels s t m None b = refl
+same_steps stubs labels s t m (Some taken) b = λ i. (steps_shown stubs labels
     (script_at_past (record s { sizes = b.sizes i; images = b.images i; breaks = b.breaks i }) m) taken.1 taken.0).text
 
 -- what is shown of the steps of a deed doesn't depend on where the script's machine is
 pub same_text : (labels : List ImageLabels) (s t : ScriptState) (k : ℕ) (d : PastDeed) (m : PastMoment) → IsBeside s t
     → text_of_deed labels t k d m ≡ text_of_deed labels s k d m
 same_text labels s t k d m b =
+    let stubs = stubs_of_deed d in
     ap (λ (xs : List ℕ). if is_some m.machine.halt then [] else xs)
-    (ap (λ (es : List Entry). text_of_steps labels (script_at_past t (moment_after_steps es k m)) (steps_behind k d)) b.images
-    ∙ same_steps labels s t (moment_after_steps s.images k m) (steps_behind k d) b)
+    (ap (λ (es : List Entry). text_of_steps stubs labels (script_at_past t (moment_after_steps stubs es k m)) (steps_behind k d)) b.images
+    ∙ same_steps stubs labels s t (moment_after_steps stubs s.images k m) (steps_behind k d) b)
 
 first_text : (labels : List ImageLabels) (s : ScriptState) (k : ℕ) (act : Act) (rest : List Act) (m : PastMoment) (text : List ℕ)
     → text_of_acts labels s k (act ∷ rest) m text

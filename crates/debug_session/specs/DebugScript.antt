@@ -124,7 +124,7 @@ stepping_line_answer c d number is_traced request =
     let reported = stepping_in_modes d.modes d.labels is_traced s request in
     let after = record d {
       modes = modes_after d.modes s request;
-      past = past_after_stepping d.past number (note_of (steps_before s.machine) d.modes
+      past = past_after_stepping d.past number d.modes.steps.stubs (note_of (steps_before s.machine)
           (c.budget - reported.now.left) reported.now.machine reported.ending) request;
     } in
     stepping_answer_by c after reported.now reported.text reported.printed reported.ending

@@ -5,8 +5,9 @@ use Rattle.profile.specs.declared.stop.Stop.TheVariants.{Budget}
 use Rattle.debug_tables.specs.run_meter.Answers.{refused_text}
 use Rattle.debug_tables.specs.run_meter.State.{ScriptState, script_start_state}
 use Rattle.debug_labels.specs.Labels.{ImageLabels}
+use Rattle.command_shell_lines.specs.declared.debug_words.stubs.Stub.{Stub}
 use Rattle.debug_lines.specs.SteppingRequests.{SteppingRequest}
-use Rattle.debug_history.specs.Acts.{PastMoment, count_if, fresh_moment, is_anew, moment_after_deed, moment_after_steps, moment_of_script, steps_behind, steps_of_acts, steps_of_deed}
+use Rattle.debug_history.specs.Acts.{PastMoment, count_if, fresh_moment, is_anew, moment_after_deed, moment_after_steps, moment_of_script, steps_behind, steps_of_acts, steps_of_deed, stubs_of_deed}
 use Rattle.debug_history.specs.Noted.{is_faulted}
 use Rattle.debug_history.specs.declared.act.Act.{Act}
 use Rattle.debug_history.specs.declared.act.PastDeed.{PastDeed}
@@ -18,9 +19,9 @@ use Rattle.debug_tables.specs.declared.modes.StepModes.{StepModes}
 abbrev pub script_at_past : ScriptState → PastMoment → ScriptState
 script_at_past s m = record s { machine = m.machine; is_fresh = m.is_fresh }
 
--- no stub and no watch
-abbrev pub no_step_modes : StepModes
-no_step_modes = record { stubs = []; watches = [] }
+-- stubs, and no watch
+abbrev pub modes_with_stubs : List Stub → StepModes
+modes_with_stubs stubs = record { stubs = stubs; watches = [] }
 
 -- a script whose machine is at a moment, and that may take so many steps
 abbrev pub script_to_trace : ScriptState → PastMoment → ℕ → ScriptState
@@ -31,19 +32,20 @@ script_to_trace s m count = record s {
   last = Some Budget;
 }
 
--- a traced line that may take so many steps, all of which are shown
-abbrev pub steps_shown : List ImageLabels → ScriptState → ℕ → SteppingRequest → SteppingAnswer
-steps_shown labels s count request =
-    stepping_answer no_step_modes labels (Some count) (script_to_trace s (moment_of_script s) count) request
+-- a traced line that may take so many steps with these stubs, all of which are shown
+abbrev pub steps_shown : List Stub → List ImageLabels → ScriptState → ℕ → SteppingRequest → SteppingAnswer
+steps_shown stubs labels s count request = stepping_answer (modes_with_stubs stubs) labels (Some count)
+    (script_to_trace s (moment_of_script s) count) request
 
-abbrev pub text_of_steps : List ImageLabels → ScriptState → Option (SteppingRequest × ℕ) → List ℕ
-text_of_steps labels s None = []
-text_of_steps labels s (Some taken) = (steps_shown labels s taken.1 taken.0).text
+abbrev pub text_of_steps : List Stub → List ImageLabels → ScriptState → Option (SteppingRequest × ℕ) → List ℕ
+text_of_steps stubs labels s None = []
+text_of_steps stubs labels s (Some taken) = (steps_shown stubs labels s taken.1 taken.0).text
 
 -- of the steps of a deed, but for the first so many; a halted machine takes none
 abbrev pub text_of_deed : List ImageLabels → ScriptState → ℕ → PastDeed → PastMoment → List ℕ
 text_of_deed labels s skipped deed m = if is_some m.machine.halt then []
-    else text_of_steps labels (script_at_past s (moment_after_steps s.images skipped m)) (steps_behind skipped deed)
+    else text_of_steps (stubs_of_deed deed) labels
+    (script_at_past s (moment_after_steps (stubs_of_deed deed) s.images skipped m)) (steps_behind skipped deed)
 
 -- what is shown so far, and of a deed more; of a machine in whose place another was made nothing is shown
 abbrev pub text_with_deed : List ImageLabels → ScriptState → ℕ → PastDeed → PastMoment → List ℕ → List ℕ

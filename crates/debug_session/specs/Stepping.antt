@@ -1,5 +1,5 @@
 -- Lines that take steps, in the modes that are set.
-use Rattle.std.specs.Prelude.{ℕ, ◌==◌, Bool, not, List, length}
+use Rattle.std.specs.Prelude.{ℕ, Bool, List}
 use Rattle.debug_tables.specs.run_meter.State.{ScriptState}
 use Rattle.debug_tables.specs.run_meter.MachineState.{MachineState}
 use Rattle.debug_history.specs.Noted.{has_returned, is_faulted}
@@ -24,10 +24,9 @@ stepping_in_modes m labels is_traced s request =
     stepping_answer m.steps labels (answer_of_line m is_traced) s request
 
 -- what is known of a line that took so many steps, where the machine stood so before, and by how it ended
-abbrev pub note_of : StepsBefore → DebugModes → ℕ → MachineState → List ℕ → SteppingNote
-note_of before m taken now ending = record {
+abbrev pub note_of : StepsBefore → ℕ → MachineState → List ℕ → SteppingNote
+note_of before taken now ending = record {
   before = before;
-  is_stubbed = not (length m.steps.stubs == 0);
   taken = taken;
   has_faulted = is_faulted now.halt;
   has_returned = has_returned ending;

@@ -9,7 +9,7 @@ ghost use Rattle.debug_tables.specs.run_meter.Error.{IsLineError};
 ghost use Rattle.debug_tables.specs.run_meter.Session.{script_state};
 
 use crate::session::DebugSession;
-use debug_history::{PastDeed, deed_again, is_faulted};
+use debug_history::{KeptStubs, PastDeed, deed_again, is_faulted};
 use debug_modes::refused_line;
 use debug_runs::{StepCounts, answer_stepping};
 use debug_tables::StepModes;
@@ -73,10 +73,12 @@ impl DebugSession {
         let Some((command, count)) = deed.steps_behind(skipped) else {
             return deed_again(session, images, deed);
         };
-        deed_again(session, images, &PastDeed::Steps(skipped))?;
+        let mut modes = StepModes::new();
+        modes.stubs = deed.stubs();
+        let kept = KeptStubs::of(self.alloc, &modes.stubs)?;
+        deed_again(session, images, &PastDeed::Steps(kept, skipped))?;
         session.set_budget(count);
         session.set_last(Stop::Budget);
-        let modes = StepModes::new();
         let mut counts = StepCounts::new(self.alloc);
         let shown = answer_stepping(
             self.alloc,
@@ -89,7 +91,8 @@ impl DebugSession {
             Some(count),
         )?;
         text.extend_from_slice(shown.text.as_slice())?;
+        let rest = KeptStubs::of(self.alloc, &modes.stubs)?;
         let left = session.left();
-        deed_again(session, images, &PastDeed::Steps(left))
+        deed_again(session, images, &PastDeed::Steps(rest, left))
     }
 }

@@ -162,17 +162,10 @@ impl DebugSession {
     {
         self.session.set_budget(self.setting.budget);
         let memory = replace(&mut self.scratch, Vec::new(self.alloc));
-        let mut answer = TextSink::over(memory);
+        let mut text = TextSink::over(memory);
         let meter = self.setting.meter;
-        match answer_metered(
-            &mut self.session,
-            images,
-            &mut answer,
-            command,
-            script,
-            meter,
-        ) {
-            Ok(()) => Ok(answer.into_bytes()),
+        match answer_metered(&mut self.session, images, &mut text, command, script, meter) {
+            Ok(()) => Ok(text.into_bytes()),
             Err(_) => Err(RunError::Memory),
         }
     }

@@ -154,24 +154,24 @@ impl DebugSession {
         ending: &[u8],
     ) -> Result<(), AllocError>
         ensures past { (images : List Entry) → OnOk result (self.new.past ≡ past_after_stepping self.old.past
-            number (note_of before self.old.modes (self.old.setting.budget - self.old.session.left)
+            number self.old.modes.steps.stubs
+            (note_of before (self.old.setting.budget - self.old.session.left)
             (script_state self.old.session images).machine ending.now) (stepping_request_of command.now)) }
         ensures rest { OnOk result (self.new ≡ record self.old { past = self.new.past }) }
         ensures setting { self.new.setting ≡ self.old.setting }
     {
-        let is_bare = self.modes.steps.stubs.is_empty();
         let taken = self.steps_taken();
         let has_faulted = is_faulted(&self.session);
         let is_back = has_returned(ending);
         let note = SteppingNote {
             before,
-            is_stubbed: !is_bare,
             taken,
             has_faulted,
             has_returned: is_back,
         };
+        let stubs = &self.modes.steps.stubs;
         self.past
-            .note_stepping(self.alloc, number as u64, command, note)
+            .note_stepping(self.alloc, number as u64, command, stubs, note)
     }
 
     // Writes what a line that took steps left to write, and keeps it for the lines that expect

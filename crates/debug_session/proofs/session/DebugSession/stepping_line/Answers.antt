@@ -38,7 +38,8 @@ returns-clause-reported g c =
     answer_of_steps _ _ old.setting (debug_state old images) (debug_state c.print_steps.new.self images) _ _ _ _ _ _ _ _ _ _ _ _
     kept
     (c.in_ok-note_stepping.ensures.past images
-    ∙ (λ i. past_after_stepping old.past c.args.number (note_of (before i) old.modes (old.setting.budget - (state i).left) (state i).machine (said i)) request))
+    ∙ (λ i. past_after_stepping old.past c.args.number old.modes.steps.stubs
+    (note_of (before i) (old.setting.budget - (state i).left) (state i).machine (said i)) request))
     state
     (done.reported ∙ ap (λ x. x.text) shown ∙ ap (λ (s : ScriptState). (line s).text) at)
     (done.all_printed ∙ ap (λ x. x.printed) shown ∙ ap (λ (s : ScriptState). (line s).printed) at)
