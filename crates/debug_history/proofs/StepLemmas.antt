@@ -10,10 +10,8 @@ use Rattle.command_shell.specs.Halt.{Halt}
 use Rattle.command_shell.specs.MachineState.{MachineState, StepOutcome, stop_of}
 use Rattle.command_shell.specs.Step.{machine_step, outcome_of_turn, result_of_instruction, unless_halted}
 use Rattle.command_shell.specs.Run.{Run, go_on, halt_step_count, is_among, ran, resting, run_after_steps, run_unless_halted}
-use Rattle.command_shell.specs.Writes.{machine_with_bank_register}
-use Rattle.debug_tables.specs.Stubs.{StubDeedState, deed_ahead, deed_next, deed_that_fits, deed_unless_halted, machine_after_deed, machine_after_put, machine_with_bytes, machine_with_settings, step_or_deed, stubbed_step}
-use Rattle.debug_tables.specs.byte_writes.Put.{bytes_fit}
-use Rattle.debug_tables.specs.declared.stub_deeds.BankSetting.{BankSetting}
+use Rattle.debug_tables.specs.Stubs.{StubDeedState, deed_ahead, deed_next, deed_that_fits, deed_unless_halted, machine_after_deed, machine_after_put, step_or_deed, stubbed_step}
+use Rattle.debug_tables.proofs.StubLemmas.{put_halt, settings_halt}
 use Rattle.debug_history.specs.Noted.{is_faulted}
 use Rattle.debug_history.specs.Acts.{PastMoment, moment_after_steps}
 use Rattle.debug_history.specs.Steps.{RunsAreTheirSteps, steps_after}
@@ -43,22 +41,9 @@ steps_halted stubs images (suc k) s h e =
     ∙ steps_halted stubs images k s h e
 
 -- a step that ends in a fault is the machine's: no stub halts it
-halt_with_settings : (xs : List BankSetting) (s : MachineState) → (machine_with_settings xs s).halt ≡ s.halt
-halt_with_settings [] s = refl
-halt_with_settings (x ∷ xs) s = halt_with_settings xs (machine_with_bank_register s x.mode x.register x.value)
-
-halt_put_if : (b : Bool) (s t : MachineState) → t.halt ≡ s.halt → (if b then t else s).halt ≡ s.halt
-halt_put_if true s t e = e
-halt_put_if false s t e = refl
-
-halt_after_put : (s : MachineState) (at : ℕ) (bytes : List ℕ) → (machine_after_put s at bytes).halt ≡ s.halt
-halt_after_put s at [] = refl
-halt_after_put s at (byte ∷ bytes) =
-    halt_put_if (bytes_fit s.store at (byte ∷ bytes)) s (machine_with_bytes s at (byte ∷ bytes)) refl
-
 halt_after_deed : (d : StubDeedState) (s : MachineState) → (machine_after_deed d s).halt ≡ s.halt
 halt_after_deed d s =
-    halt_with_settings d.settings (machine_after_put s d.at d.bytes) ∙ halt_after_put s d.at d.bytes
+    settings_halt d.settings (machine_after_put s d.at d.bytes) ∙ put_halt s d.at d.bytes
 
 fault_by : (stubs : List Stub) (images : List Entry) (s : MachineState) (o : Option StubDeedState) (h : Option Halt)
     → deed_ahead stubs s ≡ o → s.halt ≡ h → is_faulted (step_or_deed images s o).now.halt ≡ true

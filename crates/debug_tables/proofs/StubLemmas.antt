@@ -35,7 +35,7 @@ settings_end [] status next s = refl
 settings_end (x ∷ xs) status next s =
     settings_end xs status next (script_with_bank_register s x.mode x.register x.value)
 
-settings_halt : (xs : List BankSetting) (m : MachineState) → (machine_with_settings xs m).halt ≡ m.halt
+pub settings_halt : (xs : List BankSetting) (m : MachineState) → (machine_with_settings xs m).halt ≡ m.halt
 settings_halt [] m = refl
 settings_halt (x ∷ xs) m = settings_halt xs (machine_with_bank_register m x.mode x.register x.value)
 
@@ -64,7 +64,7 @@ put_halt_if : (fits : Bool) (t m : MachineState) → t.halt ≡ m.halt → (if f
 put_halt_if true t m same = same
 put_halt_if false t m same = refl
 
-put_halt : (m : MachineState) (at : ℕ) (bytes : List ℕ) → (machine_after_put m at bytes).halt ≡ m.halt
+pub put_halt : (m : MachineState) (at : ℕ) (bytes : List ℕ) → (machine_after_put m at bytes).halt ≡ m.halt
 put_halt m at [] = refl
 put_halt m at (byte ∷ bytes) = put_halt_if (bytes_fit m.store at (byte ∷ bytes)) _ m refl
 

@@ -73,12 +73,12 @@ abbrev pub is_called_by_instruction : Bytes → Frame → Bool
 is_called_by_instruction b f = is_call_entered f.kind (word_loaded b (caller_address f))
 
 -- `1800074 high:swi+4`
-abbrev pub address_text : Naming → ℕ → List ℕ
-address_text n address = hex_number address ++ spaced_place_text (place_of n address)
+abbrev pub named_address_text : Naming → ℕ → List ℕ
+named_address_text n address = hex_number address ++ spaced_place_text (place_of n address)
 
 -- ` called at &1800074 high:swi+4`
 abbrev pub called_at_text : Naming → ℕ → List ℕ
-called_at_text n address = codes " called at &" ++ address_text n address
+called_at_text n address = codes " called at &" ++ named_address_text n address
 
 abbrev pub caller_text : Naming → Bytes → Frame → List ℕ
 caller_text n b f = if is_called_by_instruction b f then called_at_text n (caller_address f)

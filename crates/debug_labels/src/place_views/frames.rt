@@ -4,7 +4,7 @@ ghost use Rattle.std.specs.Prelude.{◌≡◌, length, slice_get};
 ghost use Rattle.address_map.specs.Memory.{bytes_of};
 ghost use Rattle.profile.specs.Output.{Writes};
 ghost use Rattle.debugger.specs.Modules.{one_text};
-ghost use Rattle.debug_labels.specs.place_views.Frames.{address_text, called_at_text, caller_address, caller_text, calls_entered, entry_text, frame_kind_text, frame_line, frame_lines, frame_number_text, open_frame_numbered, frame_text, frames_text, full_name_at, full_name_of_slot, full_name_text, full_name_within, is_call_entered, is_called_by_instruction};
+ghost use Rattle.debug_labels.specs.place_views.Frames.{named_address_text, called_at_text, caller_address, caller_text, calls_entered, entry_text, frame_kind_text, frame_line, frame_lines, frame_number_text, open_frame_numbered, frame_text, frames_text, full_name_at, full_name_of_slot, full_name_text, full_name_within, is_call_entered, is_called_by_instruction};
 ghost use Rattle.debug_labels.specs.place_views.Places.{naming_on};
 ghost use Rattle.debugger.specs.GuestState.{state_of};
 
@@ -215,7 +215,7 @@ fn show_call<W: Sink>(names: &PlaceNames, address: u32, sink: &mut W) -> Result<
 }
 
 fn show_address<W: Sink>(names: &PlaceNames, address: u32, sink: &mut W) -> Result<(), WriteFault>
-    ensures { Writes W.contents W.has_failed sink.old sink.new result (address_text names.now address) }
+    ensures { Writes W.contents W.has_failed sink.old sink.new result (named_address_text names.now address) }
 {
     push_all(sink, HexText::number(address).as_slice())?;
     names.push_place(address, sink)
