@@ -1,5 +1,6 @@
-use Rattle.std.proofs.Common.{◌≡◌, List, ap, arith, subst, sym}
+use Rattle.std.proofs.Common.{◌≡◌, ◌∙◌, List, ap, arith}
 use Rattle.command_shell_lines.specs.declared.debug_words.stubs.Stub.{Stub}
+use Rattle.command_shell.specs.Calls.{step_made}
 use Rattle.command_shell.specs.Session.{script_state}
 use Rattle.command_shell.specs.State.{ScriptState}
 use Rattle.debug_tables.specs.Stubs.{stubbed_step}
@@ -19,7 +20,10 @@ loop-left-preserved c =
     let images = c.args.images.now in
     stub_goes_on c.args.stubs.now (script_state c.args.session.now images) (script_state c.loop-left.session images)
     (script_state c.set_budget.new.self images) (script_state c.take_step.new.session images) c.args.count c.loop-left.left
-    c.loop-left.invariant c.loop-left-test.true (c.set_budget.ensures images) c.in_ok-take_step.ensures.state
+    c.loop-left.invariant c.loop-left-test.true (c.set_budget.ensures images)
+    (c.in_ok-take_step.ensures.state
+    ∙ ap (λ (stubs : List Stub). step_made (script_state c.set_budget.new.self images)
+    (stubbed_step stubs images (script_state c.set_budget.new.self images).machine)) c.in-Some.ensures)
 
 pub returns : goal.returns
 returns c =
