@@ -1,6 +1,6 @@
 //! The past of a machine, and how the machine goes back.
 
-ghost use Rattle.std.specs.Prelude.{◌≡◌, ◌≤◌, ◌<◌, ◌^◌, ◌++◌, length, take, Some, IfOk, IfSome, OnErr, OnOk, IfErr};
+ghost use Rattle.std.specs.Prelude.{◌≡◌, ◌≤◌, ◌<◌, ◌^◌, ◌++◌, true, length, take, Some, IfOk, IfSome, OnErr, OnOk, IfErr};
 ghost use Rattle.command_shell.specs.Error.{IsLineError};
 ghost use Rattle.command_shell.specs.Session.{script_state};
 ghost use Rattle.debug_history.specs.Acts.{steps_of_acts};

@@ -35,8 +35,8 @@ returns-in-Place-clause-moment c =
     let now = script_state c.set_pc.new.self c.args.images.now in
     subst (λ (d : PastDeed). IsAtMoment s now (moment_after_deed s.images s.sizes d (moment_of_script s))) (sym c.in-Place.is)
     (subst (λ (pc : ℕ). IsAtMoment s now (changed_moment (machine_at s.machine pc)))
-    c.number-pc.ensures.value
-    (with_machine_at s now (machine_at s.machine c.number-pc.result) (c.set_pc.ensures c.args.images.now)))
+    c.address.ensures.value
+    (with_machine_at s now (machine_at s.machine c.address.result) (c.set_pc.ensures c.args.images.now)))
 
 pub returns-in-Status-clause-moment : goal.returns-in-Status-clause-moment
 returns-in-Status-clause-moment c =
@@ -71,7 +71,7 @@ returns-in-Routine-clause-moment c =
     subst (λ (d : PastDeed). IsAtMoment s now (moment_after_deed s.images s.sizes d (moment_of_script s))) (sym c.in-Routine.is)
     (with_machine_at s now (machine_at (machine_with_register s.machine 14 c.in-Routine.link) c.in-Routine.address)
     (c.set_pc-in-Routine.ensures c.args.images.now
-    ∙ (λ i. script_at (first i) (c.address.ensures.value i))))
+    ∙ (λ i. script_at (first i) (c.address-in-Routine.ensures.value i))))
 
 pub returns-in-Bytes-clause-moment : goal.returns-in-Bytes-clause-moment
 returns-in-Bytes-clause-moment c =
@@ -79,14 +79,14 @@ returns-in-Bytes-clause-moment c =
     let now = script_state c.put_bytes.new.session c.args.images.now in
     subst (λ (d : PastDeed). IsAtMoment s now (moment_after_deed s.images s.sizes d (moment_of_script s))) (sym c.in-Bytes.is)
     (subst (λ (bytes : List ℕ). IsAtMoment s now (moment_after_put (moment_of_script s) c.in-Bytes.address bytes))
-    c.bytes.ensures
-    (put_at s now c.in-Bytes.address c.bytes.result.now c.put_bytes.result (c.put_bytes.ensures c.args.images.now)))
+    c.bytes-in-Bytes.ensures
+    (put_at s now c.in-Bytes.address c.bytes-in-Bytes.result.now c.put_bytes.result (c.put_bytes.ensures c.args.images.now)))
 
-pub returns-in-Anew-clause-moment : goal.returns-in-Anew-clause-moment
-returns-in-Anew-clause-moment c =
+pub returns-in_ok-start_anew-in-Anew-clause-moment : goal.returns-in_ok-start_anew-in-Anew-clause-moment
+returns-in_ok-start_anew-in-Anew-clause-moment c =
     let s = script_state c.args.session.now c.args.images.now in
     let now = script_state c.start_anew.new.self c.args.images.now in
     subst (λ (d : PastDeed). IsAtMoment s now (moment_after_deed s.images s.sizes d (moment_of_script s))) (sym c.in-Anew.is)
     (anew_at s now c.config-config.result c.left-budget.result
     (c.config-config.ensures ∙ ap (λ (m : MachineValue). m.sizes) c.machine.ensures)
-    (c.in_ok-start_anew.ensures.made c.args.images.now))
+    (c.in_ok-start_anew-in-Anew.ensures.made c.args.images.now))

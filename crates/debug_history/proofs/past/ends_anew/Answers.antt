@@ -9,7 +9,7 @@ loop-act-preserved c =
     let acts : List Act = c.args.acts.now in
     let i : ℕ = c.loop-act.act-index in
     let below : i < length acts = omega arith in
-    ap (λ (b : Bool). ends_anew b (drop (i + 1) acts)) c.is_anew.ensures
+    ap (λ (b : Bool). ends_anew b (drop (i + 1) acts)) c.is_anew-is_new.ensures
     ∙ sym (anew_first acts i c.act-item.result c.loop-act.is_new below c.act-item.is) ∙ c.loop-act.invariant
 
 pub returns : goal.returns

@@ -11,7 +11,7 @@ pub returns-clause-items : goal.returns-clause-items
 returns-clause-items c =
     let acts : List Act = c.args.acts.now.items in
     let cut = c.in-Some.cut in
-    let act : Act = c.index-acts-act.result in
+    let act : Act = c.index-act.result in
     let same = c.as_slice.ensures.value in
     let within = c.in-Some.ensures.within in
     let many = ap length same in
@@ -20,6 +20,6 @@ returns-clause-items c =
     let until = sym (ap (acts_until c.args.step) same) ∙ c.in-Some.ensures.until ∙ ap (λ (xs : List Act). acts_cut xs (Some cut)) same in
     let behind = sym (ap (acts_from c.args.step) same) ∙ c.in-Some.ensures.from ∙ ap (λ (xs : List Act). acts_behind xs (Some cut)) same in
     ap (λ (xs : List Act). set xs (cut.index + 1) c.in_ok-rest.rest) c.in_ok-insert.ensures.items
-    ∙ cut_within acts cut.index cut.left act c.in_ok-first.first c.in_ok-rest.rest below (omega (arith, some)) c.index-acts-act.is
+    ∙ cut_within acts cut.index cut.left act c.in_ok-first.first c.in_ok-rest.rest below (omega (arith, some)) c.index-act.is
     c.in_ok-first.ensures c.in_ok-rest.ensures
     ∙ sym (λ i. (until i) ++ (behind i))

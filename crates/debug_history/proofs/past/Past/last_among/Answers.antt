@@ -11,7 +11,7 @@ pub count_steps-requires : goal.count_steps-requires
 count_steps-requires c =
     let acts : List Act = c.args.self.now.acts in
     let all = parts_fit acts c.args.from c.args.until in
-    let steps = c.steps-_steps.ensures in
+    let steps = c.steps-steps.ensures in
     let before : c.split_at-parts.result.0.now ≡ take c.args.from (take c.args.until acts) =
     c.split_at-parts.ensures.front ∙ ap (take c.args.from) (c.split_at-halves.ensures.front ∙ ap (take c.args.until) c.acts.ensures) in
     let count = ap steps_of_acts before in
@@ -21,7 +21,7 @@ pub scan_acts-requires-clause-fits : goal.scan_acts-requires-clause-fits
 scan_acts-requires-clause-fits c =
     let acts : List Act = c.args.self.now.acts in
     let all = parts_fit acts c.args.from c.args.until in
-    let steps = c.steps-_steps.ensures in
+    let steps = c.steps-steps.ensures in
     let first = c.split_at-halves.ensures.front ∙ ap (take c.args.until) c.acts.ensures in
     let before = ap steps_of_acts (c.split_at-parts.ensures.front ∙ ap (take c.args.from) first) in
     let part = ap steps_of_acts (c.split_at-parts.ensures.back ∙ ap (drop c.args.from) first) in
