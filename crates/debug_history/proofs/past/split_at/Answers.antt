@@ -11,7 +11,7 @@ pub returns-clause-items : goal.returns-clause-items
 returns-clause-items c =
     let acts : List Act = c.args.acts.now.items in
     let cut = c.in-Some.cut in
-    let act : Act = c.index-act.result in
+    let act : Act = c.index-act.result.now in
     let same = c.as_slice.ensures.value in
     let within = c.in-Some.ensures.within in
     let many = ap length same in
