@@ -1,10 +1,11 @@
 use Rattle.std.proofs.Common.{◌≡◌, ◌+◌, ◌≤◌, ◌<◌, ◌^◌, ℕ, List, None, take, drop, refl, ap, ◌∙◌, arith}
 use Rattle.image_loader.specs.Entries.{Entry}
 use Rattle.command_shell.specs.Session.{script_state}
+use Rattle.command_shell.specs.State.{ScriptState}
 use Rattle.debug_history.specs.Acts.{fresh_moment, moment_after_acts, steps_of_acts}
 use Rattle.debug_history.specs.Search.{last_found, units}
 use Rattle.debug_history.specs.declared.act.Act.{Act}
-use Rattle.debug_history.proofs.ScanLemmas.{found_among, images_stay, parts_fit}
+use Rattle.debug_history.proofs.ScanLemmas.{found_among, parts_fit}
 use Rattle.debug_history.proofs.past.Past.last_among.Goals as goal
 
 pub count_steps-requires : goal.count_steps-requires
@@ -45,7 +46,5 @@ returns-clause-found c =
 
 pub returns-clause-images : goal.returns-clause-images
 returns-clause-images c =
-    images_stay (script_state c.acts_again.new.session c.acts_again.new.images)
-    (script_state c.scan_acts.new.session c.scan_acts.new.images) _ c.in_ok-scan_acts.ensures.moment
-    ∙ images_stay (script_state c.in_ok-session.session c.args.images.now)
-    (script_state c.acts_again.new.session c.acts_again.new.images) _ c.in_ok-acts_again.ensures.moment
+    ap (λ (s : ScriptState). s.images) c.in_ok-scan_acts.ensures.moment
+    ∙ ap (λ (s : ScriptState). s.images) c.in_ok-acts_again.ensures.moment
