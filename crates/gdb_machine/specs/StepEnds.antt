@@ -5,9 +5,12 @@ use Rattle.profile.specs.FaultNames.{fault_name}
 use Rattle.profile.specs.declared.fault.Fault.{Fault}
 use Rattle.profile.specs.declared.stop.Stop.{Stop}
 use Rattle.profile.specs.declared.stop.Stop.TheVariants as stop
-use Rattle.address_map.specs.Bytes.{Bytes}
+use Rattle.profile.specs.MemoryMap.{return_gate}
+use Rattle.address_map.specs.Bytes.{Bytes, word_loaded}
 use Rattle.arm_core.specs.State.{State}
 use Rattle.trace_effects.specs.Cause.{cause_of, swi_of_cause}
+use Rattle.gdb_packets.specs.declared.going.Going.{Going}
+use Rattle.gdb_packets.specs.declared.going.Going.TheVariants as going
 use Rattle.gdb_machine.specs.Stops.{signal_number_of}
 use Rattle.gdb_machine.specs.declared.stops.GdbStop.{GdbStop}
 use Rattle.gdb_machine.specs.declared.stops.GdbStop.TheVariants as reason
@@ -58,6 +61,13 @@ was_library reason.End = false
 abbrev pub is_interrupt : Result ℕ Fault → Bool
 is_interrupt (Ok word) = word / 0x1000000 % 16 == 15
 is_interrupt (Err fault) = false
+
+-- Whether the next step may change which modules are there: where it begins at one, or where module code goes
+-- back. Only where a run is to go on GDB wants to know of it at once.
+abbrev pub may_change_list : Going → State → Bytes → Bool
+may_change_list going.Once s b = false
+may_change_list (going.Within places) s b = false
+may_change_list going.On s b = s.pc == return_gate || is_interrupt (word_loaded b s.pc)
 
 -- OS_Exit has the number &11, and with the X bit &20011 ("OS_Exit" in the RISC OS 3 Programmer's Reference Manual).
 abbrev pub is_exit_number : Option ℕ → Bool

@@ -19,7 +19,7 @@ mod step_ends;
 mod stops;
 mod watches;
 
-pub use back_ends::{BackEnd, changed_end, stood_end};
+pub use back_ends::{ActRange, BackEnd, BackGoal, BackSearch, UnderWay, all_goals, piece_before};
 pub use change_packets::{break_refusal, decoded, store_refusal, wanted_write, watch_refusal};
 pub use changes::{RegisterWrite, register_write};
 pub use description::description_part;
@@ -30,8 +30,8 @@ pub use loads::Loads;
 pub use memory::{known_bytes, memory_shown};
 pub use registers::{all_registers, one_register, register_shown};
 pub use step_ends::{
-    goes_on, is_exit_ahead, is_interrupt, is_own_signal, last_stop, push_halted, stepped,
-    struck_after, was_library,
+    StepAhead, goes_on, is_exit_ahead, is_own_signal, last_stop, may_change_list, may_go_on,
+    push_halted, stepped, struck_after, was_library,
 };
 pub use stops::{GdbStop, Signal, signal_number_of, stop_packet};
 pub use watches::{SeenByte, Watch, WatchError, WatchKind, WatchedPlace, Watches, first_changed};

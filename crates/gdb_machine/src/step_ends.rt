@@ -1,22 +1,41 @@
 //! How a step ended, and what of that is shown.
 
-ghost use Rattle.std.specs.Prelude.{◌≡◌, ◌++◌};
+ghost use Rattle.std.specs.Prelude.{◌≡◌, ◌++◌, ◌&&◌, nat_lt};
 ghost use Rattle.address_map.specs.Memory.{bytes_of};
 ghost use Rattle.profile.specs.Output.{Writes};
-ghost use Rattle.gdb_machine.specs.StepEnds.{halted_text, is_exit_number, is_exit_ahead, is_interrupt as is_interrupt_shown, is_own_signal, last_stop as last_shown, steps_further as goes_on_shown, stop_after_step, struck_after, was_library as was_library_shown};
+ghost use Rattle.gdb_machine.specs.StepEnds.{halted_text, is_exit_number, is_exit_ahead, is_interrupt as is_interrupt_shown, is_own_signal, last_stop as last_shown, may_change_list, steps_further as goes_on_shown, stop_after_step, struck_after, was_library as was_library_shown};
 
 use crate::stops::{GdbStop, signal_number_of};
 use crate::watches::WatchedPlace;
 use address_map::AddressMap;
 use arm_core::Cpu;
+use gdb_packets::Going;
+use profile::memory_map::RETURN_GATE;
 use profile::{Fault, Sink, Stop, WriteFault, push_all};
 use trace_effects::{Cause, called_swi};
+
+/// What is known before a step: whether it may change which modules are there, and where its instruction
+/// strikes a watch by what it loads or stores to.
+#[derive(Clone, Copy)]
+pub struct StepAhead {
+    /// Whether it may.
+    pub may_change: bool,
+    /// Where it strikes.
+    pub struck: Option<WatchedPlace>,
+}
 
 /// Whether there may be another step.
 pub fn goes_on(stop: GdbStop) -> bool
     ensures { result ≡ goes_on_shown stop }
 {
     matches!(stop, GdbStop::Ran(Stop::Budget))
+}
+
+/// Whether there may be another step where so many are left of the budget.
+pub fn may_go_on(stop: GdbStop, left: u64) -> bool
+    ensures { result ≡ (goes_on_shown stop && nat_lt 0 left) }
+{
+    goes_on(stop) && left > 0
 }
 
 /// Why the program stands after a step.
@@ -57,8 +76,18 @@ pub fn was_library(stop: GdbStop) -> bool
     matches!(stop, GdbStop::Library)
 }
 
-/// Whether a word that may have been loaded is a software interrupt.
-pub fn is_interrupt(word: Result<u32, Fault>) -> bool
+/// Whether the next step may change which modules are there, where GDB wants to know of it at once.
+pub fn may_change_list(going: Going, cpu: &Cpu, map: &AddressMap) -> bool
+    ensures { result ≡ may_change_list going cpu.now (bytes_of map.now) }
+{
+    match going {
+        Going::On => cpu.pc() == RETURN_GATE || is_interrupt(map.load_word(cpu.pc())),
+        Going::Once | Going::Within(_) => false,
+    }
+}
+
+// Whether a word that may have been loaded is a software interrupt.
+fn is_interrupt(word: Result<u32, Fault>) -> bool
     ensures { result ≡ is_interrupt_shown word }
 {
     match word {

@@ -3,6 +3,7 @@ pub mod ChangeLemmas
 pub mod LookLemmas
 pub mod ProgramLemmas
 pub mod RunLemmas
+pub mod SearchLemmas
 pub mod SliceLemmas
 pub mod StepLemmas
 pub mod WriteLemmas

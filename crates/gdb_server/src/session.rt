@@ -18,6 +18,6 @@ pub use gdb_machine::{GdbStop, Signal};
 pub use gdb_packets::Going;
 pub use laws::{
     looking_changes_nothing, looking_lines_leave_the_machine, registers_are_read,
-    slices_are_one_run, writes_are_whole,
+    searches_are_one_search, slices_are_one_run, writes_are_whole,
 };
 pub use session::{GdbAnswer, GdbSession, GdbSettings};

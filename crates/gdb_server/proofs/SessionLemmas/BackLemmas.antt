@@ -1,20 +1,20 @@
 -- What requests that go back come to.
-use Rattle.std.proofs.Common.{◌≡◌, ◌<◌, ◌≤◌, ◌+◌, ◌-◌, ℕ, zero, suc, Bool, true, false, List, [], ◌∷◌, ◌++◌, length, get_or, drop, refl, ap, subst, sym, ◌∙◌, arith}
-use Rattle.std.specs.Prelude.{Option, Some, None, Result, Ok, Err, IfOk, map, if◌then◌else◌}
-use Rattle.std.proofs.lemmas.List.{drop_all, drop_more, get_or_default}
+use Rattle.std.proofs.Common.{◌≡◌, ◌<◌, ◌≤◌, ◌+◌, ◌-◌, ℕ, zero, suc, Bool, true, false, List, [], ◌∷◌, length, get_or, drop, refl, ap, sym, ◌∙◌, arith}
+use Rattle.std.specs.Prelude.{if◌then◌else◌}
+use Rattle.std.proofs.lemmas.List.{drop_all, drop_more}
 use Rattle.command_shell.specs.State.{ScriptState}
-use Rattle.command_shell.specs.declared.error.RunError.{RunError}
 use Rattle.debug_session.specs.PastActs.{steps_of_acts}
 use Rattle.debug_session.specs.Past.{PastState}
-use Rattle.gdb_machine.specs.BackEnds.{first_met, met_first}
-use Rattle.gdb_machine.specs.declared.back_ends.BackEnd.{BackEnd}
+use Rattle.gdb_machine.specs.BackEnds.{search_begin}
+use Rattle.gdb_machine.specs.declared.back_ends.BackGoal.{BackGoal}
+use Rattle.gdb_machine.specs.declared.back_ends.BackSearch.{BackSearch}
+use Rattle.gdb_machine.specs.declared.back_ends.UnderWay.TheVariants as under
 use Rattle.gdb_machine.specs.declared.stops.GdbStop.{GdbStop}
 use Rattle.gdb_machine.specs.declared.stops.GdbStop.TheVariants as reason
-use Rattle.gdb_machine.specs.declared.watches.SeenByte.{SeenByte}
 use Rattle.gdb_machine.specs.declared.watches.WatchedPlace.{WatchedPlace}
-use Rattle.gdb_server.specs.session.Back.{back_end, back_to_end, continue_back_from, continue_back_shown, end_at_byte, gone_back_to, step_back_after, step_back_from, step_back_shown, stepped_back, steps_back}
-use Rattle.gdb_server.specs.session.Runs.{break_here, gdb_stop_shown, stands_at_break, stop_here, unless_stepped}
-use Rattle.gdb_server.specs.session.State.{GdbAnswered, GdbState}
+use Rattle.gdb_server.specs.session.Back.{back_goals, back_to_end, continue_back_from, continue_back_shown, gone_back_to, search_by, search_further, search_shown, step_back_after, step_back_from, step_back_shown, stepped_back, steps_back}
+use Rattle.gdb_server.specs.session.Runs.{asking, break_here, gdb_stop_shown, stands_at_break, stop_here, unless_stepped}
+use Rattle.gdb_server.specs.session.State.{GdbState}
 use Rattle.gdb_server.specs.session.Steps.{is_other_list}
 
 -- WHERE A STEP LEADS
@@ -93,43 +93,19 @@ pub begins_there : (g : GdbState) (steps : ℕ) → is_other_list g.libraries g.
 begins_there g steps same is none =
     sym (ap (continue_back_from g) (sym is ∙ none)) ∙ same_list g same
 
-pub ends_back : (g : GdbState) (steps : ℕ) → is_other_list g.libraries g.debug.script ≡ false
-    → steps ≡ steps_back g.debug.past → 0 < steps → back_to_end g (back_end g) ≡ continue_back_shown g
-ends_back g steps same is some =
+pub searches_back : (g : GdbState) (steps : ℕ) → is_other_list g.libraries g.debug.script ≡ false
+    → steps ≡ steps_back g.debug.past → 0 < steps
+    → search_shown g (search_begin (length g.debug.past.acts)) ≡ continue_back_shown g
+searches_back g steps same is some =
     let split : steps ≡ suc (steps - 1) = omega (arith, some) in
     sym (ap (continue_back_from g) (sym is ∙ split)) ∙ same_list g same
 
--- an end by an equal one
-pub end_as : (r : Result BackEnd RunError) (a b : BackEnd) → a ≡ b → IfOk r (λ end. end ≡ a) → IfOk r (λ end. end ≡ b)
-end_as (Ok end) a b same is = is ∙ same
-end_as (Err e) a b same is = tt
+-- the next goal, or none that is left
+pub goal_sought : (g : GdbState) (b : BackSearch) (x : BackGoal) → b.goal < length (back_goals g) → x ≡ get_or (back_goals g) b.goal x
+    → asking g (under.Search (search_further g b x)) [] ≡ search_shown g b
+goal_sought g b x below is =
+    let rest : List BackGoal = drop (b.goal + 1) (back_goals g) in
+    sym (ap (search_by g b) (drop_more (back_goals g) b.goal x below ∙ ap (λ (y : BackGoal). y ∷ rest) (sym is)))
 
--- one more end on the way
-pub end_goes_on : {X : Type 0} (f : X → BackEnd) (start : BackEnd) (items : List X) (i : ℕ) (item : X) (end next : BackEnd) → i < length items
-    → item ≡ get_or items i item → next ≡ met_first end (f item) → first_met start (map f items) ≡ first_met end (map f (drop i items))
-    → first_met start (map f items) ≡ first_met next (map f (drop (i + 1) items))
-unfolding first_met
-end_goes_on {X} f start items i item end next below is more h =
-    let rest : List X = drop (i + 1) items in
-    let split = drop_more items i item below ∙ ap (λ (x : X). x ∷ rest) (sym is) in
-    h ∙ ap (λ (xs : List X). first_met end (map f xs)) split ∙ sym (ap (λ (e : BackEnd). first_met e (map f rest)) more)
-
-pub byte_goes_on : (g there : GdbState) (start : BackEnd) (bytes : List SeenByte) (i : ℕ) (d : SeenByte) (end other next : BackEnd)
-    → i < length bytes → there ≡ g → other ≡ end_at_byte there (get_or bytes i d) → next ≡ met_first end other
-    → first_met start (map (end_at_byte g) bytes) ≡ first_met end (map (end_at_byte g) (drop i bytes))
-    → first_met start (map (end_at_byte g) bytes) ≡ first_met next (map (end_at_byte g) (drop (i + 1) bytes))
-byte_goes_on g there start bytes i d end other next below same found more h =
-    let byte : SeenByte = get_or bytes i d in
-    end_goes_on (end_at_byte g) start bytes i byte end next below (get_or_default bytes i d byte below)
-    (more ∙ ap (met_first end) (found ∙ ap (λ (s : GdbState). end_at_byte s byte) same)) h
-
-pub end_is_all : {X : Type 0} (f : X → BackEnd) (start : BackEnd) (items : List X) (i : ℕ) (end : BackEnd) → length items ≤ i
-    → first_met start (map f items) ≡ first_met end (map f (drop i items)) → end ≡ first_met start (map f items)
-unfolding first_met
-end_is_all {X} f start items i end all h = sym (h ∙ ap (λ (xs : List X). first_met end (map f xs)) (drop_all i items all))
-
--- of some and then of others
-pub first_joined : (start : BackEnd) (first next : List BackEnd) → first_met (first_met start first) next ≡ first_met start (first ++ next)
-unfolding first_met
-first_joined start [] next = refl
-first_joined start (end ∷ others) next = first_joined (met_first start end) others next
+pub goals_sought : (g : GdbState) (b : BackSearch) → length (back_goals g) ≤ b.goal → back_to_end g b.end ≡ search_shown g b
+goals_sought g b over = sym (ap (search_by g b) (drop_all b.goal (back_goals g) over))

@@ -1,18 +1,24 @@
 -- What requests come to that change what stands.
-use Rattle.std.proofs.Common.{◌≡◌, ℕ, Bool, Bor, List, [], refl, ap, ◌∙◌}
-use Rattle.std.specs.Prelude.{Option, Result, Ok, Err, IfOk, MatchResult, option_map}
+use Rattle.std.proofs.Common.{◌≡◌, ℕ, Bool, true, Bor, List, [], length, refl, ap, sym, ◌∙◌, arith}
+use Rattle.std.specs.Prelude.{Option, Result, Ok, Err, IfOk, ◌==◌, codes, option_map, if◌then◌else◌}
+use Rattle.std.proofs.lemmas.Bool.Decides.{nat_tests}
 use Rattle.command_shell.specs.declared.error.RunError.{RunError}
 use Rattle.gdb_packets.specs.Requests.{gdb_request}
+use Rattle.gdb_packets.specs.declared.requests.ByteRange.{ByteRange}
 use Rattle.gdb_packets.specs.declared.requests.PlaceRange.{PlaceRange}
 use Rattle.gdb_packets.specs.declared.requests.Request.{Request}
 use Rattle.gdb_packets.specs.declared.requests.Request.TheVariants as asked
 use Rattle.command_shell.specs.State.{ScriptState}
 use Rattle.debug_session.specs.Past.{PastState}
+use Rattle.debug_session.specs.Put.{script_after_put}
+use Rattle.profile.specs.Outcome.{Leaves}
+use Rattle.profile.specs.declared.fault.Fault.{Fault}
 use Rattle.gdb_machine.specs.declared.changes.RegisterWrite.{RegisterWrite}
 use Rattle.gdb_server.specs.session.Changes.{past_after_write, script_with_change, with_change}
 use Rattle.gdb_server.specs.session.Requests.{act_shown, gdb_change_shown}
 use Rattle.gdb_server.specs.session.Session.{IsGdbAnswered}
-use Rattle.gdb_server.specs.session.State.{GdbState, GdbAnswered, with_past, with_script}
+use Rattle.gdb_server.specs.session.State.{GdbState, GdbAnswered, packet_reply, with_past, with_script}
+use Rattle.gdb_server.specs.session.Stores.{bytes_stored, store_shown, with_bytes_noted}
 use Rattle.gdb_server.specs.declared.session.session.GdbAnswer.{GdbAnswer}
 
 -- an answer of which the parts are known
@@ -31,6 +37,23 @@ pub changed_so : (g : GdbState) (s : ScriptState) (p : PastState) (change : Regi
     → p ≡ past_after_write g.debug.past change → with_past (with_script g s) p ≡ with_change g change
 changed_so g s p change script past = ap (λ (x : ScriptState). with_past (with_script g x) p) script
     ∙ ap (λ (q : PastState). with_past (with_script g (script_with_change g.debug.script change)) q) past
+
+-- bytes that were stored, and kept
+pub stored_so : {U : Type 0} (g : GdbState) (range : ByteRange) (bytes : List ℕ) (s : ScriptState) (u : U) → length bytes ≡ range.count
+    → Leaves g.debug.script (script_after_put g.debug.script range.start bytes) (Ok u) s
+    → packet_reply (with_bytes_noted (with_script g s) range.start bytes) (codes "OK") ≡ store_shown g range bytes
+stored_so {U} g range bytes s u fits left =
+    by (script_after_put g.debug.script range.start bytes) left ∙ sym (tested (length bytes == range.count) (grind (arith, nat_tests)))
+  where
+    by : (r : Result ScriptState Fault) → Leaves g.debug.script r (Ok u) s
+        → packet_reply (with_bytes_noted (with_script g s) range.start bytes) (codes "OK") ≡ bytes_stored g range.start bytes r
+    by (Ok t) same = ap (λ (x : ScriptState). packet_reply (with_bytes_noted (with_script g x) range.start bytes) (codes "OK")) same
+    by (Err f) none = absurd none
+
+    tested : (b : Bool) → b ≡ true
+        → (if b then bytes_stored g range.start bytes (script_after_put g.debug.script range.start bytes) else packet_reply g (codes "E16"))
+        ≡ bytes_stored g range.start bytes (script_after_put g.debug.script range.start bytes)
+    tested b is = rw is refl
 
 -- a request that none of the calls of its own answers is a change
 pub other_act : (g : GdbState) (request : Request)

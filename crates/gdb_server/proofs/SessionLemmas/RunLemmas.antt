@@ -11,11 +11,14 @@ use Rattle.debug_session.specs.DebugScript.{debug_line_answer, debug_lines_answe
 use Rattle.debug_session.specs.DebugState.{DebugAnswered, DebugState, IsDebugged}
 use Rattle.debug_session.specs.declared.session.DebugSettings.{DebugSettings}
 use Rattle.gdb_machine.specs.StepEnds.{halted_text, steps_further, stop_after_step}
+use Rattle.gdb_machine.specs.declared.back_ends.UnderWay.{UnderWay}
+use Rattle.gdb_machine.specs.declared.back_ends.UnderWay.TheVariants as under
 use Rattle.gdb_machine.specs.declared.stops.GdbStop.{GdbStop}
 use Rattle.gdb_machine.specs.declared.stops.GdbStop.TheVariants as reason
 use Rattle.gdb_packets.specs.declared.going.Going.{Going}
 use Rattle.gdb_packets.specs.declared.going.Going.TheVariants as going
-use Rattle.gdb_server.specs.session.Runs.{after_begin, asking, unhalted_answer, begin_shown, break_here, debug_anew, fault_shown, first_slice_shown, gdb_step_shown, gdb_stop_shown, going_shown, goes_on_if, halt_shown, has_break_due, host_answered, line_decoded, slice_steps, slice_shown, step_taken, stop_asked, stop_shown_with, stops_if, unless_halted_before, unless_taken, with_debug, with_whole_budget, without_quit}
+use Rattle.gdb_server.specs.session.Requests.{goes_further, goes_on_if, host_answered}
+use Rattle.gdb_server.specs.session.Runs.{after_begin, asking, unhalted_answer, begin_shown, break_here, debug_anew, fault_shown, first_slice_shown, gdb_step_shown, gdb_stop_shown, going_shown, halt_shown, has_break_due, line_decoded, slice_steps, slice_shown, step_taken, stop_asked, stop_shown_with, stops_if, unless_halted_before, unless_taken, with_debug, with_whole_budget, without_quit}
 use Rattle.gdb_server.specs.session.Session.{IsAfterSteps, IsGdbAnswered}
 use Rattle.gdb_server.specs.session.State.{GdbAnswered, GdbState, no_reply, packet_reply, with_steps_noted}
 use Rattle.gdb_server.specs.session.Steps.{StepsTaken, gdb_steps, is_other_list}
@@ -24,18 +27,19 @@ use Rattle.gdb_server.specs.declared.session.session.GdbAnswer.{GdbAnswer}
 -- a slice after which the other side is asked, and one that ends the run
 pub slice_asks : (g now : GdbState) (goes : Going) (text : List ℕ) (end : GdbStop)
     → IsAfterSteps g now [] text end (gdb_steps g goes slice_steps)
-    → steps_further end && nat_lt 0 now.debug.script.left ≡ true → asking now goes text ≡ slice_shown g goes
+    → steps_further end && nat_lt 0 now.debug.script.left ≡ true → asking now (under.Run goes) text ≡ slice_shown g goes
 slice_asks g now goes text end done further =
     let t : StepsTaken = gdb_steps g goes slice_steps in
     let goes_there : steps_further t.stop && nat_lt 0 t.script.left ≡ true =
     subst (λ (e : GdbStop). steps_further e && nat_lt 0 t.script.left ≡ true) done.reason
     (subst (λ (s : GdbState). steps_further end && nat_lt 0 s.debug.script.left ≡ true) done.state further) in
-    ap (λ (s : GdbState). asking s goes text) done.state ∙ ap (λ (x : List ℕ). asking (with_steps_noted g t.script) goes x) done.text
+    ap (λ (s : GdbState). asking s (under.Run goes) text) done.state
+    ∙ ap (λ (x : List ℕ). asking (with_steps_noted g t.script) (under.Run goes) x) done.text
     ∙ sym (shown_if (steps_further t.stop && nat_lt 0 t.script.left) goes_there) where
       shown_if : (b : Bool) → b ≡ true
           → (let t : StepsTaken = gdb_steps g goes slice_steps in
-          (if b then asking (with_steps_noted g t.script) goes t.printed else gdb_stop_shown (with_steps_noted g t.script) t.printed t.stop)
-          ≡ asking (with_steps_noted g t.script) goes t.printed)
+          (if b then asking (with_steps_noted g t.script) (under.Run goes) t.printed else gdb_stop_shown (with_steps_noted g t.script) t.printed t.stop)
+          ≡ asking (with_steps_noted g t.script) (under.Run goes) t.printed)
       shown_if b is = rw is refl
 
 pub slice_ends : (g now : GdbState) (goes : Going) (text : List ℕ) (end : GdbStop)
@@ -52,7 +56,7 @@ slice_ends g now goes text end done ends =
     ∙ sym (shown_if (steps_further t.stop && nat_lt 0 t.script.left) ends_there) where
       shown_if : (b : Bool) → b ≡ false
           → (let t : StepsTaken = gdb_steps g goes slice_steps in
-          (if b then asking (with_steps_noted g t.script) goes t.printed else gdb_stop_shown (with_steps_noted g t.script) t.printed t.stop)
+          (if b then asking (with_steps_noted g t.script) (under.Run goes) t.printed else gdb_stop_shown (with_steps_noted g t.script) t.printed t.stop)
           ≡ gdb_stop_shown (with_steps_noted g t.script) t.printed t.stop)
       shown_if b is = rw is refl
 
@@ -85,16 +89,18 @@ shows_neither g same none = by (is_other_list g.libraries g.debug.script) (has_b
         ≡ (if other then gdb_stop_shown g [] reason.Library else (if due then gdb_stop_shown g [] (break_here g) else slice_shown g going.On))
     by other due same is = rw (same, is) refl
 
--- the run goes on, stops, or there is none
+-- the run or the search goes on, stops, or there is none
 pub stands_still : (g : GdbState) (asks : Bool) → g.going ≡ None → no_reply g ≡ host_answered g asks
-stands_still g asks none = sym (ap (λ (o : Option Going). goes_on_if g asks o) none)
+stands_still g asks none = sym (ap (λ (o : Option UnderWay). goes_on_if g asks o) none)
 
-pub stops_asked : (g : GdbState) (asks : Bool) (goes : Going) → g.going ≡ Some goes → asks ≡ true
+pub stops_asked : (g : GdbState) (asks : Bool) (way : UnderWay) → g.going ≡ Some way → asks ≡ true
     → gdb_stop_shown g [] reason.Asked ≡ host_answered g asks
-stops_asked g asks goes some is = sym (ap (λ (o : Option Going). goes_on_if g asks o) some ∙ rw is refl)
+stops_asked g asks way some is = sym (ap (λ (o : Option UnderWay). goes_on_if g asks o) some ∙ rw is refl)
 
-pub runs_on : (g : GdbState) (asks : Bool) (goes : Going) → g.going ≡ Some goes → asks ≡ false → slice_shown g goes ≡ host_answered g asks
-runs_on g asks goes some is = sym (ap (λ (o : Option Going). goes_on_if g asks o) some ∙ rw is refl)
+pub goes_so : (g : GdbState) (asks : Bool) (way is : UnderWay) → g.going ≡ Some way → way ≡ is → asks ≡ false
+    → goes_further g is ≡ host_answered g asks
+goes_so g asks way is some same declined =
+    sym (ap (λ (o : Option UnderWay). goes_on_if g asks o) (some ∙ ap (λ (w : UnderWay). Some w) same) ∙ rw declined refl)
 
 -- a machine that is halted
 pub fault_ends : (g : GdbState) (own : Bool) (f : Fault) → own ≡ true → gdb_stop_shown g [] (reason.Killed f) ≡ fault_shown g own f
@@ -120,9 +126,9 @@ step_was_taken g why other is = sym (ap (λ (o : Option GdbStop). unless_taken o
 pub step_to_take : (g : GdbState) (other : GdbAnswered) → step_taken g ≡ None → other ≡ unless_taken (step_taken g) g other
 step_to_take g other is = sym (ap (λ (o : Option GdbStop). unless_taken o g other) is)
 
--- the byte 3 while a run is under way
-pub asked_stops : (g : GdbState) (goes : Going) → g.going ≡ Some goes → gdb_stop_shown g [] reason.Asked ≡ stop_asked g
-asked_stops g goes some = sym (ap (λ (o : Option Going). stops_if g o) some)
+-- the byte 3 while a run or a search is under way
+pub asked_stops : (g : GdbState) (way : UnderWay) → g.going ≡ Some way → gdb_stop_shown g [] reason.Asked ≡ stop_asked g
+asked_stops g way some = sym (ap (λ (o : Option UnderWay). stops_if g o) some)
 
 -- a run or a step begins
 pub goes_halted : (g there : GdbState) (goes : Going) (signal : Option ℕ) (halt : Stop) → there ≡ with_whole_budget g

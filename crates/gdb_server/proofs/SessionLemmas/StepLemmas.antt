@@ -12,7 +12,7 @@ use Rattle.gdb_machine.specs.declared.stops.GdbStop.TheVariants as reason
 use Rattle.gdb_machine.specs.declared.watches.SeenByte.{SeenByte}
 use Rattle.gdb_machine.specs.declared.watches.WatchedPlace.{WatchedPlace}
 use Rattle.gdb_packets.specs.declared.going.Going.{Going}
-use Rattle.gdb_server.specs.declared.session.stepping.StepAhead.{StepAhead}
+use Rattle.gdb_machine.specs.declared.step_ends.StepAhead.{StepAhead}
 use Rattle.profile.specs.declared.stop.Stop.{Stop}
 use Rattle.profile.specs.declared.stop.Stop.TheVariants as stop
 use Rattle.gdb_machine.specs.GdbBreaks.{is_among}

@@ -82,7 +82,7 @@ none_stored bytes at address = grind (arith, nat_tests)
 met : (g : GdbState) (range : ByteRange) (byte : ℕ) (bytes : List ℕ) (o : Option Fault)
     → put_fault g.debug.script.machine.store range.start (length (byte ∷ bytes)) ≡ o
     → AreBytesWhole g range (byte ∷ bytes)
-    (bytes_stored g (byte ∷ bytes) (ok_unless_fault o (script_with_bytes g.debug.script range.start (byte ∷ bytes))))
+    (bytes_stored g range.start (byte ∷ bytes) (ok_unless_fault o (script_with_bytes g.debug.script range.start (byte ∷ bytes))))
 met g range byte bytes None e = record {
   done = λ is address. refl;
   refused = λ other. absurd (other refl);
@@ -95,7 +95,7 @@ met g range byte bytes (Some f) e = record {
 }
 
 stored : (g : GdbState) (range : ByteRange) (bytes : List ℕ)
-    → AreBytesWhole g range bytes (bytes_stored g bytes (script_after_put g.debug.script range.start bytes))
+    → AreBytesWhole g range bytes (bytes_stored g range.start bytes (script_after_put g.debug.script range.start bytes))
 stored g range [] = record {
   done = λ is address. none_stored g.debug.script.machine.store.bytes.at range.start address;
   refused = λ other. absurd (other refl);
@@ -108,7 +108,7 @@ store_is_whole : (g : GdbState) (range : ByteRange) (bytes : List ℕ) → AreBy
 store_is_whole g range bytes = by (length bytes == range.count) refl
   where
     by : (b : Bool) → (length bytes == range.count) ≡ b
-        → AreBytesWhole g range bytes (if b then bytes_stored g bytes (script_after_put g.debug.script range.start bytes) else packet_reply g (codes "E16"))
+        → AreBytesWhole g range bytes (if b then bytes_stored g range.start bytes (script_after_put g.debug.script range.start bytes) else packet_reply g (codes "E16"))
     by true e = stored g range bytes
     by false e = record {
       done = λ is. absurd (not_ok (codes "E16") refl is);

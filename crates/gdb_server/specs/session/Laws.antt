@@ -1,21 +1,22 @@
 -- Laws of sessions with GDB, over their definitions alone.
 use Rattle.std.specs.Int.{from_le_bytes, w32}
-use Rattle.std.specs.Prelude.{◌≡◌, ◌+◌, ◌<◌, ℕ, false, List, length, codes, Some, None, Ok}
+use Rattle.std.specs.Prelude.{◌≡◌, ◌+◌, ◌<◌, ℕ, zero, suc, false, List, length, codes, Some, None, Ok}
 use Rattle.profile.specs.declared.stop.Stop.TheVariants as stop
 use Rattle.command_shell.specs.State.{ScriptState}
 use Rattle.gdb_machine.specs.declared.stops.GdbStop.TheVariants as reason
 use Rattle.gdb_machine.specs.Registers.{register_shown}
-use Rattle.gdb_packets.specs.Requests.{GdbRequest, SetRegister, StoreBytes, StorePairs}
+use Rattle.gdb_packets.specs.Requests.{ContinueBack, GdbRequest, HostAnswer, SetRegister, StoreBytes, StorePairs}
 use Rattle.gdb_packets.specs.declared.requests.ByteRange.{ByteRange}
 use Rattle.hex.specs.Hex.{decode_of, decode_sized}
 use Rattle.address_map.specs.Bytes.{with_bytes_at}
 use Rattle.arm_core.specs.State.{IsCore}
 use Rattle.debug_session.specs.Put.{put_fault}
 use Rattle.profile.specs.declared.fault.Fault.TheVariants.{OwnedWord}
+use Rattle.gdb_server.specs.session.Back.{back_end, back_to_end, steps_back}
 use Rattle.gdb_server.specs.session.Looks.{look_reply}
 use Rattle.gdb_server.specs.session.Requests.{gdb_answered}
 use Rattle.gdb_server.specs.session.Runs.{line_decoded}
-use Rattle.gdb_server.specs.session.Steps.{StepLooks, looked_steps, printed_before}
+use Rattle.gdb_server.specs.session.Steps.{StepLooks, is_other_list, looked_steps, printed_before}
 use Rattle.gdb_server.specs.session.State.{GdbAnswered, GdbState, packet_reply}
 use Rattle.command_shell_lines.specs.Requests.{request_of}
 use Rattle.debug_session.specs.Naming.{meant_request, naming_of, repeated_now}
@@ -89,3 +90,15 @@ GdbSlicesAreOneRun = (l : StepLooks) (s : ScriptState) (first more : ℕ) → (l
     reason.Ran stop.Budget
     → looked_steps l (first + more) s ≡ printed_before (looked_steps l first s).printed
     (looked_steps l more (looked_steps l first s).script)
+
+-- after so many answers of the other side's that the user doesn't want it to stop
+unfoldable pub after_answers : ℕ → GdbAnswered → GdbAnswered
+after_answers zero a = a
+after_answers (suc count) a = after_answers count (gdb_answered a.state (HostAnswer false))
+
+-- A search back in pieces comes to what one search comes to: where the user doesn't stop it, the machine goes back
+-- to that end of all which is met first on the way.
+abbrev pub GdbSearchesAreOneSearch : Type 0
+GdbSearchesAreOneSearch = (g : GdbState) (step : ℕ) → is_other_list g.libraries g.debug.script ≡ false
+    → steps_back g.debug.past ≡ suc step
+    → (count : ℕ) × (after_answers count (gdb_answered g ContinueBack) ≡ back_to_end g (back_end g))

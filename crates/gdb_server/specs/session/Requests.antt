@@ -1,10 +1,13 @@
 -- What each request does to a session with GDB, and what it is answered.
-use Rattle.std.specs.Prelude.{ℕ, List, codes, Option, Some, None}
+use Rattle.std.specs.Prelude.{ℕ, Bool, List, [], codes, Option, Some, None, if◌then◌else◌}
 use Rattle.gdb_packets.specs.Requests as request
 use Rattle.gdb_packets.specs.Requests.{GdbRequest}
 use Rattle.gdb_packets.specs.declared.requests.ByteRange.{ByteRange}
 use Rattle.gdb_packets.specs.declared.requests.PointKind.{PointKind}
 use Rattle.gdb_packets.specs.declared.requests.PointKind.TheVariants as point
+use Rattle.gdb_machine.specs.declared.back_ends.UnderWay.{UnderWay}
+use Rattle.gdb_machine.specs.declared.back_ends.UnderWay.TheVariants as under
+use Rattle.gdb_machine.specs.declared.stops.GdbStop.TheVariants as reason
 use Rattle.gdb_machine.specs.declared.watches.WatchKind.TheVariants as kind
 use Rattle.gdb_packets.specs.declared.going.Going.TheVariants as going
 use Rattle.gdb_server.specs.session.Back as back
@@ -43,6 +46,21 @@ gdb_change_shown g request.KillProgram = packet_reply g (codes "OK")
 gdb_change_shown g request.Detach = packet_reply (changes.at_session_end g) (codes "OK")
 gdb_change_shown g other = no_reply (changes.at_session_end g)
 
+-- The other side has answered: the run, or the search, goes on, unless the user wants it to stop.
+abbrev pub goes_further : GdbState → UnderWay → GdbAnswered
+goes_further g (under.Run goes) = runs.slice_shown g goes
+goes_further g (under.Search so_far) = back.search_shown g so_far
+
+abbrev pub unless_asked : GdbState → Bool → UnderWay → GdbAnswered
+unless_asked g asks way = if asks then runs.gdb_stop_shown g [] reason.Asked else goes_further g way
+
+abbrev pub goes_on_if : GdbState → Bool → Option UnderWay → GdbAnswered
+goes_on_if g asks None = no_reply g
+goes_on_if g asks (Some way) = unless_asked g asks way
+
+abbrev pub host_answered : GdbState → Bool → GdbAnswered
+host_answered g asks = goes_on_if g asks g.going
+
 -- a request that doesn't only look
 abbrev pub act_shown : GdbState → GdbRequest → GdbAnswered
 act_shown g request.Continue = runs.going_shown g going.On None
@@ -52,7 +70,7 @@ act_shown g (request.StepWith signal) = runs.going_shown g going.Once (Some sign
 act_shown g (request.StepRange places) = runs.going_shown g (going.Within places) None
 act_shown g request.StepBack = back.step_back_shown g
 act_shown g request.ContinueBack = back.continue_back_shown g
-act_shown g (request.HostAnswer asks) = runs.host_answered g asks
+act_shown g (request.HostAnswer asks) = host_answered g asks
 act_shown g (request.Line pairs) = runs.monitor_shown g pairs
 act_shown g request.RunProgram = runs.run_program_shown g
 act_shown g request.Restart = runs.restart_shown g

@@ -15,6 +15,8 @@ use Rattle.std.specs.Str.Lines.{lines}
 use Rattle.hex.specs.Hex.{decode_of}
 use Rattle.gdb_machine.specs.StepEnds.{halted_text, is_own_signal, last_stop, steps_further, stop_after_step, was_library}
 use Rattle.gdb_machine.specs.Stops.{stop_packet}
+use Rattle.gdb_machine.specs.declared.back_ends.UnderWay.{UnderWay}
+use Rattle.gdb_machine.specs.declared.back_ends.UnderWay.TheVariants as under
 use Rattle.gdb_machine.specs.declared.stops.GdbStop.{GdbStop}
 use Rattle.gdb_machine.specs.declared.stops.GdbStop.TheVariants as reason
 use Rattle.gdb_packets.specs.declared.going.Going.{Going}
@@ -70,10 +72,10 @@ gdb_stop_shown g printed why = stop_shown_with g (printed ++ user_text why g.deb
 abbrev pub slice_steps : ℕ
 slice_steps = 100000
 
--- a run is under way: `isatty` is a call of the other side's that it answers at once
-abbrev pub asking : GdbState → Going → List ℕ → GdbAnswered
-asking g goes printed = record {
-  state = record g { going = Some goes };
+-- a run or a search is under way: `isatty` is a call of the other side's that it answers at once
+abbrev pub asking : GdbState → UnderWay → List ℕ → GdbAnswered
+asking g way printed = record {
+  state = record g { going = Some way };
   reported = printed;
   reply = Some (codes "Fisatty,0");
 }
@@ -81,7 +83,7 @@ asking g goes printed = record {
 abbrev pub slice_done : GdbState → Going → StepsTaken → GdbAnswered
 slice_done g goes taken =
     if steps_further taken.stop && nat_lt 0 taken.script.left
-    then asking (with_steps_noted g taken.script) goes taken.printed
+    then asking (with_steps_noted g taken.script) (under.Run goes) taken.printed
     else gdb_stop_shown (with_steps_noted g taken.script) taken.printed taken.stop
 
 abbrev pub slice_shown : GdbState → Going → GdbAnswered
@@ -109,21 +111,10 @@ first_slice_shown g =
     if is_other_list g.libraries g.debug.script then gdb_stop_shown g [] reason.Library else (
     if has_break_due g then gdb_stop_shown g [] (break_here g) else slice_shown g going.On)
 
--- the other side has answered: the run goes on, unless the user wants it to stop
-abbrev pub unless_asked : GdbState → Bool → Going → GdbAnswered
-unless_asked g asks goes = if asks then gdb_stop_shown g [] reason.Asked else slice_shown g goes
-
-abbrev pub goes_on_if : GdbState → Bool → Option Going → GdbAnswered
-goes_on_if g asks None = no_reply g
-goes_on_if g asks (Some goes) = unless_asked g asks goes
-
-abbrev pub host_answered : GdbState → Bool → GdbAnswered
-host_answered g asks = goes_on_if g asks g.going
-
--- the byte 3 stops a run at once
-abbrev pub stops_if : GdbState → Option Going → GdbAnswered
+-- the byte 3 stops a run, or a search back, at once
+abbrev pub stops_if : GdbState → Option UnderWay → GdbAnswered
 stops_if g None = no_reply g
-stops_if g (Some goes) = gdb_stop_shown g [] reason.Asked
+stops_if g (Some way) = gdb_stop_shown g [] reason.Asked
 
 abbrev pub stop_asked : GdbState → GdbAnswered
 stop_asked g = stops_if g g.going

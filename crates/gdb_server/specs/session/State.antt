@@ -9,15 +9,15 @@ use Rattle.debug_session.specs.DebugChecksReportForm.TheVariants.{Answers}
 use Rattle.debug_session.specs.Meters.{silent_meter}
 use Rattle.debug_session.specs.declared.session.DebugSettings.{DebugSettings}
 use Rattle.gdb_machine.specs.Libraries.{library_lines}
+use Rattle.gdb_machine.specs.declared.back_ends.UnderWay.{UnderWay}
 use Rattle.gdb_machine.specs.declared.stops.GdbStop.{GdbStop}
 use Rattle.gdb_machine.specs.declared.stops.GdbStop.TheVariants as reason
 use Rattle.gdb_machine.specs.declared.watches.Watch.{Watch}
 use Rattle.gdb_server.specs.declared.session.session.GdbSettings.{GdbSettings}
-use Rattle.gdb_packets.specs.declared.going.Going.{Going}
 
 -- What the session was made with, the lines that a machine begins with, whether the program's end is stayed at, what
 -- a debugging script works on, GDB's watches, its breaks, the lines of the modules that GDB was told are there, how
--- many steps a run may take, what the run that is under way is for, if one is, why the program stands, and whether
+-- many steps a run may take, the run or the search that is under way, if one is, why the program stands, and whether
 -- GDB is gone.
 pub record GdbState : Type 0 where
   pub setting : DebugSettings
@@ -28,7 +28,7 @@ pub record GdbState : Type 0 where
   pub breaks : List ℕ
   pub libraries : List ℕ
   pub most : ℕ
-  pub going : Option Going
+  pub going : Option UnderWay
   pub stop : GdbStop
   pub has_ended : Bool
 

@@ -2,14 +2,11 @@
 -- struck, the machine itself stops, a break is reached, or what they are taken for.
 use Rattle.std.specs.Prelude.{ℕ, zero, suc, ◌==◌, not, ◌||◌, ◌&&◌, nat_le, nat_lt, min, Bool, true, false, List, [], ◌++◌, Option, Some, None, if◌then◌else◌}
 use Rattle.std.specs.Str.{bytes_eq}
-use Rattle.profile.specs.MemoryMap.{return_gate}
 use Rattle.profile.specs.declared.stop.Stop.TheVariants as stop
-use Rattle.address_map.specs.Bytes.{word_loaded}
-use Rattle.command_shell.specs.MachineState.{MachineState}
 use Rattle.command_shell.specs.Run.{Run}
 use Rattle.command_shell.specs.State.{ScriptState}
 use Rattle.command_shell.specs.Stepping.{script_run, script_after_run}
-use Rattle.gdb_machine.specs.StepEnds.{is_exit_ahead, is_interrupt, steps_further, struck_after}
+use Rattle.gdb_machine.specs.StepEnds.{is_exit_ahead, may_change_list, steps_further, struck_after}
 use Rattle.gdb_machine.specs.Watches.{first_changed, struck_place, watched_bytes}
 use Rattle.gdb_machine.specs.declared.stops.GdbStop.{GdbStop}
 use Rattle.gdb_machine.specs.declared.stops.GdbStop.TheVariants as reason
@@ -18,8 +15,7 @@ use Rattle.gdb_machine.specs.declared.watches.Watch.{Watch}
 use Rattle.gdb_machine.specs.declared.watches.WatchedPlace.{WatchedPlace}
 use Rattle.gdb_packets.specs.Going.{has_left}
 use Rattle.gdb_packets.specs.declared.going.Going.{Going}
-use Rattle.gdb_packets.specs.declared.going.Going.TheVariants as going
-use Rattle.gdb_server.specs.declared.session.stepping.StepAhead.{StepAhead}
+use Rattle.gdb_machine.specs.declared.step_ends.StepAhead.{StepAhead}
 use Rattle.gdb_machine.specs.GdbBreaks.{is_among}
 use Rattle.gdb_server.specs.session.State.{GdbState, script_libraries}
 
@@ -60,18 +56,7 @@ looks_at g goes seen = record {
   libraries = g.libraries;
 }
 
--- whether the next step begins at a software interrupt, or where module code goes back
-abbrev pub begins_call : MachineState → Bool
-begins_call m = m.cpu.pc == return_gate || is_interrupt (word_loaded m.store.bytes m.cpu.pc)
-
--- Whether the next step may change which modules are there. Only where a run is to go on GDB wants to know of
--- it at once.
-abbrev pub may_change_list : Going → MachineState → Bool
-may_change_list going.Once m = false
-may_change_list (going.Within places) m = false
-may_change_list going.On m = begins_call m
-
--- before a step, if there is one: whether it may change that, and where it strikes a watch by what it loads or
+-- before a step, if there is one: whether it may change which modules are there, and where it strikes a watch by what it loads or
 -- stores to
 abbrev pub struck_ahead : List Watch → ScriptState → Option WatchedPlace
 struck_ahead watches s =
@@ -79,7 +64,7 @@ struck_ahead watches s =
 
 abbrev pub ahead_of : Going → List Watch → ScriptState → StepAhead
 ahead_of goes watches s =
-    record { may_change = may_change_list goes s.machine; struck = struck_ahead watches s }
+    record { may_change = may_change_list goes s.machine.cpu s.machine.store.bytes; struck = struck_ahead watches s }
 
 -- whether other modules are there than GDB was told of last
 abbrev pub is_other_list : List ℕ → ScriptState → Bool

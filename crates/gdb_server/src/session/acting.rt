@@ -6,12 +6,14 @@ ghost use Rattle.gdb_packets.specs.Requests.{gdb_request};
 
 use crate::session::session::{GdbAnswer, GdbSession};
 use command_shell::RunError;
+use gdb_machine::{GdbStop, UnderWay};
 use gdb_packets::{Going, Request};
 use image_loader::Images;
+use profile::text_sink::TextSink;
 
 impl GdbSession {
     ghost use Rattle.image_loader.specs.Entries.{Entry};
-    ghost use Rattle.gdb_server.specs.session.Requests.{act_shown, gdb_change_shown};
+    ghost use Rattle.gdb_server.specs.session.Requests.{act_shown, gdb_change_shown, host_answered};
     ghost use Rattle.gdb_server.specs.session.Session.{gdb_state, IsGdbAnswered};
     ghost use Rattle.gdb_server.specs.session.State.{GdbAnswered};
 
@@ -44,6 +46,24 @@ impl GdbSession {
         }
     }
 
+    // Goes on with a run or a search, once the other side has answered, unless it is to stop.
+    fn host_answered(&mut self, images: &mut Images, asks: bool) -> Result<GdbAnswer, RunError>
+        ensures reported { IfOk result (λ answer. IsGdbAnswered (gdb_state self.new images.new) answer
+            (host_answered (gdb_state self.old images.old) asks)) }
+        ensures errors { IfErr result IsLineError }
+    {
+        let Some(going) = self.going else {
+            return Ok(self.without_reply());
+        };
+        if asks {
+            return self.stopped(TextSink::new(self.alloc), GdbStop::Asked);
+        }
+        match going {
+            UnderWay::Run(going) => self.slice(images, going),
+            UnderWay::Search(so_far) => self.search_on(images, so_far),
+        }
+    }
+
     // The packet that reports a change, if one does.
     fn shown_change(&self, reply: Option<&'static [u8]>) -> Result<GdbAnswer, RunError>
         ensures reported { IfOk result (λ answer. answer.reported.items ≡ []) }
@@ -69,7 +89,7 @@ impl GdbSession {
         match request {
             Request::SetRegister(number, pairs) => Ok(Some(self.set_register(*number, pairs)?)),
             Request::StorePairs(range, pairs) => Ok(Some(self.store_pairs(*range, pairs)?)),
-            Request::StoreBytes(range, bytes) => Ok(Some(self.store(*range, bytes))),
+            Request::StoreBytes(range, bytes) => Ok(Some(self.store(*range, bytes)?)),
             Request::AddPoint(kind, range) => Ok(Some(self.add_point(*kind, *range))),
             Request::RemovePoint(kind, range) => {
                 self.remove_point(*kind, *range);

@@ -1,23 +1,25 @@
-//! Requests that go back: a step, and as far as something stops it.
+//! Requests that go back: a step, and as far as something stops it. What stops it is looked for in
+//! pieces of the past: after each the other side is asked whether the user wants the search to stop.
 
-ghost use Rattle.std.specs.Prelude.{◌≡◌, List, IfErr, IfOk, OnOk};
+ghost use Rattle.std.specs.Prelude.{◌≡◌, ◌<◌, ◌+◌, ◌^◌, List, IfErr, IfOk, OnOk};
 ghost use Rattle.command_shell.specs.Error.{IsLineError};
-ghost use Rattle.debug_session.specs.Sought.TheVariants as sought;
-ghost use Rattle.gdb_server.specs.session.Back.{break_found as break_found_shown};
+ghost use Rattle.gdb_server.specs.session.Back.{end_found, sought_of};
 
 use crate::session::session::{GdbAnswer, GdbSession};
 use command_shell::RunError;
 use debug_session::{PastFound, Sought};
-use gdb_machine::{BackEnd, GdbStop, SeenByte, changed_end, first_changed, stood_end};
+use gdb_machine::{
+    BackEnd, BackGoal, BackSearch, GdbStop, SeenByte, UnderWay, all_goals, first_changed,
+    piece_before,
+};
 use image_loader::Images;
 use profile::text_sink::TextSink;
+use std::alloc::AllocError;
 
 impl GdbSession {
-    ghost use Rattle.debug_session.specs.PastAnswers.{last_in_past};
-    ghost use Rattle.gdb_machine.specs.BackEnds.{first_met, the_begin};
     ghost use Rattle.gdb_machine.specs.Watches.{first_changed};
-    ghost use Rattle.gdb_server.specs.session.Back.{back_end, changed_or, continue_back_shown, end_at_byte, ends_of_breaks, ends_of_bytes};
-    ghost use Rattle.gdb_server.specs.session.Back.{gone_back_to, step_back_shown, stepped_back, steps_back};
+    ghost use Rattle.gdb_server.specs.session.Back.{back_goals, changed_or, continue_back_shown, gone_back_to, search_further};
+    ghost use Rattle.gdb_server.specs.session.Back.{search_shown, step_back_shown, stepped_back, steps_back};
     ghost use Rattle.gdb_server.specs.session.Runs.{stop_here};
     ghost use Rattle.gdb_server.specs.session.Session.{gdb_state, IsGdbAnswered};
     ghost use Rattle.image_loader.specs.Entries.{Entry};
@@ -110,86 +112,81 @@ impl GdbSession {
         if steps == 0 {
             return self.stopped(TextSink::new(self.alloc), GdbStop::Begin);
         }
-        let end = self.back_end(images)?;
-        self.go_back(images, end.step)?;
-        self.stopped(TextSink::new(self.alloc), end.why)
+        let so_far = BackSearch::begin(self.debug.past.acts().len());
+        self.search_on(images, so_far)
     }
 
-    // Where going back ends.
-    fn back_end(&self, images: &mut Images) -> Result<BackEnd, RunError>
-        ensures found { IfOk result (λ end. end
-            ≡ back_end (gdb_state self.now images.old)) }
-        ensures images { OnOk result (images.new ≡ images.old) }
+    /// Looks for where going back ends in a piece of the past, and asks the other side then; where all
+    /// goals were looked for, goes back.
+    pub(crate) fn search_on(
+        &mut self,
+        images: &mut Images,
+        so_far: BackSearch,
+    ) -> Result<GdbAnswer, RunError>
+        ensures reported { IfOk result (λ answer. IsGdbAnswered (gdb_state self.new images.new) answer
+            (search_shown (gdb_state self.old images.old) so_far)) }
         ensures errors { IfErr result IsLineError }
+    {
+        let goals = self.back_goals()?;
+        if so_far.goal >= goals.len() {
+            self.go_back(images, so_far.end.step)?;
+            return self.stopped(TextSink::new(self.alloc), so_far.end.why);
+        }
+        let further = self.search_further(images, so_far, goals[so_far.goal])?;
+        self.ask(TextSink::new(self.alloc), UnderWay::Search(further))
+    }
+
+    // What going back may end at.
+    fn back_goals(&self) -> Result<Vec<BackGoal>, AllocError>
+        ensures { (images : List Entry) → IfOk result (λ goals. goals.items
+            ≡ back_goals (gdb_state self.now images)) }
     {
         let map = self.debug.session.machine().memory();
         let seen = self.watches.seen_bytes(self.alloc, map)?;
-        let end = self.end_at_bytes(images, seen.as_slice())?;
-        self.end_at_breaks(images, end)
+        all_goals(self.alloc, seen.as_slice(), self.breaks.places())
     }
 
-    // Where a byte has changed last that is watched, or the beginning.
-    fn end_at_bytes(&self, images: &mut Images, seen: &[SeenByte]) -> Result<BackEnd, RunError>
-        ensures found { IfOk result (λ end. end ≡ first_met the_begin
-            (ends_of_bytes (gdb_state self.now images.old) seen.now)) }
+    // The search behind one piece of the past, in which a goal is looked for.
+    fn search_further(
+        &self,
+        images: &mut Images,
+        so_far: BackSearch,
+        goal: BackGoal,
+    ) -> Result<BackSearch, RunError>
+        requires { so_far.goal + 1 < 2 ^ 64 }
+        ensures found { IfOk result (λ further. further
+            ≡ search_further (gdb_state self.now images.old) so_far goal) }
         ensures images { OnOk result (images.new ≡ images.old) }
         ensures errors { IfErr result IsLineError }
     {
-        let mut end = BackEnd::begin();
-        for byte in seen {
-            let other = self.end_at_byte(images, byte)?;
-            end = end.or_first(other);
-        }
-        Ok(end)
-    }
-
-    // Where a byte has changed last, or the beginning.
-    fn end_at_byte(&self, images: &mut Images, byte: &SeenByte) -> Result<BackEnd, RunError>
-        ensures found { IfOk result (λ end. end
-            ≡ end_at_byte (gdb_state self.now images.old) byte.now) }
-        ensures images { OnOk result (images.new ≡ images.old) }
-        ensures errors { IfErr result IsLineError }
-    {
-        match self.last_time(images, Sought::Byte(byte.place.address))? {
-            Some(found) => Ok(changed_end(found.step, found.is_step, byte.place)),
-            None => Ok(BackEnd::begin()),
-        }
-    }
-
-    // Where the program stood at a break last, unless that is met after another end.
-    fn end_at_breaks(&self, images: &mut Images, first: BackEnd) -> Result<BackEnd, RunError>
-        ensures found { IfOk result (λ end. end ≡ first_met first (ends_of_breaks
-            (gdb_state self.now images.old) self.now.breaks)) }
-        ensures images { OnOk result (images.new ≡ images.old) }
-        ensures errors { IfErr result IsLineError }
-    {
-        let mut end = first;
-        for at in self.breaks.places() {
-            let found = self.last_time(images, Sought::Stood(*at))?;
-            end = end.or_first(break_found(*at, found));
-        }
-        Ok(end)
-    }
-
-    // The last time before now that something was so.
-    fn last_time(&self, images: &mut Images, sought: Sought) -> Result<Option<PastFound>, RunError>
-        ensures found { IfOk result (λ found. found ≡ last_in_past self.now.debug.setting.config
-            (gdb_state self.now images.old).debug.script (gdb_state self.now images.old).debug.past
-            sought) }
-        ensures images { OnOk result (images.new ≡ images.old) }
-        ensures errors { IfErr result IsLineError }
-    {
-        self.debug
-            .past
-            .last(self.alloc, images, self.debug.setting.config, sought)
+        let acts = self.debug.past.acts().len();
+        let piece = piece_before(so_far.until, acts);
+        let found = self.debug.past.last_among(
+            self.alloc,
+            images,
+            self.debug.setting.config,
+            sought_of(goal),
+            piece.from,
+            piece.until,
+        )?;
+        Ok(so_far.after(piece.from, acts, end_found(goal, found)))
     }
 }
 
-fn break_found(address: u32, found: Option<PastFound>) -> BackEnd
-    ensures { result ≡ break_found_shown address found }
+fn sought_of(goal: BackGoal) -> Sought
+    ensures { result ≡ sought_of goal }
+{
+    match goal {
+        BackGoal::Byte(place) => Sought::Byte(place.address),
+        BackGoal::Break(address) => Sought::Stood(address),
+    }
+}
+
+fn end_found(goal: BackGoal, found: Option<PastFound>) -> Option<BackEnd>
+    ensures { result ≡ end_found goal found }
 {
     match found {
-        Some(found) => stood_end(found.step, address),
-        None => BackEnd::begin(),
+        Some(found) => Some(goal.end(found.step, found.is_step)),
+        None => None,
     }
 }

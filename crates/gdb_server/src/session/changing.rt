@@ -86,7 +86,7 @@ impl GdbSession {
         ensures errors { IfErr result IsLineError }
     {
         match decoded(self.alloc, pairs)? {
-            Some(bytes) => Ok(self.store(range, bytes.as_slice())),
+            Some(bytes) => Ok(self.store(range, bytes.as_slice())?),
             None => Ok(b"E16"),
         }
     }

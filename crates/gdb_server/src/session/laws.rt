@@ -1,6 +1,6 @@
 //! Laws of sessions with GDB, over their definitions alone.
 
-ghost use Rattle.gdb_server.specs.session.Laws.{GdbLookingChangesNothing, GdbRegistersAreRead, GdbSlicesAreOneRun, GdbWritesAreWhole, LookingLinesLeaveTheMachine};
+ghost use Rattle.gdb_server.specs.session.Laws.{GdbLookingChangesNothing, GdbRegistersAreRead, GdbSearchesAreOneSearch, GdbSlicesAreOneRun, GdbWritesAreWhole, LookingLinesLeaveTheMachine};
 
 /// A request that only looks leaves the session as it is, and is answered with the packet that shows
 /// what is so.
@@ -29,4 +29,10 @@ pub fn writes_are_whole()
 /// A run that is taken in slices comes to what one run of all its steps comes to.
 pub fn slices_are_one_run()
     ensures { GdbSlicesAreOneRun }
+{}
+
+/// Where going back ends is looked for in pieces of the past. Unless the user stops that, it comes to
+/// what one search of the whole comes to.
+pub fn searches_are_one_search()
+    ensures { GdbSearchesAreOneSearch }
 {}

@@ -1,17 +1,16 @@
 //! Requests that take steps. A run goes in slices: after each the other side is asked whether the user
 //! wants the program to stop, by a call of GDB's that any GDB answers at once.
 
-ghost use Rattle.std.specs.Prelude.{◌≡◌, ◌++◌, ◌&&◌, nat_lt, List, IfErr, IfOk, codes};
+ghost use Rattle.std.specs.Prelude.{◌≡◌, ◌++◌, List, IfErr, IfOk, codes};
 ghost use Rattle.command_shell.specs.Answers.{stop_text};
 ghost use Rattle.command_shell.specs.Error.{IsLineError};
 ghost use Rattle.profile.specs.Output.{Writes};
 ghost use Rattle.profile.specs.text_sink.TextSink.{sink_text_of};
-ghost use Rattle.gdb_machine.specs.StepEnds.{steps_further as goes_on_shown};
 ghost use Rattle.gdb_server.specs.session.Runs.{user_text};
 
 use crate::session::session::{GdbAnswer, GdbSession};
 use command_shell::{RunError, print_stop};
-use gdb_machine::{GdbStop, goes_on, library_lines, stepped, stop_packet, was_library};
+use gdb_machine::{GdbStop, UnderWay, library_lines, may_go_on, stepped, stop_packet, was_library};
 use gdb_packets::Going;
 use image_loader::Images;
 use profile::text_sink::TextSink;
@@ -26,7 +25,7 @@ const ASK: &[u8] = b"Fisatty,0";
 impl GdbSession {
     ghost use Rattle.image_loader.specs.Entries.{Entry};
     ghost use Rattle.gdb_server.specs.session.Runs.{asking, first_slice_shown, gdb_step_shown, gdb_stop_shown};
-    ghost use Rattle.gdb_server.specs.session.Runs.{has_break_due, host_answered, slice_shown, stands_at_break};
+    ghost use Rattle.gdb_server.specs.session.Runs.{has_break_due, slice_shown, stands_at_break};
     ghost use Rattle.gdb_server.specs.session.Runs.{stop_asked, stop_shown_with};
     ghost use Rattle.gdb_server.specs.session.Session.{gdb_state, IsGdbAnswered};
 
@@ -62,26 +61,7 @@ impl GdbSession {
         self.debug.session.breaks().has(at) || self.breaks.has(at)
     }
 
-    /// Goes on with a run, once the other side has answered, unless the user wants it to stop.
-    pub(crate) fn host_answered(
-        &mut self,
-        images: &Images,
-        asks: bool,
-    ) -> Result<GdbAnswer, RunError>
-        ensures reported { IfOk result (λ answer. IsGdbAnswered (gdb_state self.new images.now) answer
-            (host_answered (gdb_state self.old images.now) asks)) }
-        ensures errors { IfErr result IsLineError }
-    {
-        let Some(going) = self.going else {
-            return Ok(self.without_reply());
-        };
-        if asks {
-            return self.stopped(TextSink::new(self.alloc), GdbStop::Asked);
-        }
-        self.slice(images, going)
-    }
-
-    /// Stops a run, if one is under way.
+    /// Stops a run or a search, if one is under way.
     pub fn ask_to_stop(&mut self) -> Result<GdbAnswer, RunError>
         ensures reported { (images : List Entry) → IfOk result (λ answer.
             IsGdbAnswered (gdb_state self.new images) answer
@@ -103,14 +83,14 @@ impl GdbSession {
         let mut reported = TextSink::new(self.alloc);
         let stop = self.take_steps(images, &mut reported, going, SLICE)?;
         if may_go_on(stop, self.debug.session.left()) {
-            self.ask(reported, going)
+            self.ask(reported, UnderWay::Run(going))
         } else {
             self.stopped(reported, stop)
         }
     }
 
-    // The run is under way, and the other side is asked.
-    fn ask(&mut self, reported: TextSink, going: Going) -> Result<GdbAnswer, RunError>
+    /// The run or the search is under way, and the other side is asked.
+    pub(crate) fn ask(&mut self, reported: TextSink, going: UnderWay) -> Result<GdbAnswer, RunError>
         ensures reported { (images : List Entry) → IfOk result (λ answer.
             IsGdbAnswered (gdb_state self.new images) answer
             (asking (gdb_state self.old images) going (sink_text_of reported))) }
@@ -174,13 +154,6 @@ impl GdbSession {
             reply: Some(reply),
         })
     }
-}
-
-// Whether there may be another step of the budget.
-fn may_go_on(stop: GdbStop, left: u64) -> bool
-    ensures { result ≡ (goes_on_shown stop && nat_lt 0 left) }
-{
-    goes_on(stop) && left > 0
 }
 
 // `rosm: ` and the stop line of a fault, or where the budget is used up.

@@ -6,8 +6,8 @@ ghost use Rattle.gdb_server.specs.session.State.{debug_settings, gdb_start};
 
 use command_shell::RunError;
 use debug_session::{DebugSession, DebugSettings, ReportForm, RunMeter};
-use gdb_machine::{GdbBreaks, GdbStop, Watches};
-use gdb_packets::{Going, Request};
+use gdb_machine::{GdbBreaks, GdbStop, UnderWay, Watches};
+use gdb_packets::Request;
 use image_loader::Images;
 use profile::{Config, Stop};
 use std::alloc::{AllocError, Global};
@@ -42,8 +42,8 @@ pub struct GdbSession {
     pub(crate) libraries: Vec<u8>,
     pub(crate) most: u64,
     pub(crate) stays: bool,
-    // What the run that is under way is for.
-    pub(crate) going: Option<Going>,
+    // The run or the search that is under way.
+    pub(crate) going: Option<UnderWay>,
     pub(crate) stop: GdbStop,
     pub(crate) has_ended: bool,
 }
@@ -105,7 +105,7 @@ impl GdbSession {
         self.debug.session.last()
     }
 
-    /// Whether a run is under way.
+    /// Whether a run or a search is under way.
     pub fn is_running(&self) -> bool
         ensures { (images : List Entry) → result ≡ is_some (gdb_state self.now images).going }
     {

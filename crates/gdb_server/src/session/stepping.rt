@@ -2,31 +2,20 @@
 
 ghost use Rattle.std.specs.Prelude.{◌≡◌, List, IfErr, IfOk, OnOk};
 ghost use Rattle.command_shell.specs.Error.{IsLineError};
-ghost use Rattle.command_shell.specs.GuestState.{state_of};
 ghost use Rattle.profile.specs.text_sink.TextSink.{sink_text_of};
-ghost use Rattle.gdb_server.specs.session.Steps.{begins_call, may_change_list};
 
 use crate::session::session::{GDB_LINE, GdbSession};
-use command_shell::{Machine, RunError};
+use command_shell::RunError;
 use debug_session::is_faulted;
 use gdb_machine::{
-    GdbStop, SeenByte, WatchedPlace, first_changed, goes_on, is_exit_ahead, is_interrupt,
-    library_lines, struck_after,
+    GdbStop, SeenByte, StepAhead, WatchedPlace, first_changed, goes_on, is_exit_ahead,
+    library_lines, may_change_list, struck_after,
 };
 use gdb_packets::{Going, has_left};
 use image_loader::Images;
 use profile::Stop;
-use profile::memory_map::RETURN_GATE;
 use profile::text_sink::TextSink;
 use std::alloc::AllocError;
-
-/// What is known before a step: whether it may change which modules are there, and where its instruction
-/// strikes a watch by what it loads or stores to.
-#[derive(Clone, Copy)]
-pub(crate) struct StepAhead {
-    may_change: bool,
-    struck: Option<WatchedPlace>,
-}
 
 impl GdbSession {
     ghost use Rattle.image_loader.specs.Entries.{Entry};
@@ -101,8 +90,9 @@ impl GdbSession {
         ensures { (images : List Entry) → result ≡ ahead_of going (gdb_state self.now images).watches
             (gdb_state self.now images).debug.script }
     {
+        let machine = self.debug.session.machine();
         StepAhead {
-            may_change: may_change_list(going, self.debug.session.machine()),
+            may_change: may_change_list(going, machine.cpu(), machine.memory()),
             struck: self.struck_ahead(),
         }
     }
@@ -187,22 +177,4 @@ impl GdbSession {
         let now = library_lines(self.alloc, self.debug.session.machine().instances())?;
         Ok(now.as_slice() != self.libraries.as_slice())
     }
-}
-
-// Whether the next step may change which modules are there, where GDB wants to know of it at once.
-fn may_change_list(going: Going, machine: &Machine) -> bool
-    ensures { result ≡ may_change_list going (state_of machine.now.guest) }
-{
-    match going {
-        Going::On => begins_call(machine),
-        Going::Once | Going::Within(_) => false,
-    }
-}
-
-// Whether the next step begins at a software interrupt, or where module code goes back.
-fn begins_call(machine: &Machine) -> bool
-    ensures { result ≡ begins_call (state_of machine.now.guest) }
-{
-    let at = machine.cpu().pc();
-    at == RETURN_GATE || is_interrupt(machine.memory().load_word(at))
 }

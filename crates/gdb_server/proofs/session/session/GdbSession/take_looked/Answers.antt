@@ -5,7 +5,7 @@ use Rattle.gdb_machine.specs.declared.stops.GdbStop.TheVariants as reason
 use Rattle.profile.specs.text_sink.TextSink.{sink_text_of}
 use Rattle.gdb_server.specs.session.Session.{gdb_state}
 use Rattle.gdb_server.specs.session.State.{GdbState}
-use Rattle.gdb_server.specs.declared.session.stepping.StepAhead.{StepAhead}
+use Rattle.gdb_machine.specs.declared.step_ends.StepAhead.{StepAhead}
 use Rattle.gdb_server.specs.session.Steps.{StepLooks, ahead_of, end_of_step, looks_at}
 use Rattle.gdb_server.proofs.SessionLemmas.StepLemmas.{ends_here, ends_there, goes_further, same_looks}
 use Rattle.gdb_server.proofs.session.session.GdbSession.take_looked.Goals as goal
