@@ -6,12 +6,10 @@ print value
 reverse-stepi
 print value
 reverse-stepi
-print value
 stepi
 print value
 delete
-watch value
+watch -location value
 set var value = 7
 reverse-continue
 print value
-continue
