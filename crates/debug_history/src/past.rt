@@ -284,7 +284,8 @@ fn split_at(alloc: Global, acts: &mut Vec<Act>, step: u64) -> Result<usize, Allo
     if cut.left == 0 {
         return Ok(cut.index);
     }
-    let act = &acts[cut.index];
+    let items = acts.as_slice();
+    let act = &items[cut.index];
     let first = act.of_count(alloc, cut.left)?;
     let rest = act.of_count(alloc, act.deed.steps().saturating_sub(cut.left))?;
     acts.insert(cut.index, first)?;
