@@ -1,13 +1,12 @@
 -- What the acts show one after another is what all of them show.
-use Rattle.std.proofs.Common.{◌≡◌, ◌<◌, ◌≤◌, ◌+◌, ◌-◌, ◌++◌, ◌==◌, ◌∙◌, ℕ, Bool, List, [], length, ap, arith, refl, sym}
+use Rattle.std.proofs.Common.{◌≡◌, ◌<◌, ◌≤◌, ◌-◌, ◌==◌, ◌∙◌, ℕ, List, length, ap, arith}
 use Rattle.std.specs.Prelude.{vec_len}
-use Rattle.debug_history.specs.Acts.{PastMoment, count_if, fresh_moment, moment_of_script, steps_of_deed}
+use Rattle.debug_history.specs.Acts.{moment_of_script}
 use Rattle.debug_history.specs.Noted.{is_faulted}
 use Rattle.debug_history.specs.declared.act.Act.{Act}
 use Rattle.debug_history.proofs.AgainLemmas.{beside_at, beside_both, beside_itself, beside_same}
 use Rattle.debug_tables.specs.run_meter.Session.{script_state}
-use Rattle.debug_tables.specs.run_meter.State.{ScriptState, script_start_state}
-use Rattle.debug_session.specs.LastSteps.{last_steps_text, text_of_acts, text_or_refused}
+use Rattle.debug_tables.specs.run_meter.State.{script_start_state}
 use Rattle.debug_session.specs.Session.{debug_state}
 use Rattle.debug_session.proofs.ShownStepsLemmas.{byte_if, none_to_show, some_to_show, text_begins, text_behind, text_whole}
 use Rattle.debug_session.proofs.session.DebugSession.last_steps.Goals as goal

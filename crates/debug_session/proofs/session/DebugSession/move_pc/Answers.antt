@@ -1,5 +1,11 @@
 -- By whether a fault has halted the machine.
-use Rattle.std.proofs.Common.{Option, subst}
+use Rattle.std.proofs.Common.{◌++◌, ◌∙◌, ℕ, List, Option, ap, subst}
+use Rattle.std.specs.Option.{option_map}
+use Rattle.arm_core.specs.State.{State}
+use Rattle.debug_modes.specs.expectations.Halted.{halted_at_text, halting_fault}
+use Rattle.debug_tables.specs.run_meter.GuestState.{state_of}
+use Rattle.debug_tables.specs.run_meter.MachineState.{stop_of}
+use Rattle.debug_tables.specs.run_meter.Value.{MachineValue}
 use Rattle.profile.specs.declared.fault.Fault.{Fault}
 use Rattle.debug_tables.specs.run_meter.Memory.{script_at}
 use Rattle.debug_history.specs.declared.act.PastDeed.TheVariants.{Place}
@@ -20,14 +26,19 @@ returns-in_ok-set_pc-in-None-clause-reported g c images =
     (changed_silently held now d c.args.number (Place c.args.address) (script_at d.script c.args.address)
     (c.in_ok-set_pc-in-None.ensures.reported images))
 
-pub returns-in-Some-in-Ok-clause-reported : goal.returns-in-Some-in-Ok-clause-reported
-returns-in-Some-in-Ok-clause-reported g c images =
+pub returns-in_ok-view-in-Ok-clause-reported : goal.returns-in_ok-view-in-Ok-clause-reported
+returns-in_ok-view-in-Ok-clause-reported g c images =
     let d = debug_state c.args.self.now images in
     let before = g.W.Sink.contents c.args.sink.now in
     let after = g.W.Sink.contents c.view.new.sink in
     let now = debug_state c.view.new.self images in
     let some = c.in-Some.ensures ∙ ap halting_fault (c.stop.ensures.halt ∙ ap (λ (m : MachineValue). option_map stop_of m.guest.halt) c.machine.ensures) in
+    let at = c.pc.ensures.value ∙ ap (λ (cpu : State). cpu.pc)
+    (c.cpu.ensures ∙ ap (λ (m : MachineValue). (state_of m.guest).cpu) c.machine-2.ensures) in
+    let said = c.into_bytes.ensures ∙ c.in-Ok.ensures.text
+    ∙ ap (λ (xs : List ℕ). xs ++ halted_at_text c.in-Some.fault c.pc.result) c.new-text.ensures
+    ∙ ap (halted_at_text c.in-Some.fault) at in
     subst (λ (o : Option Fault). IsDebugged before after now (set_pc_by o c.args.self.now.setting d c.args.number c.args.address))
     some
-    (view_of_text before after now d c.args.self.now.setting c.into_bytes.result.items _ (hole)
-    (c.in_ok-view.ensures.reported images))
+    (view_of_text before after now d c.args.self.now.setting c.into_bytes.result.items _ said
+    (c.in_ok-view-in-Ok.ensures.reported images))

@@ -1,5 +1,5 @@
 -- The machine is made anew, and its past goes on or begins.
-use Rattle.std.proofs.Common.{◌≡◌, ◌∙◌, Bool, true, false, sym, ap}
+use Rattle.std.proofs.Common.{◌∙◌, refl, sym}
 use Rattle.debug_session.specs.Session.{debug_state}
 use Rattle.debug_session.proofs.OwnLemmas.{begun_anew, gone_on_anew, view_after}
 use Rattle.debug_session.proofs.session.DebugSession.reset.Goals as goal

@@ -1,14 +1,9 @@
-use Rattle.std.proofs.Common.{◌-◌, ◌∙◌, ◌≡◌, ℕ, Option, List, ap, subst, sym}
+use Rattle.std.proofs.Common.{◌-◌, ◌∙◌, ◌≡◌, ℕ, Option, ap, subst}
 use Rattle.debug_history.specs.Noted.{past_after_stepping, steps_before}
-use Rattle.debug_history.specs.declared.noting.StepsBefore.{StepsBefore}
-use Rattle.debug_labels.specs.Labels.{ImageLabels}
-use Rattle.debug_tables.specs.counts.Counts.{steps_counted}
 use Rattle.debug_tables.specs.run_meter.Session.{script_state}
 use Rattle.debug_tables.specs.run_meter.State.{ScriptState}
 use Rattle.debug_lines.specs.SteppingRequests.{stepping_request_of}
-use Rattle.debug_modes.specs.declared.modes.DebugModes.{DebugModes}
 use Rattle.debug_runs.specs.Lines.{stepping_answer}
-use Rattle.debug_runs.specs.Places.{places_of_line}
 use Rattle.debug_session.specs.Stepping.{modes_after, note_of, stepping_in_modes}
 use Rattle.debug_session.specs.DebugScript.{stepping_answer_by}
 use Rattle.debug_session.specs.DebugState.{IsDebugged}

@@ -1,5 +1,5 @@
 -- The bytes are written or refused.
-use Rattle.std.proofs.Common.{ℕ, List, ap, subst, ◌∙◌}
+use Rattle.std.proofs.Common.{ℕ, List, ap, ◌∙◌}
 use Rattle.debug_history.specs.Noted.{past_with_deed}
 use Rattle.debug_history.specs.declared.act.PastDeed.TheVariants.{Bytes}
 use Rattle.debug_tables.specs.byte_writes.Put.{script_after_put}
