@@ -4,8 +4,8 @@ use Rattle.debug_session.specs.Session.{debug_state}
 use Rattle.debug_session.proofs.OwnLemmas.{begun_anew, gone_on_anew, view_after}
 use Rattle.debug_session.proofs.session.DebugSession.reset.Goals as goal
 
-pub returns-in_ok-view-clause-reported : goal.returns-in_ok-view-clause-reported
-returns-in_ok-view-clause-reported g c images =
+pub returns-then-not-is_kept-clause-reported : goal.returns-then-not-is_kept-clause-reported
+returns-then-not-is_kept-clause-reported g c images =
     let old = c.args.self.now in
     view_after _ _ _ (debug_state c.start_anew.new.self images) _ c.start_anew.new.self.setting old.setting
     c.in_ok-text.text.items _ c.in_ok-start_anew.ensures.setting

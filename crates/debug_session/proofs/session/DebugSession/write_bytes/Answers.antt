@@ -9,18 +9,18 @@ use Rattle.debug_session.specs.Session.{debug_state}
 use Rattle.debug_session.proofs.SteppingLemmas.{bytes_ok, bytes_refused}
 use Rattle.debug_session.proofs.session.DebugSession.write_bytes.Goals as goal
 
-pub returns-in-Ok-clause-reported : goal.returns-in-Ok-clause-reported
-returns-in-Ok-clause-reported g c images =
+pub returns-in_ok-view-in-Ok-clause-reported : goal.returns-in_ok-view-in-Ok-clause-reported
+returns-in_ok-view-in-Ok-clause-reported g c images =
     let old = c.args.self.now in
-    bytes_ok _ _ old.setting (debug_state old images) (debug_state c.view.new.self images) c.args.number c.args.address c.args.bytes.now
+    bytes_ok _ _ old.setting (debug_state old images) (debug_state c.view-in-Ok.new.self images) c.args.number c.args.address c.args.bytes.now
     c.args.done.items (script_state old.session images) (script_state c.put_bytes.new.session images) c.put.new.self
     (script_after_put (script_state old.session images) c.args.address c.args.bytes.now) c.in-Ok.field-0
     (c.in-Ok.ensures images)
     (c.in_ok-put.ensures ∙ ap (λ (bytes : List ℕ). past_with_deed old.past c.args.number (Bytes c.args.address bytes)) c.in_ok-kept.ensures)
     (c.in_ok-view-in-Ok.ensures.reported images)
 
-pub returns-clause-reported : goal.returns-clause-reported
-returns-clause-reported g c images =
+pub returns-in_ok-view-in-Err-clause-reported : goal.returns-in_ok-view-in-Err-clause-reported
+returns-in_ok-view-in-Err-clause-reported g c images =
     let old = c.args.self.now in
     bytes_refused _ _ old.setting (debug_state old images) (debug_state c.view-in-Err.new.self images) c.args.number c.args.address
     c.args.bytes.now c.args.done.items (script_state c.put_bytes.new.session images)
