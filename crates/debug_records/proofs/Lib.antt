@@ -2,6 +2,7 @@
 
 pub mod AnsweredLemmas
 pub mod HeadLemmas
+pub mod MomentLemmas
 pub mod RecordedLines
 pub mod RecordLemmas
 pub use Rattle.debug_session.proofs.FailLemmas

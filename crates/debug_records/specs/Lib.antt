@@ -4,8 +4,10 @@
 pub mod AnswerHeads
 pub mod AnsweredLines
 pub mod LineRecords
+pub mod Moments
 pub mod Recording
 pub mod Records
+pub mod Taking
 pub use Rattle.debug_session.specs.DebugChecksReportForm
 pub use Rattle.debug_session.specs.DebugScript
 pub use Rattle.debug_session.specs.DebugState

@@ -1,1 +1,2 @@
--- The proofs of trace_json stand beside its functions.
+-- What proofs beside the functions share.
+pub mod MomentLemmas

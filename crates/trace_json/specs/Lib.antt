@@ -1,2 +1,8 @@
--- Records of steps have no definitions of their own: told_registers and told_words of trace_effects,
--- and trace_moments, say what they show.
+-- What is kept of a machine before a step or a line, and what is written of it behind that. Begin with
+-- Moments; OtherFields says what other fields don't say.
+pub use Rattle.trace_moments.specs.CoreFields
+pub use Rattle.trace_moments.specs.Fields
+pub use Rattle.trace_moments.specs.WordFields
+pub use Rattle.trace_moments.specs.law_trace.Laws as PlainSteps
+pub mod Moments
+pub mod OtherFields

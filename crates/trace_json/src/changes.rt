@@ -1,5 +1,13 @@
 //! What differs between a machine as it was and as it is, in records.
 
+ghost use Rattle.std.specs.Prelude.{◌≡◌, codes, IfOk, OnOk};
+ghost use Rattle.address_map.specs.Bytes.{word_at};
+ghost use Rattle.swi_dispatch.specs.GuestState.{state_of};
+ghost use Rattle.swi_dispatch.specs.MachineState.{MachineState};
+ghost use Rattle.trace_effects.specs.store_words.Copies.{kept_in};
+ghost use Rattle.trace_json.specs.Moments.{IsCopy, ShowsChanges, words_of};
+ghost use Rattle.trace_moments.specs.WordFields.{ShowsWords};
+
 use crate::flex::push_changed_flex;
 use crate::heaps::{BlockFate, push_changed_heaps};
 use crate::lists::{push_areas, push_modules};
@@ -29,7 +37,9 @@ impl MachineCopy {
     /// # Errors
     ///
     /// Memory ran out.
-    pub fn of(alloc: Global, machine: &Machine) -> Result<MachineCopy, AllocError> {
+    pub fn of(alloc: Global, machine: &Machine) -> Result<MachineCopy, AllocError>
+        ensures { IfOk result (λ copy. IsCopy copy (state_of machine.now.guest)) }
+    {
         Ok(MachineCopy {
             cpu: *machine.cpu(),
             frames: machine.frames(),
@@ -45,9 +55,13 @@ pub(crate) fn push_changed_words(
     text: &mut RecordText,
     before: &MachineCopy,
     machine: &Machine,
-) -> Result<(), AllocError> {
+) -> Result<(), AllocError>
+    ensures { OnOk result (ShowsWords (word_at (kept_in before.now.store).store.bytes.at)
+        (words_of (state_of machine.now.guest)) text.old text.new) }
+{
     let words = changed_words(alloc, before.store.memory(), machine.memory())?;
-    push_words(text, words.as_slice())
+    push_words(text, words.as_slice())?;
+    Ok(())
 }
 
 /// Writes the heaps, flex blocks, areas and modules that differ.
@@ -86,7 +100,7 @@ fn push_flex_changes(
     )
 }
 
-/// Writes all that differs after a line that takes no steps.
+/// Writes what differs of the core and of words after a line that takes no steps.
 ///
 /// # Errors
 ///
@@ -96,10 +110,57 @@ pub fn push_changes(
     text: &mut RecordText,
     before: &MachineCopy,
     machine: &Machine,
-) -> Result<(), AllocError> {
+) -> Result<(), AllocError>
+    ensures { (s : MachineState) → IsCopy before.now s → OnOk result
+        (ShowsChanges (codes "pc") s.cpu.pc s (state_of machine.now.guest) text.old text.new) }
+{
+    push_all_changes(alloc, text, before, machine, b"pc")
+}
+
+/// Writes the same of steps that aren't shown one by one.
+///
+/// # Errors
+///
+/// Memory ran out.
+pub fn push_skip_changes(
+    alloc: Global,
+    text: &mut RecordText,
+    before: &MachineCopy,
+    machine: &Machine,
+) -> Result<(), AllocError>
+    ensures { (s : MachineState) → IsCopy before.now s → OnOk result
+        (ShowsChanges (codes "next") s.cpu.pc s (state_of machine.now.guest) text.old text.new) }
+{
+    push_all_changes(alloc, text, before, machine, b"next")
+}
+
+fn push_all_changes(
+    alloc: Global,
+    text: &mut RecordText,
+    before: &MachineCopy,
+    machine: &Machine,
+    name: &[u8],
+) -> Result<(), AllocError>
+    ensures { (s : MachineState) → IsCopy before.now s → OnOk result
+        (ShowsChanges name.now s.cpu.pc s (state_of machine.now.guest) text.old text.new) }
+{
     let none = WrittenRegisters::new();
     let expected = before.cpu.pc();
-    push_core_changes(text, &before.cpu, machine.cpu(), &none, b"pc", expected)?;
+    push_core_changes(text, &before.cpu, machine.cpu(), &none, name, expected)?;
     push_changed_words(alloc, text, before, machine)?;
+    Ok(())
+}
+
+/// Writes what else differs after a line that takes no steps.
+///
+/// # Errors
+///
+/// Memory ran out.
+pub fn push_changed_store(
+    alloc: Global,
+    text: &mut RecordText,
+    before: &MachineCopy,
+    machine: &Machine,
+) -> Result<(), AllocError> {
     push_store_changes(alloc, text, before, machine, BlockFate::Slid)
 }

@@ -1,5 +1,14 @@
 //! One step as a record: what is done, and what it leaves.
 
+ghost use Rattle.std.specs.Prelude.{◌≡◌, ◌||◌, true, codes, is_some, not, IfOk, OnOk};
+ghost use Rattle.swi_dispatch.specs.GuestState.{state_of};
+ghost use Rattle.swi_dispatch.specs.MachineState.{MachineState};
+ghost use Rattle.trace_effects.specs.Cause.{cause_of};
+ghost use Rattle.trace_json.specs.Moments.{ChangesKept, IsBefore, KeepsMemory, KeepsWords, ShowsChanges, changes_all, expected_at, is_copied, place_of, words_of};
+ghost use Rattle.trace_moments.specs.WordFields.{ShowsWords};
+ghost use Rattle.trace_moments.specs.law_trace.Laws.{is_plain};
+
+use crate::before::{MemoryBefore, StepKind, kind_of, push_stored};
 use crate::calls::{push_call, push_load};
 use crate::changes::{MachineCopy, push_changed_words, push_store_changes};
 use crate::frames::push_frames;
@@ -16,26 +25,10 @@ use trace_effects::changes::following_word;
 use trace_effects::record_text::RecordText;
 use trace_effects::shown_registers::WrittenRegisters;
 use trace_effects::shown_words::ShownWord;
-use trace_effects::{Cause, called_swi, stored_words};
+use trace_effects::{Cause, called_swi};
 use trace_moments::{
-    loaded_words, push_core_changes, push_reads, push_words, stored_changes, words_at,
-    written_by_call, written_by_instruction,
+    loaded_words, push_core_changes, push_reads, words_at, written_by_call, written_by_instruction,
 };
-
-/// How a step is made.
-#[derive(Clone, Copy, Debug, PartialEq, Eq)]
-pub enum StepKind {
-    /// An instruction that is carried out or skipped, or can't be.
-    Instruction,
-    /// A stub does something in place of the step.
-    Stub,
-    /// A store call, by its number without the X bit.
-    Call(u32),
-    /// One from outside.
-    Outside(u32),
-    /// The return gate.
-    Gate,
-}
 
 /// What is kept of a machine before a step.
 #[derive(Drop)]
@@ -44,12 +37,12 @@ pub struct StepBefore {
     cause: Cause,
     cpu: Cpu,
     loaded: Vec<ShownWord>,
-    stored: Vec<ShownWord>,
-    copy: Option<MachineCopy>,
+    memory: MemoryBefore,
 }
 
 impl StepBefore {
-    /// Begins the fields of the step that comes next behind its number, and keeps what it may change.
+    /// Begins the fields of the step that comes next, behind the address at which it is made, and keeps
+    /// what it may change.
     ///
     /// # Errors
     ///
@@ -59,20 +52,21 @@ impl StepBefore {
         text: &mut RecordText,
         machine: &Machine,
         is_stubbed: bool,
-    ) -> Result<StepBefore, AllocError> {
+    ) -> Result<StepBefore, AllocError>
+        ensures before { IfOk result (λ before. IsBefore before (state_of machine.now.guest)) }
+        ensures copied { let s = state_of machine.now.guest in IfOk result (λ before. is_copied before.memory
+            ≡ (is_stubbed || not (is_plain (cause_of s.cpu s.store.bytes)))) }
+        ensures inside { IfOk result (λ before. is_some (place_of before) ≡ true) }
+    {
         let cpu = machine.cpu();
         let cause = Cause::of(cpu, machine.memory());
-        let kind = if is_stubbed {
-            StepKind::Stub
-        } else {
-            kind_of(cause)
-        };
+        let kind = kind_of(cause, is_stubbed);
         push_place(alloc, text, cpu.pc(), cause)?;
         push_kind(text, machine, kind, cause)?;
         StepBefore::keeping(alloc, machine, kind, cause)
     }
 
-    /// Begins that of a store call from outside.
+    /// Begins those of a store call from outside.
     ///
     /// # Errors
     ///
@@ -82,7 +76,10 @@ impl StepBefore {
         text: &mut RecordText,
         machine: &Machine,
         swi: u32,
-    ) -> Result<StepBefore, AllocError> {
+    ) -> Result<StepBefore, AllocError>
+        ensures before { IfOk result (λ before. IsBefore before (state_of machine.now.guest)) }
+        ensures copied { IfOk result (λ before. is_copied before.memory ≡ true) }
+    {
         let called = without_x_bit(swi % (1 << 24));
         text.name(b"call")?;
         text.open_string()?;
@@ -93,7 +90,7 @@ impl StepBefore {
         StepBefore::keeping(alloc, machine, StepKind::Outside(called), Cause::Unmapped)
     }
 
-    /// Begins that of a module that is loaded from outside.
+    /// Begins those of a module that is loaded from outside.
     ///
     /// # Errors
     ///
@@ -103,7 +100,10 @@ impl StepBefore {
         text: &mut RecordText,
         machine: &Machine,
         words: &[u8],
-    ) -> Result<StepBefore, AllocError> {
+    ) -> Result<StepBefore, AllocError>
+        ensures before { IfOk result (λ before. IsBefore before (state_of machine.now.guest)) }
+        ensures copied { IfOk result (λ before. is_copied before.memory ≡ true) }
+    {
         text.name(b"call")?;
         text.open_string()?;
         push_characters(text, b"LOAD ")?;
@@ -118,64 +118,116 @@ impl StepBefore {
         machine: &Machine,
         kind: StepKind,
         cause: Cause,
-    ) -> Result<StepBefore, AllocError> {
+    ) -> Result<StepBefore, AllocError>
+        ensures kind { IfOk result (λ before. before.kind ≡ kind) }
+        ensures core { IfOk result (λ before. before.cpu ≡ (state_of machine.now.guest).cpu) }
+        ensures memory { let s = state_of machine.now.guest in IfOk result
+            (λ before. KeepsWords before.memory cause s) }
+        ensures copied { IfOk result (λ before. is_copied before.memory ≡ changes_all kind) }
+    {
         let memory = machine.memory();
         let loaded = match loaded_words(cause, machine.cpu()) {
             Some(words) => words_at(alloc, memory, words)?,
             None => Vec::new(alloc),
-        };
-        let stored = words_at(alloc, memory, stored_words(cause, machine.cpu()))?;
-        let copy = match kind {
-            StepKind::Instruction => None,
-            _ => Some(MachineCopy::of(alloc, machine)?),
         };
         Ok(StepBefore {
             kind,
             cause,
             cpu: *machine.cpu(),
             loaded,
-            stored,
-            copy,
+            memory: MemoryBefore::of(alloc, machine, kind, cause)?,
         })
     }
 
-    /// Ends the fields, by the machine after the step, what the step printed, and the registers that
-    /// were shown so far; but for where images stand. A stub has written these registers.
+    /// The address at which the step is made; a call from outside is made nowhere.
+    pub fn place(&self) -> Option<u32>
+        ensures { result ≡ place_of self.now }
+    {
+        match self.kind {
+            StepKind::Outside(_) => None,
+            _ => Some(self.cpu.pc()),
+        }
+    }
+
+    /// Ends these fields: with the words that were read.
     ///
     /// # Errors
     ///
     /// Memory ran out.
-    pub fn print_end(
+    pub fn push_reads(&self, text: &mut RecordText, machine: &Machine) -> Result<(), AllocError> {
+        if machine.stop().is_some() {
+            return Ok(());
+        }
+        push_reads(text, self.loaded.as_slice())
+    }
+
+    /// Writes what differs after the step of the core, by the registers that were shown so far, and of
+    /// words; and registers and words that were written. A stub has written these registers.
+    ///
+    /// # Errors
+    ///
+    /// Memory ran out.
+    pub fn push_changes(
         &self,
         alloc: Global,
         text: &mut RecordText,
         reported: &Cpu,
         machine: &Machine,
         stub: &WrittenRegisters,
-        printed: &[u8],
-    ) -> Result<(), AllocError> {
+    ) -> Result<(), AllocError>
+        ensures { (s e : MachineState) → let t = state_of machine.now.guest in reported.now ≡ s.cpu
+            → words_of e ≡ words_of s → IsBefore self.now e → ChangesKept self.now.memory e t
+            → OnOk result (ShowsChanges (codes "next")
+            (expected_at (place_of self.now) e.cpu.pc (is_some t.halt)) s t text.old text.new) }
+    {
         let stop = machine.stop();
-        if stop.is_none() {
-            push_reads(text, self.loaded.as_slice())?;
-        }
         let kept = self.frames_kept(machine);
-        let has_error = self.has_error(machine, kept);
-        let written = self.written(stop, has_error || kept < machine.frames(), stub);
+        let is_cut_off = self.has_error(machine, kept) || kept < machine.frames();
+        let written = self.written(stop, is_cut_off, stub);
         let expected = self.expected(stop);
         push_core_changes(text, reported, machine.cpu(), &written, b"next", expected)?;
-        match &self.copy {
-            None => self.push_stored(alloc, text, machine)?,
-            Some(copy) => push_changed_words(alloc, text, copy, machine)?,
+        self.push_memory(alloc, text, machine)?;
+        Ok(())
+    }
+
+    fn push_memory(
+        &self,
+        alloc: Global,
+        text: &mut RecordText,
+        machine: &Machine,
+    ) -> Result<(), AllocError>
+        ensures { (e : MachineState) → let t = state_of machine.now.guest in
+            KeepsMemory self.now.memory e → ChangesKept self.now.memory e t
+            → OnOk result (ShowsWords (words_of e) (words_of t) text.old text.new) }
+    {
+        match &self.memory {
+            MemoryBefore::Stored(words) => push_stored(alloc, text, words.as_slice(), machine),
+            MemoryBefore::Copied(copy) => push_changed_words(alloc, text, copy, machine),
         }
-        if has_error {
+    }
+
+    /// Writes what else the step left, and what it printed; but for where images stand.
+    ///
+    /// # Errors
+    ///
+    /// Memory ran out.
+    pub fn push_rest(
+        &self,
+        alloc: Global,
+        text: &mut RecordText,
+        machine: &Machine,
+        printed: &[u8],
+    ) -> Result<(), AllocError> {
+        let kept = self.frames_kept(machine);
+        if self.has_error(machine, kept) {
             push_error(alloc, text, machine.error_number())?;
         }
-        if let Some(copy) = &self.copy {
-            push_frames(text, copy.frames, kept, machine, self.caller())?;
+        if let MemoryBefore::Copied(copy) = &self.memory {
+            push_frames(text, copy.frames, kept, machine, self.place())?;
             push_store_changes(alloc, text, copy, machine, self.fate(machine))?;
         }
         push_out(text, printed)?;
-        match stop {
+        match machine.stop() {
             Some(stop) => push_stop(
                 alloc,
                 text,
@@ -189,12 +241,16 @@ impl StepBefore {
 
     /// Whether the step may have moved an image.
     pub fn may_move_images(&self) -> bool {
-        self.copy.is_some() && self.kind != StepKind::Stub
+        self.is_copied() && self.kind != StepKind::Stub
+    }
+
+    fn is_copied(&self) -> bool {
+        matches!(&self.memory, MemoryBefore::Copied(_))
     }
 
     // How many of the frames that were open are open still.
     fn frames_kept(&self, machine: &Machine) -> usize {
-        let Some(copy) = &self.copy else {
+        let MemoryBefore::Copied(copy) = &self.memory else {
             return machine.frames();
         };
         match self.kind {
@@ -205,14 +261,16 @@ impl StepBefore {
 
     // Whether an error goes back from a call.
     fn has_error(&self, machine: &Machine, kept: usize) -> bool {
-        self.copy.is_some()
+        self.is_copied()
             && machine.stop().is_none()
             && machine.cpu().psr().overflow
             && machine.frames() == kept
     }
 
     // Where a core goes on that nothing is said of.
-    fn expected(&self, stop: Option<Stop>) -> u32 {
+    fn expected(&self, stop: Option<Stop>) -> u32
+        ensures { result ≡ expected_at (place_of self.now) self.now.cpu.pc (is_some stop) }
+    {
         match self.kind {
             StepKind::Outside(_) => self.cpu.pc(),
             _ if stop.is_some() => self.cpu.pc(),
@@ -246,14 +304,6 @@ impl StepBefore {
         }
     }
 
-    // The address at which the step was made.
-    fn caller(&self) -> Option<u32> {
-        match self.kind {
-            StepKind::Outside(_) => None,
-            _ => Some(self.cpu.pc()),
-        }
-    }
-
     // A call that resizes a block takes it in R2, and answers in R2 where it is.
     fn fate(&self, machine: &Machine) -> BlockFate {
         let resizes = match self.kind {
@@ -272,40 +322,15 @@ impl StepBefore {
             BlockFate::Slid
         }
     }
-
-    fn push_stored(
-        &self,
-        alloc: Global,
-        text: &mut RecordText,
-        machine: &Machine,
-    ) -> Result<(), AllocError> {
-        if machine.stop().is_some() {
-            return Ok(());
-        }
-        let changes = stored_changes(alloc, self.stored.as_slice(), machine.memory())?;
-        push_words(text, changes.as_slice())
-    }
 }
 
-fn kind_of(cause: Cause) -> StepKind {
-    match cause {
-        Cause::Gate => StepKind::Gate,
-        Cause::Word(_) => match called_swi(cause) {
-            Some(number) => StepKind::Call(without_x_bit(number)),
-            None => StepKind::Instruction,
-        },
-        Cause::Skipped(_) | Cause::Unmapped => StepKind::Instruction,
-    }
-}
-
-// Where a step is made, and what stands there.
+// What stands where a step is made.
 fn push_place(
     alloc: Global,
     text: &mut RecordText,
     pc: u32,
     cause: Cause,
 ) -> Result<(), AllocError> {
-    text.number_field(b"pc", u64::from(pc))?;
     match cause {
         Cause::Gate => text.string_field(b"asm", b"return gate"),
         Cause::Unmapped => text.string_field(b"asm", b"unmapped"),
