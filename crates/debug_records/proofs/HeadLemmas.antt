@@ -1,6 +1,7 @@
 -- What the records of lines and of their answers have.
 use Rattle.std.proofs.Common.{◌≡◌, ◌∙◌, ℕ, zero, suc, Bool, true, false, List, [], ◌∷◌, ◌++◌, take, Option, refl, sym, ap, subst, append_assoc}
-use Rattle.std.specs.Prelude.{codes}
+use Rattle.std.specs.Prelude.{◌&&◌, codes, not}
+use Rattle.std.proofs.lemmas.Bool.{false≢true}
 use Rattle.std.proofs.lemmas.List.{append-nil}
 use Rattle.profile.specs.text_lines.Lines.{ReadingPlace}
 use Rattle.command_shell_lines.specs.Blocks.{lines_in_block}
@@ -8,11 +9,34 @@ use Rattle.debug_session.specs.DebugState.{DebugState}
 use Rattle.trace_effects.specs.record_text.Spelling.{comma_before, string_text}
 use Rattle.debug_records.specs.AnswerHeads.{answer_fields, answer_head}
 use Rattle.command_shell.specs.MachineState.{MachineState}
-use Rattle.debug_records.specs.LineRecords.{Adds, IsOfForm, RecordForm, Whole, answer_form, block_field, line_head, strings_text}
+use Rattle.debug_records.specs.LineRecords.{Adds, Changes, IsOfForm, IsRecord, RecordForm, Whole, answer_form, block_field, line_head, strings_text}
 use Rattle.debug_records.specs.Moments.{IsAlike}
 use Rattle.debug_records.specs.declared.counts.LineCounts.{LineCounts}
 use Rattle.debug_records.proofs.MomentLemmas.{changes_from}
 use Rattle.debug_records.proofs.RecordLemmas.{joined}
+
+-- THE RECORD OF AN ANSWER
+
+pub answer_whole : (remark stepping resets : Bool) (x y : List ℕ) (s t : MachineState) (a b : Option (List ℕ)) → remark ≡ true → x ≡ y
+    → Adds (IsOfForm (Whole x)) a b → Adds (IsOfForm (answer_form remark stepping resets y s t)) a b
+answer_whole true stepping resets x y s t a b is same h = subst (λ (z : List ℕ). Adds (IsOfForm (Whole z)) a b) same h
+answer_whole false stepping resets x y s t a b is same h = absurd (false≢true is)
+
+pub answer_begins : (remark stepping resets : Bool) (x y : List ℕ) (s t : MachineState) (a b : Option (List ℕ)) → remark ≡ false
+    → (not remark && (not stepping && not resets)) ≡ false → x ≡ y
+    → Adds (IsRecord x) a b → Adds (IsOfForm (answer_form remark stepping resets y s t)) a b
+answer_begins true stepping resets x y s t a b is some same h = absurd (false≢true (sym is))
+answer_begins false true resets x y s t a b is some same h = subst (λ (z : List ℕ). Adds (IsRecord z) a b) same h
+answer_begins false false true x y s t a b is some same h = subst (λ (z : List ℕ). Adds (IsRecord z) a b) same h
+answer_begins false false false x y s t a b is some same h = absurd (false≢true (sym some))
+
+pub answer_changes : (remark stepping resets : Bool) (x y : List ℕ) (s t : MachineState) (a b : Option (List ℕ))
+    → (not remark && (not stepping && not resets)) ≡ true → x ≡ y
+    → Adds (IsOfForm (Changes x s t)) a b → Adds (IsOfForm (answer_form remark stepping resets y s t)) a b
+answer_changes true stepping resets x y s t a b is same h = absurd (false≢true is)
+answer_changes false true resets x y s t a b is same h = absurd (false≢true is)
+answer_changes false false true x y s t a b is same h = absurd (false≢true is)
+answer_changes false false false x y s t a b is same h = subst (λ (z : List ℕ). Adds (IsOfForm (Changes z s t)) a b) same h
 
 answer_from : (remark stepping resets : Bool) (head : List ℕ) (s m t : MachineState) (a b : Option (List ℕ)) → (stepping ≡ false → IsAlike s m)
     → Adds (IsOfForm (answer_form remark stepping resets head s t)) a b → Adds (IsOfForm (answer_form remark stepping resets head m t)) a b

@@ -1,6 +1,6 @@
 -- Records of moments are written, one behind another.
 use Rattle.std.proofs.Common.{◌≡◌, ◌∙◌, ℕ, ◌+◌, ◌-◌, ◌<◌, ◌≤◌, ◌%◌, ◌^◌, ◌==◌, min, Bool, true, false, is_some, List, [], ◌∷◌, ◌++◌, Option, Some, None, nat_lt, refl, sym, ap, subst, arith, inl, inr}
-use Rattle.std.specs.Prelude.{◌||◌, codes, not}
+use Rattle.std.specs.Prelude.{◌||◌, codes, not, IfSome}
 use Rattle.std.proofs.lemmas.Bool.{cases_Bool, false≢true, le-ltb, lt-ltb}
 use Rattle.std.proofs.lemmas.List.{append-nil}
 use Rattle.arm_core.specs.State.{State}
@@ -17,9 +17,11 @@ use Rattle.trace_effects.specs.declared.shown_words.words.ShownWord.{ShownWord}
 use Rattle.trace_effects.specs.shown_words.Replay.{word_after, words_after}
 use Rattle.trace_json.specs.CoreFields.{core_fields}
 use Rattle.trace_json.specs.Fields.{entries}
-use Rattle.trace_json.specs.Moments.{ChangesKept, IsBefore, IsMadeOutside, KeepsMemory, ShowsChanges, expected_at, is_copied, place_of, words_of}
+use Rattle.trace_json.specs.Moments.{ChangesKept, IsBefore, IsMadeOutside, KeepsMemory, ShowsChanges, expected_at, is_copied, place_by, place_of, words_of}
 use Rattle.trace_json.specs.PlainSteps.{PlainStepsStore, is_plain}
 use Rattle.trace_json.specs.declared.before.MemoryBefore.{MemoryBefore}
+use Rattle.trace_json.specs.declared.before.StepKind.{StepKind}
+use Rattle.trace_json.specs.declared.before.StepKind.TheVariants.{Outside}
 use Rattle.trace_json.specs.OtherFields.{are_others}
 use Rattle.trace_json.specs.WordFields.{AreWordChanges, word_fields}
 use Rattle.trace_json.specs.declared.step.StepBefore.{StepBefore}
@@ -55,6 +57,14 @@ moment_written head name expected s t old new front rest a b none shows ahead be
       core_replays = core_replays expected s.cpu t.cpu shows.core shows.core_are;
       words_replay = shows.words_are;
     })
+
+-- the same, where the fields that differ are those that were written last
+pub moment_recorded : (head name : List ℕ) (expected : ℕ) (s t : MachineState) (first old new last : RecordText) (front rest : List ℕ)
+    (a b : Option (List ℕ)) → IsNoText first → old ≡ first → last ≡ new → ShowsChanges name expected s t old new → are_others front ≡ true
+    → are_others rest ≡ true → Adds (IsText (moment_text head front last.bytes.items rest)) a b → Adds (IsMoment head name expected s t) a b
+moment_recorded head name expected s t first old new last front rest a b none begins ends shows ahead behind written =
+    moment_written head name expected s t old new front rest a b (subst IsNoText (sym begins) none) shows ahead behind
+    (subst (λ (x : RecordText). Adds (IsText (moment_text head front x.bytes.items rest)) a b) ends written)
 
 -- words that are replayed, at an address
 one_same : (x : ShownWord) (v w : ℕ → ℕ) (a : ℕ) → v a ≡ w a → word_after x v a ≡ word_after x w a
@@ -101,17 +111,21 @@ step_from before s e t old new stays =
     subst (λ (n : ℕ). ShowsChanges (codes "next") n s t old new)
     (from_place (place_of before) e.cpu.pc s.cpu.pc (is_some t.halt) (λ outside. ap (λ m. m.cpu.pc) (stays outside)))
 
+there_by : (kind : StepKind) (pc at : ℕ) → pc ≡ at → IfSome (place_by kind pc) (λ (a : ℕ). a ≡ at)
+there_by (Outside number) pc at is = tt
+there_by kind pc at is = is
+
 -- a step that was taken, and what was set in the core behind it
-pub step_recorded : (number : ℕ) (is_first is_last : Bool) (s t0 t : MachineState) (before : StepBefore) (reported : State) (old new : RecordText)
+pub step_recorded : (number : ℕ) (is_first is_last : Bool) (s t0 t : MachineState) (before : StepBefore) (reported : State) (cleared old new last : RecordText)
     (front rest head : List ℕ) (place : Option ℕ) (a b : Option (List ℕ)) → IsTaken is_first s t0 before → IsSet t0 t
     → (is_last ≡ false → t ≡ t0) → reported ≡ s.cpu
     → ((s' e : MachineState) → reported ≡ s'.cpu → words_of e ≡ words_of s' → IsBefore before e → ChangesKept before.memory e t
     → ShowsChanges (codes "next") (expected_at (place_of before) e.cpu.pc (is_some t.halt)) s' t old new)
-    → IsNoText old → are_others front ≡ true → are_others rest ≡ true → head ≡ step_head number ++ place_field place
-    → place ≡ place_of before → Adds (IsText (moment_text head front new.bytes.items rest)) a b
-    → Adds (IsStepRecord number is_first is_last s t) a b
-step_recorded number is_first is_last s t0 t before reported old new front rest head place a b taken set earlier core shows none ahead behind begins
-    there written =
+    → IsNoText cleared → old ≡ cleared → last ≡ new → are_others front ≡ true → are_others rest ≡ true
+    → head ≡ step_head number ++ place_field place → place ≡ place_of before
+    → Adds (IsText (moment_text head front last.bytes.items rest)) a b → Adds (IsStepRecord number is_first is_last s t) a b
+step_recorded number is_first is_last s t0 t before reported cleared old new last front rest head place a b taken set earlier core shows none opens
+    ends ahead behind begins there written =
     let e = taken.entered in
     let kept : ChangesKept before.memory e t = kept_behind e t0 t before.memory set.store set.halt taken.taken.kept in
     let words : words_of e ≡ words_of s = words_same s e taken.set.store in
@@ -129,10 +143,11 @@ step_recorded number is_first is_last s t0 t before reported old new front rest 
       later = taken.later;
       earlier = earlier;
       place = place_of before;
+      there = there_by before.kind before.cpu.pc e.cpu.pc (ap (λ (x : State). x.pc) taken.taken.keeps.core);
       moment = moment;
     })
     (subst (λ (x : List ℕ). Adds (IsMoment x (codes "next") expected s t) a b) at
-    (moment_written head (codes "next") expected s t old new front rest a b none shown ahead behind written))
+    (moment_recorded head (codes "next") expected s t cleared old new last front rest a b none opens ends shown ahead behind written))
 
 plain_if : (plain : Bool) → not plain ≡ false → plain ≡ true
 plain_if true is = refl

@@ -2,7 +2,7 @@
 -- of the core nor of words of memory; those that say all that differs of these; and again such that say
 -- nothing of them. Whoever has the machine before, and replays what is read there, has the core and each word
 -- of the machine after.
-use Rattle.std.specs.Prelude.{◌≡◌, ℕ, ◌+◌, min, ◌-◌, ◌%◌, ◌<◌, ◌^◌, ◌==◌, nat_lt, Bool, true, false, is_some, List, [], ◌∷◌, ◌++◌, codes, Option, Some, None}
+use Rattle.std.specs.Prelude.{◌≡◌, ℕ, ◌+◌, min, ◌-◌, ◌%◌, ◌<◌, ◌^◌, ◌==◌, nat_lt, Bool, true, false, is_some, List, [], ◌∷◌, ◌++◌, codes, Option, Some, None, IfSome}
 use Rattle.std.specs.Fmt.{decimal}
 use Rattle.image_loader.specs.Entries.{Entry}
 use Rattle.command_shell.specs.Calls.{outside_called}
@@ -81,6 +81,7 @@ pub record IsStepRecord (number : ℕ) (is_first is_last : Bool) (s t : MachineS
   pub later : is_first ≡ false → entered ≡ s
   pub earlier : is_last ≡ false → t ≡ left
   pub place : Option ℕ
+  pub there : IfSome place (λ at. at ≡ entered.cpu.pc)
   pub moment : IsMoment (step_head number ++ place_field place) (codes "next")
       (expected_at place s.cpu.pc (is_some t.halt)) s t text
 

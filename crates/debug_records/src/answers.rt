@@ -56,16 +56,16 @@ impl Twin {
             (W.contents sink.old) (W.contents sink.new)) }
     {
         let head = answer_head(self.alloc, session, parts, used)?;
-        match *used {
-            LineUse::Remark => {
-                push_whole(sink, &head)?;
-                Ok(())
-            }
-            LineUse::Steps | LineUse::Reset => {
-                self.print_without_changes(session, used, &head, sink)
-            }
-            _ => self.print_changed(session, images, parts, used, block, &head, sink),
+        if used.is_remark() {
+            push_whole(sink, &head)?;
+            return Ok(());
         }
+        if used.may_change() {
+            self.print_changed(session, images, parts, used, block, &head, sink)?;
+            return Ok(());
+        }
+        self.print_without_changes(session, used, &head, sink)?;
+        Ok(())
     }
 
     // Writes that of a line that takes steps: where they ended; or of RESET: the whole machine.

@@ -1,6 +1,6 @@
 //! One line of a script, recorded.
 
-ghost use Rattle.std.specs.Prelude.{◌≡◌, ◌<◌, ◌-◌, ◌++◌, false, true, take, List, Some, IfOk, OnOk, option_map, is_some, if◌then◌else◌};
+ghost use Rattle.std.specs.Prelude.{◌≡◌, ◌<◌, ◌-◌, ◌++◌, ◌&&◌, false, not, true, take, List, Some, IfOk, OnOk, option_map, is_some, if◌then◌else◌};
 ghost use Rattle.image_loader.specs.Entries.{Entry};
 ghost use Rattle.command_shell_lines.specs.Blocks.{lines_in_block};
 ghost use Rattle.command_shell_lines.specs.Requests.{opens_block, request_of_command};
@@ -52,6 +52,14 @@ impl LineUse<'_> {
         ensures { result ≡ is_remark_use self.now }
     {
         matches!(self, LineUse::Remark)
+    }
+
+    /// Whether the answer says what differs.
+    pub(crate) fn may_change(&self) -> bool
+        ensures { result ≡ not (is_remark_use self.now)
+            && (not (is_stepping_use self.now) && not (is_reset_use self.now)) }
+    {
+        matches!(self, LineUse::Block(_, _) | LineUse::Other)
     }
 
     fn opens_block(&self) -> bool

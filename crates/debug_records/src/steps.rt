@@ -127,7 +127,7 @@ impl Twin {
         ensures changes { OnOk result (self.new.changes ≡ self.old.changes) }
     {
         match outside_call(command, index) {
-            Some(call) => self.begin_call(call, printed),
+            Some(call) => Ok(self.begin_call(call, printed)?),
             None => self.begin_step(command, index, printed),
         }
     }
@@ -144,7 +144,7 @@ impl Twin {
         ensures changes { OnOk result (self.new.changes ≡ self.old.changes) }
     {
         enter_first(&mut self.session.session, command, index);
-        self.begin_entered(printed)
+        Ok(self.begin_entered(printed)?)
     }
 
     fn begin_entered(
@@ -186,10 +186,10 @@ impl Twin {
         let machine = self.session.machine();
         match call {
             OutsideCall::Swi(number) => {
-                StepBefore::call(self.alloc, &mut self.front, machine, number)
+                Ok(StepBefore::call(self.alloc, &mut self.front, machine, number)?)
             }
             OutsideCall::Load(words) => {
-                StepBefore::load(self.alloc, &mut self.front, machine, words)
+                Ok(StepBefore::load(self.alloc, &mut self.front, machine, words)?)
             }
         }
     }
