@@ -30,6 +30,7 @@ use Rattle.debug_records.specs.AnsweredLines.{step_number}
 use Rattle.debug_records.specs.LineRecords.{Adds, AreRecords, Changes, IsOfForm, RecordForm, Steps, step_forms}
 use Rattle.debug_records.specs.Moments.{AreStepRecords, AreSteps, AreStepsOfLine, IsAlike, IsMoment, IsRest, IsRestIf, IsSet, IsStepRecord, IsText, moment_text, no_steps, place_field, step_head, then_step}
 use Rattle.debug_records.specs.Taking.{IsNoText, IsTaken, IsTakenFrom}
+use Rattle.debug_records.proofs.TakingLemmas.{none_set}
 use Rattle.debug_records.proofs.RecordLemmas.{also_written, none_written, then_written}
 use Rattle.debug_records.proofs.RecordedLines.{one_record}
 
@@ -166,13 +167,6 @@ taken_kept stubs images s t None stubbed memory law keeps ahead tests copied mad
     copied ∙ ap (λ (b : Bool). b || not (is_plain (cause_of s.cpu s.store.bytes))) tests in
     subst (λ (m : MachineState). ChangesKept memory s m) (sym now)
     (step_changes images s memory law keeps (λ stored. plain_if (is_plain (cause_of s.cpu s.store.bytes)) (sym all ∙ stored)))
-
--- nothing was set
-pub none_set : (s : MachineState) → IsSet s s
-none_set s = record { store = refl; halt = refl }
-
-pub then_set : (s t u : MachineState) → IsSet s t → IsSet t u → IsSet s u
-then_set s t u h k = record { store = k.store ∙ h.store; halt = k.halt ∙ h.halt }
 
 -- a call from outside is made where the machine stands
 pub outside_taken : (is_first : Bool) (s t : MachineState) (before : StepBefore) → IsTakenFrom s t before → IsTaken is_first s t before
