@@ -177,7 +177,8 @@ def routine_units(entry: Entry, taken: int, is_faulted: bool) -> list[Unit]:
     units += [Unit(number, "STEP 1", 1) for _ in range(taken)]
     if is_faulted:
         units.append(Unit(number, "STEP 1", 0, is_fault=True))
-    if entry.answer.splitlines()[-1].startswith("returned"):
+    # what the guest printed may stand before it on its line
+    if re.search(r"returned after \d+ steps?\n\Z", entry.answer):
         at = int(before["R15"], 16) & 0x3FFFFFC
         units += [Unit(number, f"SET R14 &{before['R14']}", 0), Unit(number, f"SET PC &{at:X}", 0)]
     return units
