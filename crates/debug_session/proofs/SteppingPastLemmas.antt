@@ -6,6 +6,7 @@ use Rattle.arm_core.specs.Psr.{psr_bits}
 use Rattle.profile.specs.declared.fault.Fault.TheVariants as fault
 use Rattle.profile.specs.declared.stop.Stop.{Stop}
 use Rattle.profile.specs.declared.stop.Stop.TheVariants as stop
+use Rattle.command_shell_lines.specs.declared.debug_words.stubs.Stub.{Stub}
 use Rattle.debug_labels.specs.Labels.{ImageLabels}
 use Rattle.debug_history.specs.Halt.{Halt}
 use Rattle.debug_tables.specs.run_meter.MachineState.{StepOutcome}

@@ -69,7 +69,7 @@ returns-in-SetPc-clause-reported g c =
     (subst (λ (n : ℕ). OnOk c.move_pc.result (IsDebugged (g.W.Sink.contents c.args.sink.now) (g.W.Sink.contents c.move_pc.new.sink)
     (debug_state c.move_pc.new.self c.args.images.now) (set_pc_answer c.args.self.now.setting
     (debug_state c.args.self.now c.args.images.now) n c.in-SetPc.address)))
-    c.number.ensures (c.move_pc.ensures.reported c.args.images.now))
+    c.number-number.ensures (c.move_pc.ensures.reported c.args.images.now))
 
 pub returns-in_ok-set_psr-in-SetPsr-clause-reported : goal.returns-in_ok-set_psr-in-SetPsr-clause-reported
 returns-in_ok-set_psr-in-SetPsr-clause-reported g c =
@@ -79,8 +79,8 @@ returns-in_ok-set_psr-in-SetPsr-clause-reported g c =
     c.args.self.now.setting c.args.script.now.number c.args.words.now (block_lines c.args.script.now.left) _
     (debug_request_of_command c.args.command) (sym (ap debug_request_of_command c.in-SetPsr.is))
     (subst (λ (n : ℕ). IsDebugged (g.W.Sink.contents c.args.sink.now) (g.W.Sink.contents c.args.sink.now)
-    (debug_state c.set_psr.new.self c.args.images.now) (set_psr_answer d n c.in-SetPsr.pattern)) c.number.ensures
-    (changed_silently _ _ d c.number.result (Status (status_after_pattern c.in-SetPsr.pattern d.script.machine.cpu.psr))
+    (debug_state c.set_psr.new.self c.args.images.now) (set_psr_answer d n c.in-SetPsr.pattern)) c.number-number.ensures
+    (changed_silently _ _ d c.number-number.result (Status (status_after_pattern c.in-SetPsr.pattern d.script.machine.cpu.psr))
     (script_with_status d.script (status_after_pattern c.in-SetPsr.pattern d.script.machine.cpu.psr)) (c.in_ok-set_psr-in-SetPsr.ensures.reported c.args.images.now)))
 
 pub returns-in-Reset-clause-reported : goal.returns-in-Reset-clause-reported
@@ -91,7 +91,7 @@ returns-in-Reset-clause-reported g c =
     (debug_request_of_command c.args.command) (sym (ap debug_request_of_command c.in-Reset.is))
     (subst (λ (n : ℕ). OnOk c.reset.result (IsDebugged (g.W.Sink.contents c.args.sink.now) (g.W.Sink.contents c.reset.new.sink)
     (debug_state c.reset.new.self c.args.images.now) (reset_answer c.args.self.now.setting (debug_state c.args.self.now c.args.images.now) n)))
-    c.number.ensures (c.reset.ensures.reported c.args.images.now))
+    c.number-number.ensures (c.reset.ensures.reported c.args.images.now))
 
 pub returns-in_ok-reason-in-Expect-clause-reported : goal.returns-in_ok-reason-in-Expect-clause-reported
 returns-in_ok-reason-in-Expect-clause-reported g c =
@@ -100,7 +100,7 @@ returns-in_ok-reason-in-Expect-clause-reported g c =
     c.args.self.now.setting c.args.script.now.number c.args.words.now (block_lines c.args.script.now.left) _
     (debug_request_of_command c.args.command) (sym (ap debug_request_of_command c.in-Expect.is))
     (checked_by c.print_check.result _ _ _ (debug_state c.args.self.now c.args.images.now) c.args.self.now.setting
-    c.number.result c.args.script.now.number c.args.words.now _ _ c.number.ensures
+    c.number-number.result c.args.script.now.number c.args.words.now _ _ c.number-number.ensures
     (c.in_ok-reason-in-Expect.ensures c.args.images.now) (c.print_check.ensures.reported c.args.images.now))
 
 pub returns-in-Stepping-clause-reported : goal.returns-in-Stepping-clause-reported
@@ -113,7 +113,7 @@ returns-in-Stepping-clause-reported g c =
     (g.W.Sink.contents c.stepping_line.new.sink) (debug_state c.stepping_line.new.self c.args.images.now)
     (stepping_line_answer c.args.self.now.setting (debug_state c.args.self.now c.args.images.now) n c.in-Stepping.is_traced
     (stepping_request_of c.in-Stepping.command))))
-    c.number.ensures c.stepping_line.ensures.reported)
+    c.number-number.ensures c.stepping_line.ensures.reported)
 
 pub returns-in-Put-clause-reported : goal.returns-in-Put-clause-reported
 returns-in-Put-clause-reported g c =
@@ -123,7 +123,7 @@ returns-in-Put-clause-reported g c =
     (debug_request_of_command c.args.command) (sym (ap debug_request_of_command c.in-Put.is))
     (subst (λ (n : ℕ). OnOk c.put.result (IsDebugged (g.W.Sink.contents c.args.sink.now) (g.W.Sink.contents c.put.new.sink)
     (debug_state c.put.new.self c.args.images.now) (put_answer c.args.self.now.setting (debug_state c.args.self.now c.args.images.now) n c.in-Put.name.now c.in-Put.address)))
-    c.number.ensures c.put.ensures.reported)
+    c.number-number.ensures c.put.ensures.reported)
 
 pub returns-in-Write-clause-reported : goal.returns-in-Write-clause-reported
 returns-in-Write-clause-reported g c =
@@ -133,7 +133,7 @@ returns-in-Write-clause-reported g c =
     (debug_request_of_command c.args.command) (sym (ap debug_request_of_command c.in-Write.is))
     (subst (λ (n : ℕ). OnOk c.write.result (IsDebugged (g.W.Sink.contents c.args.sink.now) (g.W.Sink.contents c.write.new.sink)
     (debug_state c.write.new.self c.args.images.now) (write_answer c.args.self.now.setting (debug_state c.args.self.now c.args.images.now) n c.in-Write.at c.in-Write.count c.in-Write.named.now)))
-    c.number.ensures (c.write.ensures.reported c.args.images.now))
+    c.number-number.ensures (c.write.ensures.reported c.args.images.now))
 
 pub returns-in-Find-clause-reported : goal.returns-in-Find-clause-reported
 returns-in-Find-clause-reported g c =
@@ -158,4 +158,4 @@ returns-in-Unknown-clause-reported g c =
     (debug_request_of_command c.args.command) (sym (ap debug_request_of_command c.in-Unknown.is))
     (subst (λ (n : ℕ). OnOk c.past_line.result (IsDebugged (g.W.Sink.contents c.args.sink.now) (g.W.Sink.contents c.past_line.new.sink)
     (debug_state c.past_line.new.self c.past_line.new.images) (past_line_answer c.args.self.now.setting d n c.args.words.now)))
-    c.number.ensures c.past_line.ensures.reported)
+    c.number-number.ensures c.past_line.ensures.reported)

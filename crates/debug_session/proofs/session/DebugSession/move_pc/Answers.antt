@@ -34,7 +34,7 @@ returns-in_ok-view-in-Ok-clause-reported g c images =
     let now = debug_state c.view.new.self images in
     let some = c.in-Some.ensures ∙ ap halting_fault (c.stop.ensures.halt ∙ ap (λ (m : MachineValue). option_map stop_of m.guest.halt) c.machine.ensures) in
     let at = c.pc.ensures.value ∙ ap (λ (cpu : State). cpu.pc)
-    (c.cpu.ensures ∙ ap (λ (m : MachineValue). (state_of m.guest).cpu) c.machine-2.ensures) in
+    (c.cpu.ensures ∙ ap (λ (m : MachineValue). (state_of m.guest).cpu) c.machine-in-Some.ensures) in
     let said = c.into_bytes.ensures ∙ c.in-Ok.ensures.text
     ∙ ap (λ (xs : List ℕ). xs ++ halted_at_text c.in-Some.fault c.pc.result) c.new-text.ensures
     ∙ ap (halted_at_text c.in-Some.fault) at in

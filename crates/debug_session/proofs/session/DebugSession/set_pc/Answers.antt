@@ -1,8 +1,6 @@
-use Rattle.std.proofs.Common.{◌∙◌, ℕ, ap}
+use Rattle.std.proofs.Common.{◌∙◌, ap}
 use Rattle.debug_tables.specs.run_meter.Memory.{script_at}
 use Rattle.debug_tables.specs.run_meter.Session.{script_state}
-use Rattle.debug_history.specs.Noted.{past_with_deed}
-use Rattle.debug_history.specs.declared.act.PastDeed.TheVariants.{Place}
 use Rattle.debug_session.specs.Session.{debug_state}
 use Rattle.debug_session.proofs.OwnLemmas.{changed_script}
 use Rattle.debug_session.proofs.session.DebugSession.set_pc.Goals as goal
@@ -12,6 +10,4 @@ returns-clause-reported c images =
     changed_script (debug_state c.args.self.now images) (script_state c.set_pc.new.self images)
     (script_at (script_state c.args.self.now.session images) c.args.address) c.put.new.self _ c.new.result.items
     (c.set_pc.ensures images ∙ ap (script_at (script_state c.args.self.now.session images)) c.address-pc.ensures.value)
-    (c.in_ok-put.ensures ∙ ap (λ (at : ℕ). past_with_deed c.args.self.now.past c.args.number (Place at))
-    (c.new-at.ensures ∙ c.address-pc.ensures.value))
-    c.new.ensures.items
+    c.in_ok-put.ensures c.new.ensures.items

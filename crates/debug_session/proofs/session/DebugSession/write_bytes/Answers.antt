@@ -12,7 +12,7 @@ use Rattle.debug_session.proofs.session.DebugSession.write_bytes.Goals as goal
 pub returns-in_ok-view-in-Ok-clause-reported : goal.returns-in_ok-view-in-Ok-clause-reported
 returns-in_ok-view-in-Ok-clause-reported g c images =
     let old = c.args.self.now in
-    bytes_ok _ _ old.setting (debug_state old images) (debug_state c.view-in-Ok.new.self images) c.args.number c.args.address c.args.bytes.now
+    bytes_ok _ _ old.setting (debug_state old images) (debug_state c.view.new.self images) c.args.number c.args.address c.args.bytes.now
     c.args.done.items (script_state old.session images) (script_state c.put_bytes.new.session images) c.put.new.self
     (script_after_put (script_state old.session images) c.args.address c.args.bytes.now) c.in-Ok.field-0
     (c.in-Ok.ensures images)
