@@ -16,7 +16,7 @@ returns-in_ok-view-in-Ok-clause-reported g c images =
     c.args.done.items (script_state old.session images) (script_state c.put_bytes.new.session images) c.put.new.self
     (script_after_put (script_state old.session images) c.args.address c.args.bytes.now) c.in-Ok.field-0
     (c.in-Ok.ensures images)
-    (c.in_ok-put.ensures ∙ ap (λ (bytes : List ℕ). past_with_deed old.past c.args.number (Bytes c.args.address bytes)) c.in_ok-kept.ensures)
+    (c.in_ok-put-in-Ok.ensures ∙ ap (λ (bytes : List ℕ). past_with_deed old.past c.args.number (Bytes c.args.address bytes)) c.in_ok-kept.ensures)
     (c.in_ok-view-in-Ok.ensures.reported images)
 
 pub returns-in_ok-view-in-Err-clause-reported : goal.returns-in_ok-view-in-Err-clause-reported
