@@ -16,20 +16,15 @@ use Rattle.debug_session.specs.DebugState.{DebugState}
 use Rattle.command_shell.specs.MachineState.{MachineState}
 use Rattle.debug_records.specs.AnswerHeads.{answer_fields, answer_head, line_counts}
 use Rattle.debug_records.specs.AnsweredLines.{RecordedLine, AreLinesBetween, RecordingState, answer_by, is_remark_request, is_reset_request, next_line, request_read, state_answered, steps_asked, steps_of_line}
-use Rattle.debug_records.specs.Moments.{AreStepsOfLine, IsMoment}
+use Rattle.debug_records.specs.Moments.{AreStepsOfLine, IsMoment, behind_fields}
 
 -- RECORDS
-
--- the other fields, behind those that a record begins with
-abbrev pub behind_head : List ℕ → List ℕ
-behind_head [] = []
-behind_head (b ∷ rest) = codes "," ++ (b ∷ rest)
 
 -- a record that begins with these fields, and is one line
 pub record IsRecord (head text : List ℕ) : Type 0 where
   pub others : List ℕ
   pub one_line : list_all (λ b. not (b == 10)) others ≡ true
-  pub whole : text ≡ codes "{" ++ (head ++ (behind_head others ++ codes "}\n"))
+  pub whole : text ≡ codes "{" ++ (head ++ (behind_fields others ++ codes "}\n"))
 
 -- how a record is: these fields and no others; these and perhaps others behind them; these, and what
 -- differs between two machines; or how those of the steps of a line are, where so many were taken before, so

@@ -54,6 +54,12 @@ impl LineUse<'_> {
         matches!(self, LineUse::Remark)
     }
 
+    fn takes_steps(&self) -> bool
+        ensures { result ≡ is_stepping_use self.now }
+    {
+        matches!(self, LineUse::Steps)
+    }
+
     /// Whether the answer says what differs.
     pub(crate) fn may_change(&self) -> bool
         ensures { result ≡ not (is_remark_use self.now)
@@ -280,7 +286,7 @@ fn meant_words(
 impl Twin {
     // The twin answers a line that takes no steps.
     fn follow(&mut self, used: &LineUse<'_>, words: &[u8], block: &Lines) -> Result<(), RunError> {
-        if let LineUse::Steps = *used {
+        if used.takes_steps() {
             return Ok(());
         }
         let mut unseen = TextSink::new(self.alloc);
@@ -305,9 +311,9 @@ impl Twin {
         ensures kept { is_stepping_use used.now ≡ false → OnOk result
             (twin_machine self.new ≡ twin_machine self.old) }
     {
-        let LineUse::Steps = *used else {
+        if !used.takes_steps() {
             return Ok(());
-        };
+        }
         self.record_steps(session, command, line, sink)?;
         self.stand_with(session)?;
         Ok(())

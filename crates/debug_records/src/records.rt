@@ -19,30 +19,24 @@ use trace_json::are_others;
 /// # Errors
 ///
 /// `WriteFault` where the sink failed, or the other fields aren't one line: nothing is written then.
-pub(crate) fn push_record<W: Sink>(
+pub(crate) fn push_record<'a, W: Sink>(
     sink: &mut W,
-    head: &RecordText,
-    others: &RecordText,
+    head: &'a RecordText,
+    others: &'a RecordText,
 ) -> Result<(), WriteFault>
     ensures { OnOk result
         (Adds (IsRecord head.now.bytes.items) (W.contents sink.old) (W.contents sink.new)) }
 {
-    let fields = others.bytes();
-    if !is_one_line(fields) {
+    if !is_one_line(others.bytes()) {
         return Err(WriteFault);
     }
-    let comma = if fields.is_empty() {
-        b"".as_slice()
-    } else {
-        b",".as_slice()
-    };
     push_parts(
         sink,
         &[
             b"{".as_slice(),
             head.bytes(),
-            comma,
-            fields,
+            comma_before(others),
+            others.bytes(),
             b"}\n".as_slice(),
         ],
     )?;

@@ -115,7 +115,8 @@ impl Twin {
         Ok(())
     }
 
-    // Begins the record of a step of a line, and takes it.
+    // Begins the record of a step of a line, and takes it; before the first the routine is entered that a
+    // line calls.
     fn begin(
         &mut self,
         command: &Option<SteppingCommand<'_>>,
@@ -128,25 +129,14 @@ impl Twin {
     {
         match outside_call(command, index) {
             Some(call) => Ok(self.begin_call(call, printed)?),
-            None => self.begin_step(command, index, printed),
+            None => {
+                enter_first(&mut self.session.session, command, index);
+                Ok(self.begin_entered(printed)?)
+            }
         }
     }
 
-    // That of a step that is no call from outside; the first of a line that calls a routine there.
-    fn begin_step(
-        &mut self,
-        command: &Option<SteppingCommand<'_>>,
-        index: u64,
-        printed: &mut TextSink,
-    ) -> Result<(StepBefore, WrittenRegisters), AllocError>
-        ensures taken { IfOk result
-            (λ r. IsTaken (index == 0) (twin_machine self.old) (twin_machine self.new) r.0) }
-        ensures changes { OnOk result (self.new.changes ≡ self.old.changes) }
-    {
-        enter_first(&mut self.session.session, command, index);
-        Ok(self.begin_entered(printed)?)
-    }
-
+    // That of a step that is no call from outside.
     fn begin_entered(
         &mut self,
         printed: &mut TextSink,
