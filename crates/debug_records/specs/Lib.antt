@@ -4,10 +4,8 @@
 pub mod AnswerHeads
 pub mod AnsweredLines
 pub mod LineRecords
-pub mod Moments
 pub mod Recording
 pub mod Records
-pub mod Taking
 pub use Rattle.debug_session.specs.DebugChecksReportForm
 pub use Rattle.debug_session.specs.DebugScript
 pub use Rattle.debug_session.specs.DebugState

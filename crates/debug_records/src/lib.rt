@@ -13,9 +13,7 @@ mod lines;
 mod recorder;
 mod records;
 mod script;
-mod standing;
 mod steps;
-mod taking;
 
 pub use debug_session::{
     DebugSession, DebugSettings, ReportForm, RunMeter, begins_ending, push_missing_end,

@@ -4,7 +4,7 @@ ghost use Rattle.std.specs.Prelude.{◌≡◌, ◌||◌, true, codes, is_some, n
 ghost use Rattle.swi_dispatch.specs.GuestState.{state_of};
 ghost use Rattle.swi_dispatch.specs.MachineState.{MachineState};
 ghost use Rattle.trace_effects.specs.Cause.{cause_of};
-ghost use Rattle.trace_json.specs.Moments.{ChangesKept, IsBefore, KeepsMemory, KeepsWords, ShowsChanges, changes_all, expected_at, is_copied, place_of, words_of};
+ghost use Rattle.trace_json.specs.Moments.{ChangesKept, IsKeptBefore, KeepsMemory, KeepsWords, ShowsChanges, changes_all, expected_at, is_copied, step_place, words_of};
 ghost use Rattle.trace_moments.specs.WordFields.{ShowsWords};
 ghost use Rattle.trace_moments.specs.law_trace.Laws.{is_plain};
 
@@ -41,8 +41,7 @@ pub struct StepBefore {
 }
 
 impl StepBefore {
-    /// Begins the fields of the step that comes next, behind the address at which it is made, and keeps
-    /// what it may change.
+    /// Begins the fields of the step that comes next behind its number, and keeps what it may change.
     ///
     /// # Errors
     ///
@@ -53,10 +52,9 @@ impl StepBefore {
         machine: &Machine,
         is_stubbed: bool,
     ) -> Result<StepBefore, AllocError>
-        ensures before { IfOk result (λ before. IsBefore before (state_of machine.now.guest)) }
+        ensures before { IfOk result (λ before. IsKeptBefore before (state_of machine.now.guest)) }
         ensures copied { let s = state_of machine.now.guest in IfOk result (λ before. is_copied before.memory
             ≡ (is_stubbed || not (is_plain (cause_of s.cpu s.store.bytes)))) }
-        ensures inside { IfOk result (λ before. is_some (place_of before) ≡ true) }
     {
         let cpu = machine.cpu();
         let cause = Cause::of(cpu, machine.memory());
@@ -66,7 +64,7 @@ impl StepBefore {
         StepBefore::keeping(alloc, machine, kind, cause)
     }
 
-    /// Begins those of a store call from outside.
+    /// Begins that of a store call from outside.
     ///
     /// # Errors
     ///
@@ -77,7 +75,7 @@ impl StepBefore {
         machine: &Machine,
         swi: u32,
     ) -> Result<StepBefore, AllocError>
-        ensures before { IfOk result (λ before. IsBefore before (state_of machine.now.guest)) }
+        ensures before { IfOk result (λ before. IsKeptBefore before (state_of machine.now.guest)) }
         ensures copied { IfOk result (λ before. is_copied before.memory ≡ true) }
     {
         let called = without_x_bit(swi % (1 << 24));
@@ -90,7 +88,7 @@ impl StepBefore {
         StepBefore::keeping(alloc, machine, StepKind::Outside(called), Cause::Unmapped)
     }
 
-    /// Begins those of a module that is loaded from outside.
+    /// Begins that of a module that is loaded from outside.
     ///
     /// # Errors
     ///
@@ -101,7 +99,7 @@ impl StepBefore {
         machine: &Machine,
         words: &[u8],
     ) -> Result<StepBefore, AllocError>
-        ensures before { IfOk result (λ before. IsBefore before (state_of machine.now.guest)) }
+        ensures before { IfOk result (λ before. IsKeptBefore before (state_of machine.now.guest)) }
         ensures copied { IfOk result (λ before. is_copied before.memory ≡ true) }
     {
         text.name(b"call")?;
@@ -139,26 +137,26 @@ impl StepBefore {
         })
     }
 
-    /// The address at which the step is made; a call from outside is made nowhere.
-    pub fn place(&self) -> Option<u32>
-        ensures { result ≡ place_of self.now }
-    {
-        match self.kind {
-            StepKind::Outside(_) => None,
-            _ => Some(self.cpu.pc()),
-        }
-    }
-
-    /// Ends these fields: with the words that were read.
+    /// Ends the fields, by the machine after the step, what the step printed, and the registers that
+    /// were shown so far; but for where images stand. A stub has written these registers.
     ///
     /// # Errors
     ///
     /// Memory ran out.
-    pub fn push_reads(&self, text: &mut RecordText, machine: &Machine) -> Result<(), AllocError> {
-        if machine.stop().is_some() {
-            return Ok(());
+    pub fn print_end(
+        &self,
+        alloc: Global,
+        text: &mut RecordText,
+        reported: &Cpu,
+        machine: &Machine,
+        stub: &WrittenRegisters,
+        printed: &[u8],
+    ) -> Result<(), AllocError> {
+        if machine.stop().is_none() {
+            push_reads(text, self.loaded.as_slice())?;
         }
-        push_reads(text, self.loaded.as_slice())
+        self.push_changes(alloc, text, reported, machine, stub)?;
+        self.push_rest(alloc, text, machine, printed)
     }
 
     /// Writes what differs after the step of the core, by the registers that were shown so far, and of
@@ -176,9 +174,9 @@ impl StepBefore {
         stub: &WrittenRegisters,
     ) -> Result<(), AllocError>
         ensures { (s e : MachineState) → let t = state_of machine.now.guest in reported.now ≡ s.cpu
-            → words_of e ≡ words_of s → IsBefore self.now e → ChangesKept self.now.memory e t
+            → words_of e ≡ words_of s → IsKeptBefore self.now e → ChangesKept self.now.memory e t
             → OnOk result (ShowsChanges (codes "next")
-            (expected_at (place_of self.now) e.cpu.pc (is_some t.halt)) s t text.old text.new) }
+            (expected_at (step_place self.now) e.cpu.pc (is_some t.halt)) s t text.old text.new) }
     {
         let stop = machine.stop();
         let kept = self.frames_kept(machine);
@@ -206,12 +204,8 @@ impl StepBefore {
         }
     }
 
-    /// Writes what else the step left, and what it printed; but for where images stand.
-    ///
-    /// # Errors
-    ///
-    /// Memory ran out.
-    pub fn push_rest(
+    // Writes what else the step left, and what it printed; but for where images stand.
+    fn push_rest(
         &self,
         alloc: Global,
         text: &mut RecordText,
@@ -223,7 +217,7 @@ impl StepBefore {
             push_error(alloc, text, machine.error_number())?;
         }
         if let MemoryBefore::Copied(copy) = &self.memory {
-            push_frames(text, copy.frames, kept, machine, self.place())?;
+            push_frames(text, copy.frames, kept, machine, self.caller())?;
             push_store_changes(alloc, text, copy, machine, self.fate(machine))?;
         }
         push_out(text, printed)?;
@@ -269,7 +263,7 @@ impl StepBefore {
 
     // Where a core goes on that nothing is said of.
     fn expected(&self, stop: Option<Stop>) -> u32
-        ensures { result ≡ expected_at (place_of self.now) self.now.cpu.pc (is_some stop) }
+        ensures { result ≡ expected_at (step_place self.now) self.now.cpu.pc (is_some stop) }
     {
         match self.kind {
             StepKind::Outside(_) => self.cpu.pc(),
@@ -304,6 +298,14 @@ impl StepBefore {
         }
     }
 
+    // The address at which the step was made.
+    fn caller(&self) -> Option<u32> {
+        match self.kind {
+            StepKind::Outside(_) => None,
+            _ => Some(self.cpu.pc()),
+        }
+    }
+
     // A call that resizes a block takes it in R2, and answers in R2 where it is.
     fn fate(&self, machine: &Machine) -> BlockFate {
         let resizes = match self.kind {
@@ -324,13 +326,14 @@ impl StepBefore {
     }
 }
 
-// What stands where a step is made.
+// Where a step is made, and what stands there.
 fn push_place(
     alloc: Global,
     text: &mut RecordText,
     pc: u32,
     cause: Cause,
 ) -> Result<(), AllocError> {
+    text.number_field(b"pc", u64::from(pc))?;
     match cause {
         Cause::Gate => text.string_field(b"asm", b"return gate"),
         Cause::Unmapped => text.string_field(b"asm", b"unmapped"),
