@@ -237,7 +237,8 @@ class Walk:
             self.begin()
         elif text in back_scripts.LOSING:
             # the past of a machine that stands as it was made begins with an image that is added
-            if not entry.answer.startswith("refused"):
+            # nor does a block whose name is taken, as `asm q: NameTaken`, change the images
+            if not re.match(r"refused|(asm|hex) \S+: [A-Z]", entry.answer):
                 self.is_known = self.is_known and self.path[-1].text == "RESET"
                 if self.is_known:
                     self.begin()
