@@ -4,10 +4,10 @@ ghost use Rattle.std.specs.Prelude.{◌≡◌, IfOk, OnOk};
 ghost use Rattle.profile.specs.Devices.{device_inner};
 ghost use Rattle.debug_program.specs.GoingOn.{DebugsBoth, IsStatusOfBoth};
 
-use debug_session::RunError;
 use crate::talk::{answer_pieces, talk};
 use crate::typing::DebugTyping;
 use crate::whole_lines::WholeLines;
+use debug_session::RunError;
 use image_loader::Images;
 use profile::{Device, Sink, Source};
 use std::io::Write;
