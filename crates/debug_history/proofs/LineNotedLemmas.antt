@@ -179,7 +179,7 @@ refused_block s number Unknown block is = absurd (cc)
 anew_moment : (images : List Entry) (sizes : Sizes) (d : PastDeed) (m : PastMoment) → is_anew d ≡ true
     → moment_after_deed images sizes d m ≡ fresh_moment sizes
 anew_moment images sizes deed.Anew m is = refl
-anew_moment images sizes (deed.Steps count) m is = absurd (cc)
+anew_moment images sizes (deed.Steps stubs count) m is = absurd (cc)
 anew_moment images sizes deed.FaultingStep m is = absurd (cc)
 anew_moment images sizes (deed.Boot name) m is = absurd (cc)
 anew_moment images sizes (deed.Call number b) m is = absurd (cc)

@@ -4,8 +4,8 @@ use Rattle.std.specs.Prelude.{map, nat_le}
 use Rattle.std.specs.List.{last_or}
 use Rattle.std.proofs.lemmas.Bool.Decides.{nat_tests}
 use Rattle.std.proofs.lemmas.List.{append-nil, drop_all, drop_more, take-append-drop, take_more}
-use Rattle.debug_history.specs.Acts.{is_anew, steps_of_acts, steps_of_deed}
-use Rattle.debug_history.specs.Cutting.{acts_behind_by}
+use Rattle.debug_history.specs.Acts.{is_anew, steps_of_acts, steps_of_deed, stubs_of_deed}
+use Rattle.debug_history.specs.Cutting.{behind_cut, first_cut}
 use Rattle.debug_history.specs.Past.{act_behind, acts_before_line, acts_from, acts_until, ends_anew, first_steps}
 use Rattle.debug_history.specs.declared.act.Act.{Act}
 use Rattle.debug_history.proofs.ActLemmas.{steps_joined, steps_of_none}

@@ -4,7 +4,8 @@ use Rattle.std.specs.Prelude.{ℕ, zero, suc, Bool, true, false, ◌&&◌, ◌+�
 use Rattle.std.specs.List.{last_or}
 use Rattle.image_loader.specs.Entries.{Entry}
 use Rattle.profile.specs.Sizes.{Sizes}
-use Rattle.debug_history.specs.Acts.{PastMoment, fresh_moment, is_anew, moment_after_acts, steps_act, steps_of_acts, steps_of_deed}
+use Rattle.command_shell_lines.specs.declared.debug_words.stubs.Stub.{Stub}
+use Rattle.debug_history.specs.Acts.{PastMoment, fresh_moment, is_anew, moment_after_acts, steps_act, steps_of_acts, steps_of_deed, stubs_of_deed}
 use Rattle.debug_history.specs.declared.act.Act.{Act}
 
 -- what was done, where it is known, and what lies ahead: what was gone back by since something was done last
