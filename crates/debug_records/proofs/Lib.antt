@@ -2,8 +2,11 @@
 
 pub mod AnsweredLemmas
 pub mod HeadLemmas
+pub mod MomentLemmas
 pub mod RecordedLines
 pub mod RecordLemmas
+pub mod StandingLemmas
+pub mod TakingLemmas
 pub use Rattle.debug_session.proofs.FailLemmas
 pub use Rattle.debug_session.proofs.JoinLemmas
 pub use Rattle.debug_session.proofs.LineLemmas

@@ -8,7 +8,7 @@ use Rattle.trace_effects.specs.record_text.Spelling.{string_text}
 use Rattle.debug_session.specs.DebugState.{DebugState}
 use Rattle.debug_records.specs.declared.counts.LineCounts.{LineCounts}
 use Rattle.debug_records.specs.declared.lines.LineUse.{LineUse}
-use Rattle.debug_records.specs.declared.lines.LineUse.TheVariants.{Block, Remark, Steps}
+use Rattle.debug_records.specs.declared.lines.LineUse.TheVariants.{Block, Remark, Reset, Steps}
 
 -- what a session has counted
 abbrev pub line_counts : DebugState → LineCounts
@@ -21,6 +21,10 @@ is_remark_use _ = false
 abbrev pub is_stepping_use : LineUse → Bool
 is_stepping_use Steps = true
 is_stepping_use _ = false
+
+abbrev pub is_reset_use : LineUse → Bool
+is_reset_use Reset = true
+is_reset_use _ = false
 
 abbrev pub is_block_use : LineUse → Bool
 is_block_use (Block name origin) = true

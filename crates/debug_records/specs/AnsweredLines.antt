@@ -4,7 +4,7 @@ use Rattle.std.specs.Prelude.{◌+◌, ◌^◌, ◌-◌, ℕ, nat_lt, min, Bool,
 use Rattle.command_shell_lines.specs.Blocks.{block_lines, lines_after, lines_taken}
 use Rattle.command_shell_lines.specs.Requests.{request_of}
 use Rattle.command_shell_lines.specs.Requests as script
-use Rattle.debug_lines.specs.DebugRequests.{DebugRequest, Mode, Remark, Script, Stepping, is_script_request, simple_request}
+use Rattle.debug_lines.specs.DebugRequests.{DebugRequest, Mode, Remark, Reset, Script, Stepping, is_script_request, simple_request}
 use Rattle.debug_lines.specs.ModeRequests.{ModeRequest, TraceLimit}
 use Rattle.debug_lines.specs.SteppingRequests.{SteppingRequest, stepping_in}
 use Rattle.debug_lines.specs.Tidy.{tidied_line}
@@ -51,6 +51,11 @@ abbrev pub is_remark_request : DebugRequest → Bool
 is_remark_request (Script script.Nothing) = true
 is_remark_request Remark = true
 is_remark_request request = false
+
+-- whether it asks for a fresh machine
+abbrev pub is_reset_request : DebugRequest → Bool
+is_reset_request Reset = true
+is_reset_request request = false
 
 -- what is asked for that takes steps
 abbrev pub steps_asked : DebugRequest → Option SteppingRequest

@@ -4,12 +4,15 @@
 pub mod AnswerHeads
 pub mod AnsweredLines
 pub mod LineRecords
+pub mod Moments
 pub mod Recording
 pub mod Records
+pub mod Taking
 pub use Rattle.debug_session.specs.DebugChecksReportForm
 pub use Rattle.debug_session.specs.DebugScript
 pub use Rattle.debug_session.specs.DebugState
 pub use Rattle.debug_session.specs.Endings
+pub use Rattle.debug_session.specs.Error
 pub use Rattle.debug_session.specs.ExitStatus
 pub use Rattle.debug_session.specs.Failing
 pub use Rattle.debug_session.specs.Reports

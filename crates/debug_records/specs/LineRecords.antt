@@ -1,40 +1,45 @@
 -- Which records a line has that is answered: one with its number and its text as typed; then one for
 -- each step that it took, with the step's number over the whole script; past the limit, one for all the
--- steps that are left; and one of its answer, with what it says. `line_forms` says what each of
--- them is, or begins with: what a record has beside those fields is a text on its line.
-use Rattle.std.specs.Prelude.{◌≡◌, ℕ, ◌+◌, ◌-◌, ◌==◌, nat_lt, min, not, Bool, true, false, List, [], ◌∷◌, ◌++◌, codes, map, take, Option, Some, None, is_some, option_map, if◌then◌else◌}
+-- steps that are left; and one of its answer, with what it says. Those of the steps, or that of the answer
+-- to a line that takes none, replay on the machine before the line to that behind it, as Moments says.
+-- `line_forms` says what each of them is, or begins with: what a record has beside those fields is a text
+-- on its line.
+use Rattle.std.specs.Prelude.{◌≡◌, ℕ, ◌+◌, ◌==◌, not, Bool, true, false, List, [], ◌∷◌, ◌++◌, codes, take, Option, Some, None, is_some, option_map}
 use Rattle.std.specs.Fmt.{decimal}
-use Rattle.std.specs.List.{flat_map, list_all, range_with_len}
+use Rattle.std.specs.List.{flat_map, list_all}
 use Rattle.std.specs.Io.KnownBytes.{Appends}
 use Rattle.profile.specs.text_sink.Safe.{is_safe}
 use Rattle.trace_effects.specs.record_text.Spelling.{comma_before, string_text}
 use Rattle.command_shell_lines.specs.Blocks.{lines_in_block}
 use Rattle.debug_lines.specs.DebugRequests.{debug_opens_block}
 use Rattle.debug_session.specs.DebugState.{DebugState}
+use Rattle.command_shell.specs.MachineState.{MachineState}
 use Rattle.debug_records.specs.AnswerHeads.{answer_fields, answer_head, line_counts}
-use Rattle.debug_records.specs.AnsweredLines.{RecordedLine, AreLinesBetween, RecordingState, answer_by, is_remark_request, next_line, request_read, state_answered, step_number, steps_asked, steps_of_line}
+use Rattle.debug_records.specs.AnsweredLines.{RecordedLine, AreLinesBetween, RecordingState, answer_by, is_remark_request, is_reset_request, next_line, request_read, state_answered, steps_asked, steps_of_line}
+use Rattle.debug_records.specs.Moments.{AreStepsOfLine, IsMoment, behind_fields}
 
 -- RECORDS
-
--- the other fields, behind those that a record begins with
-abbrev pub behind_head : List ℕ → List ℕ
-behind_head [] = []
-behind_head (b ∷ rest) = codes "," ++ (b ∷ rest)
 
 -- a record that begins with these fields, and is one line
 pub record IsRecord (head text : List ℕ) : Type 0 where
   pub others : List ℕ
   pub one_line : list_all (λ b. not (b == 10)) others ≡ true
-  pub whole : text ≡ codes "{" ++ (head ++ (behind_head others ++ codes "}\n"))
+  pub whole : text ≡ codes "{" ++ (head ++ (behind_fields others ++ codes "}\n"))
 
--- how a record is: these fields and no others, or these and perhaps others behind them
+-- how a record is: these fields and no others; these and perhaps others behind them; these, and what
+-- differs between two machines; or how those of the steps of a line are, where so many were taken before, so
+-- many are shown one by one, and so many were taken from one machine to another
 pub data RecordForm : Type 0 where
   Whole : List ℕ → RecordForm
   Begins : List ℕ → RecordForm
+  Changes : List ℕ → MachineState → MachineState → RecordForm
+  Steps : ℕ → ℕ → ℕ → MachineState → MachineState → RecordForm
 
 abbrev pub IsOfForm : RecordForm → List ℕ → Type 0
 IsOfForm (Whole fields) text = text ≡ codes "{" ++ (fields ++ codes "}\n")
 IsOfForm (Begins head) text = IsRecord head text
+IsOfForm (Changes head m m') text = IsMoment head (codes "pc") m.cpu.pc m m' text
+IsOfForm (Steps before limit taken m m') text = AreStepsOfLine before limit taken m m' text
 
 -- records, one behind another
 pub data AreRecords : List RecordForm → List ℕ → Type 0 where
@@ -71,50 +76,42 @@ abbrev pub line_head : ℕ → List ℕ → Option ℕ → List ℕ
 line_head number line time = codes "\"line\":" ++ (decimal number
     ++ (codes ",\"text\":" ++ (string_text line ++ repeat_field time)))
 
--- `"step":12`
-abbrev pub step_head : ℕ → List ℕ
-step_head number = codes "\"step\":" ++ decimal number
-
--- `"step":112,"skip":100`
-abbrev pub skip_head : ℕ → ℕ → List ℕ
-skip_head last count = codes "\"step\":" ++ (decimal last ++ (codes ",\"skip\":" ++ decimal count))
-
 -- THE RECORDS OF A LINE
 
--- so many steps one by one, where so many were taken before
-abbrev pub each_step : ℕ → ℕ → List RecordForm
-each_step before count = map (λ n. Begins (step_head (step_number before n))) (range_with_len 1 count)
-
--- those past the limit as one
-abbrev pub rest_of_steps : ℕ → ℕ → ℕ → List RecordForm
-rest_of_steps before limit taken = if nat_lt limit taken
-    then Begins (skip_head (step_number before taken) (taken - limit)) ∷ [] else []
-
-abbrev pub step_forms : ℕ → ℕ → ℕ → List RecordForm
-step_forms before limit taken = each_step before (min limit taken) ++ rest_of_steps before limit taken
+-- those of its steps, of a line that asks for steps
+abbrev pub step_forms : Bool → ℕ → ℕ → ℕ → MachineState → MachineState → List RecordForm
+step_forms false before limit taken m m' = []
+step_forms true before limit taken m m' = Steps before limit taken m m' ∷ []
 
 -- that of a line, with the lines that its block takes
 abbrev pub line_record_form : List ℕ → List ℕ → Option ℕ → RecordingState → RecordForm
 line_record_form line words time at = Whole (line_head at.number line time
     ++ block_field (debug_opens_block (request_read line words at)) (take (lines_in_block at.left) at.left))
 
--- that of an answer
-abbrev pub answer_form : Bool → List ℕ → RecordForm
-answer_form is_remark fields = if is_remark then Whole fields else Begins fields
+-- that of an answer, by whether the line asks for nothing, for steps, or for a fresh machine
+abbrev pub answer_form : Bool → Bool → Bool → List ℕ → MachineState → MachineState → RecordForm
+answer_form true stepping resets fields m m' = Whole fields
+answer_form false true resets fields m m' = Begins fields
+answer_form false false true fields m m' = Begins fields
+answer_form false false false fields m m' = Changes fields m m'
 
 abbrev pub answer_record_form : List ℕ → List ℕ → RecordingState → RecordForm
 answer_record_form line words at =
     let request = request_read line words at in
     let answer = answer_by words at in
-    answer_form (is_remark_request request) (answer_head at.number (answer_fields (is_remark_request request)
+    answer_form (is_remark_request request) (is_some (steps_asked request)) (is_reset_request request)
+    (answer_head at.number (answer_fields (is_remark_request request)
     (is_some (steps_asked request)) (steps_of_line request answer.state) (line_counts at.debug) answer.state
-    answer.text))
+    answer.text)) at.debug.script.machine answer.state.script.machine
 
 -- those of a line that was answered by these words, or of one time that it was
 abbrev pub line_forms : List ℕ → List ℕ → Option ℕ → RecordingState → List RecordForm
-line_forms line words time at = line_record_form line words time at
-    ∷ (step_forms at.steps at.limit (steps_of_line (request_read line words at) (state_answered words at))
-    ++ (answer_record_form line words at ∷ []))
+line_forms line words time at =
+    let request = request_read line words at in
+    let after = state_answered words at in
+    line_record_form line words time at
+    ∷ (step_forms (is_some (steps_asked request)) at.steps at.limit (steps_of_line request after)
+    at.debug.script.machine after.script.machine ++ (answer_record_form line words at ∷ []))
 
 -- THE RECORDS OF LINES
 

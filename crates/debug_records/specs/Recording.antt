@@ -6,7 +6,11 @@ use Rattle.debug_session.specs.DebugState.{debug_start_state}
 use Rattle.debug_session.specs.Session.{debug_state}
 use Rattle.debug_session.specs.declared.session.DebugSettings.{DebugSettings}
 use Rattle.debug_records.specs.AnsweredLines.{RecordingState}
+use Rattle.debug_session.specs.declared.session.DebugSession.{DebugSession}
+use Rattle.command_shell.specs.GuestState.{state_of}
+use Rattle.command_shell.specs.MachineState.{MachineState}
 use Rattle.debug_records.specs.declared.recorder.Recorder.{Recorder}
+use Rattle.debug_records.specs.declared.recorder.Twin.{Twin}
 
 abbrev pub recording_state : Recorder → ReadingPlace → RecordingState
 recording_state r place = record {
@@ -17,6 +21,13 @@ recording_state r place = record {
   steps = r.steps;
   limit = r.limit;
 }
+
+-- the machine of the twin, and that of the session
+abbrev pub twin_machine : Twin → MachineState
+twin_machine twin = state_of twin.session.session.machine.guest
+
+abbrev pub session_machine : DebugSession → MachineState
+session_machine session = state_of session.session.machine.guest
 
 -- the settings of a session that is recorded: it can't go back
 abbrev pub without_past : DebugSettings → DebugSettings

@@ -1,17 +1,17 @@
 //! The answer to a line, recorded.
 
-ghost use Rattle.std.specs.Prelude.{List, OnOk};
+ghost use Rattle.std.specs.Prelude.{◌≡◌, List, OnOk};
 ghost use Rattle.image_loader.specs.Entries.{Entry};
 ghost use Rattle.debug_session.specs.Session.{debug_state};
-ghost use Rattle.debug_records.specs.AnswerHeads.{answer_fields, answer_head, is_remark_use, is_stepping_use};
-ghost use Rattle.debug_records.specs.LineRecords.{Adds, IsOfForm, answer_form};
+ghost use Rattle.debug_records.specs.AnswerHeads.{answer_fields, answer_head, is_remark_use, is_reset_use, is_stepping_use};
+ghost use Rattle.debug_records.specs.LineRecords.{Adds, Changes, IsOfForm, IsRecord, answer_form};
+ghost use Rattle.debug_records.specs.Recording.{session_machine, twin_machine};
 
 use crate::answer_heads::{answer_head, without_end};
 use crate::counts::LineCounts;
-use crate::images::push_image;
 use crate::lines::LineUse;
 use crate::recorder::Twin;
-use crate::records::{push_record, push_whole};
+use crate::records::{push_moment, push_record, push_whole};
 use command_shell::RunError;
 use command_shell_lines::skip_block;
 use debug_session::DebugSession;
@@ -20,7 +20,9 @@ use profile::Sink;
 use profile::text_lines::{Lines, cut};
 use std::alloc::{AllocError, Global};
 use trace_effects::record_text::{Bracket, RecordText};
-use trace_json::{MachineCopy, push_changes, push_state, push_stop};
+use trace_json::{
+    MachineCopy, push_changed_store, push_changes, push_image, push_state, push_stop,
+};
 
 /// A line that was answered.
 #[derive(Clone, Copy)]
@@ -47,8 +49,10 @@ impl Twin {
         sink: &mut W,
     ) -> Result<(), RunError>
         ensures { (held : List Entry) → OnOk result (Adds (IsOfForm (answer_form (is_remark_use used.now)
+            (is_stepping_use used.now) (is_reset_use used.now)
             (answer_head parts.now.number (answer_fields (is_remark_use used.now) (is_stepping_use used.now)
-            parts.now.taken parts.now.counts (debug_state session.now held) parts.now.answer.now))))
+            parts.now.taken parts.now.counts (debug_state session.now held) parts.now.answer.now))
+            (twin_machine self.old) (session_machine session.now)))
             (W.contents sink.old) (W.contents sink.new)) }
     {
         let head = answer_head(self.alloc, session, parts, used)?;
@@ -56,45 +60,80 @@ impl Twin {
             push_whole(sink, &head)?;
             return Ok(());
         }
-        self.text.clear();
-        match *used {
-            LineUse::Steps => self.push_end_of_steps(session)?,
-            _ => self.push_changed(session, images, parts, used, block)?,
+        if used.may_change() {
+            self.print_changed(session, images, parts, used, block, &head, sink)?;
+            return Ok(());
         }
-        push_record(sink, &head, &self.text)?;
+        self.print_without_changes(session, used, &head, sink)?;
         Ok(())
     }
 
-    // Where the steps of a line ended, and where images stand behind them.
-    fn push_end_of_steps(&mut self, session: &DebugSession) -> Result<(), AllocError> {
-        push_ending(self.alloc, &mut self.text, session)?;
-        self.push_places(Some(session))
+    // Writes that of a line that takes steps: where they ended; or of RESET: the whole machine.
+    fn print_without_changes<W: Sink>(
+        &mut self,
+        session: &DebugSession,
+        used: &LineUse<'_>,
+        head: &RecordText,
+        sink: &mut W,
+    ) -> Result<(), RunError>
+        ensures { OnOk result
+            (Adds (IsRecord head.now.bytes.items) (W.contents sink.old) (W.contents sink.new)) }
+    {
+        self.text.clear();
+        if let LineUse::Reset = *used {
+            self.text.open_field(b"reset", Bracket::Object)?;
+            push_state(&mut self.text, session.machine())?;
+            self.text.close(Bracket::Object)?;
+        } else {
+            push_ending(self.alloc, &mut self.text, session)?;
+        }
+        self.push_places(Some(session))?;
+        push_record(sink, head, &self.text)?;
+        Ok(())
     }
 
-    // What a line changed that takes no steps.
-    fn push_changed(
+    // That of another answer: with what the line changed, and the image that its block has made.
+    fn print_changed<W: Sink>(
         &mut self,
         session: &DebugSession,
         images: &Images,
         parts: &AnswerParts<'_>,
         used: &LineUse<'_>,
         block: &Lines,
-    ) -> Result<(), AllocError> {
+        head: &RecordText,
+        sink: &mut W,
+    ) -> Result<(), RunError>
+        ensures { OnOk result (Adds (IsOfForm (Changes head.now.bytes.items (twin_machine self.old)
+            (session_machine session.now))) (W.contents sink.old) (W.contents sink.new)) }
+    {
+        let before = MachineCopy::of(self.alloc, self.session.machine())?;
+        self.clear();
+        self.push_made(session, images, parts, used, block)?;
+        push_changes(self.alloc, &mut self.changes, &before, session.machine())?;
+        push_changed_store(self.alloc, &mut self.text, &before, session.machine())?;
+        self.push_places(Some(session))?;
+        push_moment(sink, head, &self.front, &self.changes, &self.text)?;
+        Ok(())
+    }
+
+    // The image that a block has made, if it has made one.
+    fn push_made(
+        &mut self,
+        session: &DebugSession,
+        images: &Images,
+        parts: &AnswerParts<'_>,
+        used: &LineUse<'_>,
+        block: &Lines,
+    ) -> Result<(), AllocError>
+        ensures { OnOk result (self.new.changes ≡ self.old.changes) }
+    {
         let counts = LineCounts::of(session);
         if let LineUse::Block(name, origin) = *used {
             if parts.counts.refused == counts.refused {
                 self.print_image(images, name, origin, block)?;
             }
         }
-        if let LineUse::Reset = *used {
-            self.text.open_field(b"reset", Bracket::Object)?;
-            push_state(&mut self.text, session.machine())?;
-            self.text.close(Bracket::Object)?;
-            return self.push_places(Some(session));
-        }
-        let before = MachineCopy::of(self.alloc, self.session.machine())?;
-        push_changes(self.alloc, &mut self.text, &before, session.machine())?;
-        self.push_places(Some(session))
+        Ok(())
     }
 
     fn print_image(
@@ -103,7 +142,9 @@ impl Twin {
         name: &[u8],
         origin: Option<u32>,
         block: &Lines,
-    ) -> Result<(), AllocError> {
+    ) -> Result<(), AllocError>
+        ensures { OnOk result (self.new.changes ≡ self.old.changes) }
+    {
         let Some(bytes) = images.get(name) else {
             return Ok(());
         };
@@ -113,7 +154,7 @@ impl Twin {
             Some(origin) => Some((block, count, origin)),
             None => None,
         };
-        push_image(self.alloc, &mut self.text, name, length, source)?;
+        push_image(self.alloc, &mut self.front, name, length, source)?;
         if origin.is_some() {
             self.know(name)?;
         }

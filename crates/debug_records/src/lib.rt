@@ -13,10 +13,12 @@ mod lines;
 mod recorder;
 mod records;
 mod script;
+mod standing;
 mod steps;
+mod taking;
 
 pub use debug_session::{
-    DebugSession, DebugSettings, ReportForm, RunMeter, begins_ending, push_missing_end,
+    DebugSession, DebugSettings, ReportForm, RunError, RunMeter, begins_ending, push_missing_end,
 };
 pub use recorder::Recorder;
 pub use script::record_script;

@@ -1,20 +1,22 @@
 //! One line of a script, recorded.
 
-ghost use Rattle.std.specs.Prelude.{◌≡◌, ◌<◌, ◌-◌, ◌++◌, false, true, take, List, Some, IfOk, OnOk, option_map, is_some, if◌then◌else◌};
+ghost use Rattle.std.specs.Prelude.{◌≡◌, ◌<◌, ◌-◌, ◌++◌, ◌&&◌, false, not, true, take, List, Some, IfOk, OnOk, option_map, is_some, if◌then◌else◌};
 ghost use Rattle.image_loader.specs.Entries.{Entry};
 ghost use Rattle.command_shell_lines.specs.Blocks.{lines_in_block};
 ghost use Rattle.command_shell_lines.specs.Requests.{opens_block, request_of_command};
 ghost use Rattle.debug_lines.specs.DebugRequests.{Script, debug_opens_block};
 ghost use Rattle.debug_lines.specs.SteppingRequests.{stepping_in, stepping_request_of};
-ghost use Rattle.debug_records.specs.AnswerHeads.{is_block_use, is_remark_use, is_stepping_use};
-ghost use Rattle.debug_records.specs.AnsweredLines.{is_remark_request, limit_after, next_line, request_meant, state_behind, steps_asked, this_time, typed_line, words_read};
-ghost use Rattle.debug_records.specs.LineRecords.{Adds, AreRecorded, AreRecords, IsOfForm, Whole, block_field, line_forms, line_head, strings_text};
-ghost use Rattle.debug_records.specs.Recording.{recording_state};
+ghost use Rattle.debug_records.specs.AnswerHeads.{is_block_use, is_remark_use, is_reset_use, is_stepping_use};
+ghost use Rattle.debug_records.specs.AnsweredLines.{is_remark_request, is_reset_request, limit_after, next_line, request_meant, state_behind, steps_asked, this_time, typed_line, words_read};
+ghost use Rattle.debug_records.specs.LineRecords.{Adds, AreRecorded, AreRecords, IsOfForm, Whole, block_field, line_forms, line_head, step_forms, strings_text};
+ghost use Rattle.debug_records.specs.Moments.{IsAlike};
+ghost use Rattle.debug_records.specs.Recording.{recording_state, session_machine, twin_machine};
 ghost use Rattle.debug_session.specs.Session.{debug_state};
+ghost use Rattle.command_shell.specs.MachineState.{MachineState};
 
 use crate::answers::AnswerParts;
 use crate::counts::LineCounts;
-use crate::recorder::{Recorder, Twin};
+use crate::recorder::{Recorder, SteppedLine, Twin};
 use crate::records::{line_head, push_whole};
 use command_shell::RunError;
 use command_shell_lines::{ScriptCommand, command_of, skip_block};
@@ -52,6 +54,20 @@ impl LineUse<'_> {
         matches!(self, LineUse::Remark)
     }
 
+    fn takes_steps(&self) -> bool
+        ensures { result ≡ is_stepping_use self.now }
+    {
+        matches!(self, LineUse::Steps)
+    }
+
+    /// Whether the answer says what differs.
+    pub(crate) fn may_change(&self) -> bool
+        ensures { result ≡ not (is_remark_use self.now)
+            && (not (is_stepping_use self.now) && not (is_reset_use self.now)) }
+    {
+        matches!(self, LineUse::Block(_, _) | LineUse::Other)
+    }
+
     fn opens_block(&self) -> bool
         ensures { result ≡ is_block_use self.now }
     {
@@ -64,6 +80,7 @@ fn use_of(words: &[u8]) -> LineUse<'_>
     ensures remark { is_remark_use result ≡ is_remark_request (request_meant words.now) }
     ensures stepping { is_stepping_use result ≡ is_some (steps_asked (request_meant words.now)) }
     ensures block { is_block_use result ≡ debug_opens_block (request_meant words.now) }
+    ensures resets { is_reset_use result ≡ is_reset_request (request_meant words.now) }
 {
     let command = command_of(words);
     if is_script_command(&command) {
@@ -83,6 +100,7 @@ fn use_of_script<'a>(command: &ScriptCommand<'a>) -> LineUse<'a>
         ≡ is_remark_request (Script (request_of_command command.now)) }
     ensures stepping { is_stepping_use result ≡ is_some (stepping_in (request_of_command command.now)) }
     ensures block { is_block_use result ≡ opens_block (request_of_command command.now) }
+    ensures resets { is_reset_use result ≡ false }
 {
     match stepping_in(command) {
         Some(_steps) => LineUse::Steps,
@@ -95,6 +113,7 @@ fn use_without_steps<'a>(command: &ScriptCommand<'a>) -> LineUse<'a>
         ≡ is_remark_request (Script (request_of_command command.now)) }
     ensures stepping { is_stepping_use result ≡ false }
     ensures block { is_block_use result ≡ opens_block (request_of_command command.now) }
+    ensures resets { is_reset_use result ≡ false }
 {
     match *command {
         ScriptCommand::Nothing => LineUse::Remark,
@@ -198,7 +217,7 @@ impl Recorder {
         Ok(())
     }
 
-    // Records a line that asks for what these words do.
+    // Records a line that asks for what these words do, where the twin stands as the session does.
     fn record_line<W: Sink>(
         &mut self,
         line: &[u8],
@@ -212,6 +231,7 @@ impl Recorder {
         ensures state { OnOk result (recording_state self.new script.new
             ≡ state_behind line.now words.now (recording_state self.old script.old)) }
     {
+        self.twin.stand_with(&self.session)?;
         let number = script.number();
         let meant = meant_words(&self.session, self.alloc, line, words)?;
         let used = use_of(meant.as_slice());
@@ -224,8 +244,13 @@ impl Recorder {
         self.session
             .answer_line(&mut self.images, &mut answer, words, script)?;
         let taken = steps_taken(&self.session, &steps);
+        let stepped = SteppedLine {
+            before: self.steps,
+            limit: self.limit,
+            taken,
+        };
         self.twin
-            .record_steps(&self.session, &steps, self.steps, self.limit, taken, sink)?;
+            .record_taken(&self.session, &used, &steps, stepped, sink)?;
         self.steps = self.steps.saturating_add(taken);
         self.limit = limit_after(meant.as_slice(), self.limit);
         let parts = AnswerParts {
@@ -261,13 +286,37 @@ fn meant_words(
 impl Twin {
     // The twin answers a line that takes no steps.
     fn follow(&mut self, used: &LineUse<'_>, words: &[u8], block: &Lines) -> Result<(), RunError> {
-        if let LineUse::Steps = *used {
+        if used.takes_steps() {
             return Ok(());
         }
         let mut unseen = TextSink::new(self.alloc);
         let mut lines = block.again();
         self.session
             .answer_line(&mut self.images, &mut unseen, words, &mut lines)
+    }
+
+    // Records the steps that a line has taken, if it asks for steps: behind them the twin stands as the
+    // session does.
+    fn record_taken<W: Sink>(
+        &mut self,
+        session: &DebugSession,
+        used: &LineUse<'_>,
+        command: &Option<SteppingCommand<'_>>,
+        line: SteppedLine,
+        sink: &mut W,
+    ) -> Result<(), RunError>
+        ensures records { (m : MachineState) → IsAlike (twin_machine self.old) m → OnOk result
+            (Adds (AreRecords (step_forms (is_stepping_use used.now) line.before line.limit
+            line.taken m (session_machine session.now))) (W.contents sink.old) (W.contents sink.new)) }
+        ensures kept { is_stepping_use used.now ≡ false → OnOk result
+            (twin_machine self.new ≡ twin_machine self.old) }
+    {
+        if !used.takes_steps() {
+            return Ok(());
+        }
+        self.record_steps(session, command, line, sink)?;
+        self.stand_with(session)?;
+        Ok(())
     }
 
     // Writes the record of a line, with its block where it opens one.

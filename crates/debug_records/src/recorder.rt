@@ -13,7 +13,7 @@ use trace_effects::record_text::RecordText;
 /// A debugging session whose lines are recorded.
 ///
 /// The session answers each line; its twin takes the same steps one by one, and each of them is shown.
-/// After each line both are alike.
+/// Before each line, and behind the steps of one, both are read as the same, or nothing more is recorded.
 #[derive(Drop)]
 pub struct Recorder {
     pub(crate) alloc: Global,
@@ -32,9 +32,21 @@ pub(crate) struct Twin {
     pub(crate) alloc: Global,
     pub(crate) session: DebugSession,
     pub(crate) images: Images,
-    /// The fields of the record that is being made.
+    /// The fields of the record that is being made: what differs of the core and of words, and those before
+    /// and behind.
+    pub(crate) front: RecordText,
+    pub(crate) changes: RecordText,
     pub(crate) text: RecordText,
     pub(crate) known: Vec<KnownImage>,
+}
+
+/// The steps of a line: how many were taken before it, how many of it are shown one by one, and how many
+/// it took.
+#[derive(Clone, Copy, Debug)]
+pub(crate) struct SteppedLine {
+    pub(crate) before: u64,
+    pub(crate) limit: u64,
+    pub(crate) taken: u64,
 }
 
 impl Recorder {
@@ -65,6 +77,8 @@ impl Recorder {
                 alloc,
                 session: DebugSession::new(alloc, own)?,
                 images: twin_images,
+                front: RecordText::new(alloc),
+                changes: RecordText::new(alloc),
                 text: RecordText::new(alloc),
                 known: Vec::new(alloc),
             },

@@ -4,41 +4,39 @@ ghost use Rattle.std.specs.Prelude.{◌≡◌, ◌++◌, not, ◌==◌, true, If
 ghost use Rattle.std.specs.Fmt.{decimal};
 ghost use Rattle.std.specs.List.{list_all};
 ghost use Rattle.trace_effects.specs.record_text.Spelling.{name_text};
-ghost use Rattle.debug_records.specs.LineRecords.{Adds, IsOfForm, IsRecord, Whole, line_head, skip_head};
+ghost use Rattle.profile.specs.text_sink.Safe.{is_safe};
+ghost use Rattle.debug_records.specs.LineRecords.{Adds, IsOfForm, IsRecord, Whole, line_head};
+ghost use Rattle.debug_records.specs.Moments.{IsRecordText, behind_fields, moment_text, place_field, skip_head, step_head};
+ghost use Rattle.trace_json.specs.OtherFields.{are_others};
 
 use profile::{Sink, WriteFault, push_parts};
 use std::alloc::{AllocError, Global};
 use trace_effects::record_text::RecordText;
+use trace_json::are_others;
 
 /// Writes a record, a line of its own.
 ///
 /// # Errors
 ///
 /// `WriteFault` where the sink failed, or the other fields aren't one line: nothing is written then.
-pub(crate) fn push_record<W: Sink>(
+pub(crate) fn push_record<'a, W: Sink>(
     sink: &mut W,
-    head: &RecordText,
-    others: &RecordText,
+    head: &'a RecordText,
+    others: &'a RecordText,
 ) -> Result<(), WriteFault>
     ensures { OnOk result
         (Adds (IsRecord head.now.bytes.items) (W.contents sink.old) (W.contents sink.new)) }
 {
-    let fields = others.bytes();
-    if !is_one_line(fields) {
+    if !is_one_line(others.bytes()) {
         return Err(WriteFault);
     }
-    let comma = if fields.is_empty() {
-        b"".as_slice()
-    } else {
-        b",".as_slice()
-    };
     push_parts(
         sink,
         &[
             b"{".as_slice(),
             head.bytes(),
-            comma,
-            fields,
+            comma_before(others),
+            others.bytes(),
             b"}\n".as_slice(),
         ],
     )?;
@@ -55,6 +53,52 @@ pub(crate) fn push_whole<W: Sink>(sink: &mut W, fields: &RecordText) -> Result<(
         (Adds (IsOfForm (Whole fields.now.bytes.items)) (W.contents sink.old) (W.contents sink.new)) }
 {
     push_parts(sink, &[b"{".as_slice(), fields.bytes(), b"}\n".as_slice()])
+}
+
+/// Writes the record of a moment: what differs of the core and of words, between other fields.
+///
+/// # Errors
+///
+/// `WriteFault` where the sink failed, or other fields say something of the core or of words: nothing is
+/// written then.
+pub(crate) fn push_moment<'a, W: Sink>(
+    sink: &mut W,
+    head: &'a RecordText,
+    front: &'a RecordText,
+    changes: &'a RecordText,
+    rest: &'a RecordText,
+) -> Result<(), WriteFault>
+    ensures others { OnOk result (are_others front.now.bytes.items ≡ true) }
+    ensures others_behind { OnOk result (are_others rest.now.bytes.items ≡ true) }
+    ensures written { OnOk result (Adds (IsRecordText (moment_text head.now.bytes.items front.now.bytes.items
+        changes.now.bytes.items rest.now.bytes.items)) (W.contents sink.old) (W.contents sink.new)) }
+{
+    if !are_others(front.bytes()) || !are_others(rest.bytes()) {
+        return Err(WriteFault);
+    }
+    push_parts(
+        sink,
+        &[
+            b"{".as_slice(),
+            head.bytes(),
+            comma_before(front),
+            front.bytes(),
+            comma_before(changes),
+            changes.bytes(),
+            comma_before(rest),
+            rest.bytes(),
+            b"}\n".as_slice(),
+        ],
+    )?;
+    Ok(())
+}
+
+// What stands between fields and others that come next, if there are some.
+fn comma_before(next: &RecordText) -> &[u8]
+    ensures value { result.now ++ next.now.bytes.items ≡ behind_fields next.now.bytes.items }
+    ensures safe { list_all is_safe result.now ≡ true }
+{
+    if next.bytes().is_empty() { b"" } else { b"," }
 }
 
 fn is_one_line(bytes: &[u8]) -> bool
@@ -89,6 +133,22 @@ pub(crate) fn line_head(
         return Ok(head);
     };
     head.number_field(b"repeat", u64::from(time) + 1)?;
+    Ok(head)
+}
+
+/// The same of a step of a number, with the address at which it is made.
+pub(crate) fn step_head(
+    alloc: Global,
+    number: u64,
+    place: Option<u32>,
+) -> Result<RecordText, AllocError>
+    ensures { IfOk result (λ head. head.bytes.items ≡ step_head number ++ place_field place) }
+{
+    let mut head = head_of(alloc, b"step", number)?;
+    let Some(at) = place else {
+        return Ok(head);
+    };
+    head.number_field(b"pc", u64::from(at))?;
     Ok(head)
 }
 

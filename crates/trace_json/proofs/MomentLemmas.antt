@@ -24,7 +24,7 @@ use Rattle.trace_moments.proofs.StoredLemmas.{renewed_after}
 use Rattle.trace_moments.specs.CoreFields.{AreCoreChanges, ShowsCore, core_fields}
 use Rattle.trace_effects.specs.shown_words.Replay.{words_after}
 use Rattle.trace_effects.specs.store_words.Copies.{kept_in}
-use Rattle.trace_json.specs.Moments.{ChangesKept, ChangesListed, IsKeptBefore, IsCopy, KeepsMemory, ShowsChanges, StepsChangeWhatIsKept, expected_at, is_copied, step_place, words_of}
+use Rattle.trace_json.specs.Moments.{ChangesKept, ChangesListed, IsKeptBefore, IsCopy, KeepsMemory, ShowsChanges, expected_at, is_copied, step_place, words_of}
 use Rattle.trace_moments.specs.WordFields.{AreWordChanges, ShowsWords, word_fields}
 use Rattle.trace_json.specs.declared.before.MemoryBefore.{MemoryBefore}
 use Rattle.trace_json.specs.declared.before.MemoryBefore.TheVariants.{Copied, Stored}
@@ -34,7 +34,7 @@ use Rattle.trace_moments.specs.Fields.{HasMore}
 use Rattle.trace_moments.proofs.FieldLemmas.{none_more, then_more}
 
 -- whoever has the core before, and what differs, has the core after
-core_replays : (expected : ℕ) (s s' : State) (c : CoreChanges) → AreCoreChanges expected s s' c → core_after expected s c ≡ s'
+pub core_replays : (expected : ℕ) (s s' : State) (c : CoreChanges) → AreCoreChanges expected s s' c → core_after expected s c ≡ s'
 core_replays expected s s' c are =
     rw (
       are.registers,
@@ -71,8 +71,8 @@ pub shows_changes : (name : List ℕ) (expected : ℕ) (s t : MachineState) (a b
 shows_changes name expected s t a b c core words = record {
   core = core.changes;
   words = words.words;
-  core_replays = core_replays expected s.cpu t.cpu core.changes core.are;
-  words_replay = words.are;
+  core_are = core.are;
+  words_are = words.are;
   written = then_more a b c (core_fields name core.changes) (word_fields words.words) core.written words.written;
 }
 
@@ -90,15 +90,15 @@ words_between old new b b' ws items a c before after same replay written = recor
 }
 
 -- what differs of a machine from a copy of one before
-pub shows_copied : (name : List ℕ) (copy : MachineCopy) (s e t : MachineState) (reported cpu : State) (expected : ℕ) (a b c : RecordText)
-    → reported ≡ s.cpu → words_of e ≡ words_of s → IsCopy copy e → cpu ≡ t.cpu → expected ≡ reported.pc → ShowsCore name expected reported cpu a b
+pub shows_copied : (name : List ℕ) (copy : MachineCopy) (s t : MachineState) (cpu : State) (expected : ℕ) (a b c : RecordText) → IsCopy copy s
+    → cpu ≡ t.cpu → expected ≡ copy.cpu.pc → ShowsCore name expected copy.cpu cpu a b
     → ShowsWords (word_at (kept_in copy.store).store.bytes.at) (words_of t) b c → ShowsChanges name s.cpu.pc s t a c
-shows_copied name copy s e t reported cpu expected a b c from same is now place core words =
-    let at : expected ≡ s.cpu.pc = place ∙ ap (λ (x : State). x.pc) from in
+shows_copied name copy s t cpu expected a b c is now place core words =
+    let at : expected ≡ s.cpu.pc = place ∙ ap (λ (x : State). x.pc) is.core in
     shows_changes name s.cpu.pc s t a b c
     (subst (λ (x : State). ShowsCore name s.cpu.pc s.cpu x a b) now
-    (subst (λ (x : State). ShowsCore name s.cpu.pc x cpu a b) from (subst (λ (n : ℕ). ShowsCore name n reported cpu a b) at core)))
-    (subst (λ (v : ℕ → ℕ). ShowsWords v (words_of t) b c) same (subst (λ (x : Bytes). ShowsWords (word_at x.at) (words_of t) b c) is.bytes words))
+    (subst (λ (x : State). ShowsCore name s.cpu.pc x cpu a b) is.core (subst (λ (n : ℕ). ShowsCore name n copy.cpu cpu a b) at core)))
+    (subst (λ (x : Bytes). ShowsWords (word_at x.at) (words_of t) b c) is.bytes words)
 
 -- what differs of a machine after a step
 pub shows_step : (before : StepBefore) (s e t : MachineState) (stop : Option Stop) (reported cpu : State) (expected : ℕ) (a b c : RecordText)
@@ -117,6 +117,9 @@ shows_step before s e t stop reported cpu expected a b c core same is now halt g
     (subst (λ (n : ℕ). ShowsCore (codes "next") n reported cpu a b) at shown)))
     (subst (λ (v : ℕ → ℕ). ShowsWords v (words_of t) b c) same words)
 
+pub words_same : (s t : MachineState) → t.store ≡ s.store → words_of t ≡ words_of s
+words_same s t same = ap (λ v. word_at v.bytes.at) same
+
 -- WORDS THAT AN INSTRUCTION STORES TO
 
 listed_by : (words : StoredWords) (ws : List ShownWord) (s t : MachineState) → AreListed words ws → StoresWords words s t → ChangesListed ws s t
@@ -128,16 +131,33 @@ listed_by words ws s t are stores = record {
   ];
 }
 
-step_changes : (images : List Entry) (s : MachineState) (memory : MemoryBefore) → PlainStepsStore → KeepsMemory memory s
+pub step_changes : (images : List Entry) (s : MachineState) (memory : MemoryBefore) → PlainStepsStore → KeepsMemory memory s
     → (is_copied memory ≡ false → is_plain (cause_of s.cpu s.store.bytes) ≡ true) → ChangesKept memory s (machine_step images s).now
 step_changes images s (Stored ws) law keeps plain =
     listed_by (stored_words (cause_of s.cpu s.store.bytes) s.cpu) ws.items s (machine_step images s).now keeps (law images s (plain refl))
 step_changes images s (Copied copy) law keeps plain = tt
 
-pub steps_kept : PlainStepsStore → StepsChangeWhatIsKept
-steps_kept law images s memory keeps copied = step_changes images s memory law keeps copied
+pub same_changes : (s t : MachineState) (memory : MemoryBefore) → t.store ≡ s.store → ChangesKept memory s t
+same_changes s t (Stored ws) same = record {
+  halted = λ halt a. ap (λ v. word_at v.bytes.at a) same;
+  others = λ a whole below out. ap (λ v. word_at v.bytes.at a) same;
+}
+same_changes s t (Copied copy) same = tt
 
-stored_replay : (ws : List ShownWord) (s t : MachineState) → ChangesListed ws s t
+-- what is set in the core behind a step changes no words
+pub kept_behind : (s t u : MachineState) (memory : MemoryBefore) → u.store ≡ t.store → u.halt ≡ t.halt → ChangesKept memory s t
+    → ChangesKept memory s u
+kept_behind s t u (Stored ws) same halt kept = record {
+  halted = λ is a. ap (λ v. word_at v.bytes.at a) same ∙ kept.halted (subst IsSome halt is) a;
+  others = λ a whole below out. ap (λ v. word_at v.bytes.at a) same ∙ kept.others a whole below out;
+}
+kept_behind s t u (Copied copy) same halt kept = tt
+
+pub copied_changes : (s t : MachineState) (memory : MemoryBefore) → is_copied memory ≡ true → ChangesKept memory s t
+copied_changes s t (Stored ws) is = absurd (false≢true is)
+copied_changes s t (Copied copy) is = tt
+
+pub stored_replay : (ws : List ShownWord) (s t : MachineState) → ChangesListed ws s t
     → AreWordChanges (words_of s) (words_of t) (map (renewed (words_of t)) ws)
 stored_replay ws s t kept a whole below = renewed_after (words_of t) ws (words_of s) a whole
     ∙ elim (cases_Bool (is_listed a ws)) [
@@ -145,7 +165,7 @@ stored_replay ws s t kept a whole below = renewed_after (words_of t) ws (words_o
       | inr other ↦ rw other (sym (kept.others a whole below other))
     ]
 
-none_replay : (ws : List ShownWord) (s t : MachineState) → ChangesListed ws s t → IsSome t.halt
+pub none_replay : (ws : List ShownWord) (s t : MachineState) → ChangesListed ws s t → IsSome t.halt
     → AreWordChanges (words_of s) (words_of t) []
 none_replay ws s t kept halt a whole below = sym (kept.halted halt a)
 

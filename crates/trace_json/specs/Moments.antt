@@ -2,20 +2,17 @@
 -- where one that isn't mapped counts as 0.
 use Rattle.std.specs.Prelude.{◌≡◌, ℕ, ◌+◌, ◌%◌, ◌<◌, ◌^◌, Bool, true, false, is_some, IsSome, List, ◌++◌, Option, Some, None, if◌then◌else◌}
 use Rattle.address_map.specs.Bytes.{word_at}
-use Rattle.image_loader.specs.Entries.{Entry}
 use Rattle.swi_dispatch.specs.MachineState.{MachineState}
-use Rattle.swi_dispatch.specs.Step.{machine_step}
 use Rattle.trace_effects.specs.Cause.{cause_of}
 use Rattle.trace_effects.specs.Stored.{stored_words}
-use Rattle.trace_effects.specs.changes.Laws.{CoreChanges, core_after}
+use Rattle.trace_effects.specs.changes.Laws.{CoreChanges}
 use Rattle.trace_effects.specs.declared.cause.Cause.{Cause}
 use Rattle.trace_effects.specs.declared.record_text.text.RecordText.{RecordText}
 use Rattle.trace_effects.specs.declared.shown_words.words.ShownWord.{ShownWord}
 use Rattle.trace_effects.specs.store_words.Copies.{kept_in}
 use Rattle.trace_moments.specs.Stored.{AreListed, is_listed}
-use Rattle.trace_moments.specs.CoreFields.{core_fields}
+use Rattle.trace_moments.specs.CoreFields.{AreCoreChanges, core_fields}
 use Rattle.trace_moments.specs.Fields.{HasMore}
-use Rattle.trace_moments.specs.law_trace.Laws.{is_plain}
 use Rattle.trace_moments.specs.WordFields.{AreWordChanges, word_fields}
 use Rattle.trace_json.specs.declared.changes.MachineCopy.{MachineCopy}
 use Rattle.trace_json.specs.declared.before.MemoryBefore.{MemoryBefore}
@@ -27,15 +24,13 @@ use Rattle.trace_json.specs.declared.before.StepKind.TheVariants.{Instruction, O
 abbrev pub words_of : MachineState → ℕ → ℕ
 words_of s = word_at s.store.bytes.at
 
--- Of a machine was written what differs of its core and its words from one before it: whoever has that one,
--- and replays what was written, has the core and the words after. Where nothing says where the core goes on, it
--- goes on where it was expected to.
+-- Of a machine was written what differs of its core and its words from one before it.
 pub record ShowsChanges (name : List ℕ) (expected : ℕ) (s t : MachineState) (old new : RecordText) : Type
     0 where
   pub core : CoreChanges
   pub words : List ShownWord
-  pub core_replays : core_after expected s.cpu core ≡ t.cpu
-  pub words_replay : AreWordChanges (words_of s) (words_of t) words
+  pub core_are : AreCoreChanges expected s.cpu t.cpu core
+  pub words_are : AreWordChanges (words_of s) (words_of t) words
   pub written : HasMore old new (core_fields name core ++ word_fields words)
 
 -- WHAT IS KEPT OF A MACHINE
@@ -69,12 +64,6 @@ abbrev pub is_copied : MemoryBefore → Bool
 is_copied (Copied copy) = true
 is_copied (Stored ws) = false
 
--- So does each step, where all is copied but before an instruction.
-abbrev pub StepsChangeWhatIsKept : Type 0
-StepsChangeWhatIsKept = (images : List Entry) (s : MachineState) (memory : MemoryBefore) → KeepsMemory memory s
-    → (is_copied memory ≡ false → is_plain (cause_of s.cpu s.store.bytes) ≡ true)
-    → ChangesKept memory s (machine_step images s).now
-
 -- whether a step of a kind may change more than the words that an instruction stores to
 abbrev pub changes_all : StepKind → Bool
 changes_all Instruction = false
@@ -89,6 +78,9 @@ step_place_by kind pc = Some pc
 
 abbrev pub step_place : StepBefore → Option ℕ
 step_place before = step_place_by before.kind before.cpu.pc
+
+abbrev pub IsMadeOutside : StepBefore → Type 0
+IsMadeOutside before = step_place before ≡ None
 
 -- at the next word, or where a machine stands that is halted; behind a call from outside where it stood
 abbrev pub expected_at : Option ℕ → ℕ → Bool → ℕ

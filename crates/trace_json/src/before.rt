@@ -1,9 +1,9 @@
 //! What is kept of a machine's memory before a step, by how the step is made.
 
-ghost use Rattle.std.specs.Prelude.{◌≡◌, ◌||◌, not, IfOk, OnOk};
+ghost use Rattle.std.specs.Prelude.{◌≡◌, ◌||◌, true, is_some, not, IfOk, OnOk};
 ghost use Rattle.swi_dispatch.specs.GuestState.{state_of};
 ghost use Rattle.swi_dispatch.specs.MachineState.{MachineState};
-ghost use Rattle.trace_json.specs.Moments.{ChangesListed, KeepsWords, changes_all, is_copied, words_of};
+ghost use Rattle.trace_json.specs.Moments.{ChangesListed, KeepsWords, changes_all, is_copied, step_place_by, words_of};
 ghost use Rattle.trace_moments.specs.WordFields.{ShowsWords};
 ghost use Rattle.trace_moments.specs.law_trace.Laws.{is_plain};
 
@@ -85,7 +85,8 @@ pub(crate) fn push_stored(
 
 /// How a step is made at which this stands, and in whose place a stub may do something.
 pub(crate) fn kind_of(cause: Cause, is_stubbed: bool) -> StepKind
-    ensures { changes_all result ≡ (is_stubbed || not (is_plain cause)) }
+    ensures all { changes_all result ≡ (is_stubbed || not (is_plain cause)) }
+    ensures inside { is_some (step_place_by result 0) ≡ true }
 {
     if is_stubbed {
         return StepKind::Stub;

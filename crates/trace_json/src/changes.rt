@@ -1,6 +1,6 @@
 //! What differs between a machine as it was and as it is, in records.
 
-ghost use Rattle.std.specs.Prelude.{◌≡◌, IfOk, OnOk};
+ghost use Rattle.std.specs.Prelude.{◌≡◌, codes, IfOk, OnOk};
 ghost use Rattle.address_map.specs.Bytes.{word_at};
 ghost use Rattle.swi_dispatch.specs.GuestState.{state_of};
 ghost use Rattle.swi_dispatch.specs.MachineState.{MachineState};
@@ -100,7 +100,7 @@ fn push_flex_changes(
     )
 }
 
-/// Writes all that differs after a line that takes no steps.
+/// Writes what differs of the core and of words after a line that takes no steps.
 ///
 /// # Errors
 ///
@@ -110,28 +110,57 @@ pub fn push_changes(
     text: &mut RecordText,
     before: &MachineCopy,
     machine: &Machine,
-) -> Result<(), AllocError> {
-    push_core_and_words(alloc, text, before, &before.cpu, machine, b"pc")?;
-    push_store_changes(alloc, text, before, machine, BlockFate::Slid)
+) -> Result<(), AllocError>
+    ensures { (s : MachineState) → IsCopy before.now s → OnOk result
+        (ShowsChanges (codes "pc") s.cpu.pc s (state_of machine.now.guest) text.old text.new) }
+{
+    push_all_changes(alloc, text, before, machine, b"pc")
 }
 
-/// Writes what differs of the core, from the one that was shown so far, and under a name where it goes on, if
-/// that isn't where it stood; and what differs of words.
-pub(crate) fn push_core_and_words(
+/// Writes the same of steps that aren't shown one by one.
+///
+/// # Errors
+///
+/// Memory ran out.
+pub fn push_skip_changes(
     alloc: Global,
     text: &mut RecordText,
     before: &MachineCopy,
-    reported: &Cpu,
+    machine: &Machine,
+) -> Result<(), AllocError>
+    ensures { (s : MachineState) → IsCopy before.now s → OnOk result
+        (ShowsChanges (codes "next") s.cpu.pc s (state_of machine.now.guest) text.old text.new) }
+{
+    push_all_changes(alloc, text, before, machine, b"next")
+}
+
+fn push_all_changes(
+    alloc: Global,
+    text: &mut RecordText,
+    before: &MachineCopy,
     machine: &Machine,
     name: &[u8],
 ) -> Result<(), AllocError>
-    ensures { (s e : MachineState) → reported.now ≡ s.cpu → words_of e ≡ words_of s → IsCopy before.now e
-        → OnOk result
+    ensures { (s : MachineState) → IsCopy before.now s → OnOk result
         (ShowsChanges name.now s.cpu.pc s (state_of machine.now.guest) text.old text.new) }
 {
     let none = WrittenRegisters::new();
-    let expected = reported.pc();
-    push_core_changes(text, reported, machine.cpu(), &none, name, expected)?;
+    let expected = before.cpu.pc();
+    push_core_changes(text, &before.cpu, machine.cpu(), &none, name, expected)?;
     push_changed_words(alloc, text, before, machine)?;
     Ok(())
+}
+
+/// Writes what else differs after a line that takes no steps.
+///
+/// # Errors
+///
+/// Memory ran out.
+pub fn push_changed_store(
+    alloc: Global,
+    text: &mut RecordText,
+    before: &MachineCopy,
+    machine: &Machine,
+) -> Result<(), AllocError> {
+    push_store_changes(alloc, text, before, machine, BlockFate::Slid)
 }

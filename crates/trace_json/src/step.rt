@@ -41,7 +41,8 @@ pub struct StepBefore {
 }
 
 impl StepBefore {
-    /// Begins the fields of the step that comes next behind its number, and keeps what it may change.
+    /// Begins the fields of the step that comes next, behind the address at which it is made, and keeps
+    /// what it may change.
     ///
     /// # Errors
     ///
@@ -55,6 +56,7 @@ impl StepBefore {
         ensures before { IfOk result (λ before. IsKeptBefore before (state_of machine.now.guest)) }
         ensures copied { let s = state_of machine.now.guest in IfOk result (λ before. is_copied before.memory
             ≡ (is_stubbed || not (is_plain (cause_of s.cpu s.store.bytes)))) }
+        ensures inside { IfOk result (λ before. is_some (step_place before) ≡ true) }
     {
         let cpu = machine.cpu();
         let cause = Cause::of(cpu, machine.memory());
@@ -64,7 +66,7 @@ impl StepBefore {
         StepBefore::keeping(alloc, machine, kind, cause)
     }
 
-    /// Begins that of a store call from outside.
+    /// Begins those of a store call from outside.
     ///
     /// # Errors
     ///
@@ -88,7 +90,7 @@ impl StepBefore {
         StepBefore::keeping(alloc, machine, StepKind::Outside(called), Cause::Unmapped)
     }
 
-    /// Begins that of a module that is loaded from outside.
+    /// Begins those of a module that is loaded from outside.
     ///
     /// # Errors
     ///
@@ -137,26 +139,26 @@ impl StepBefore {
         })
     }
 
-    /// Ends the fields, by the machine after the step, what the step printed, and the registers that
-    /// were shown so far; but for where images stand. A stub has written these registers.
+    /// The address at which the step is made; a call from outside is made nowhere.
+    pub fn place(&self) -> Option<u32>
+        ensures { result ≡ step_place self.now }
+    {
+        match self.kind {
+            StepKind::Outside(_) => None,
+            _ => Some(self.cpu.pc()),
+        }
+    }
+
+    /// Ends these fields: with the words that were read.
     ///
     /// # Errors
     ///
     /// Memory ran out.
-    pub fn print_end(
-        &self,
-        alloc: Global,
-        text: &mut RecordText,
-        reported: &Cpu,
-        machine: &Machine,
-        stub: &WrittenRegisters,
-        printed: &[u8],
-    ) -> Result<(), AllocError> {
-        if machine.stop().is_none() {
-            push_reads(text, self.loaded.as_slice())?;
+    pub fn push_reads(&self, text: &mut RecordText, machine: &Machine) -> Result<(), AllocError> {
+        if machine.stop().is_some() {
+            return Ok(());
         }
-        self.push_changes(alloc, text, reported, machine, stub)?;
-        self.push_rest(alloc, text, machine, printed)
+        push_reads(text, self.loaded.as_slice())
     }
 
     /// Writes what differs after the step of the core, by the registers that were shown so far, and of
@@ -204,8 +206,12 @@ impl StepBefore {
         }
     }
 
-    // Writes what else the step left, and what it printed; but for where images stand.
-    fn push_rest(
+    /// Writes what else the step left, and what it printed; but for where images stand.
+    ///
+    /// # Errors
+    ///
+    /// Memory ran out.
+    pub fn push_rest(
         &self,
         alloc: Global,
         text: &mut RecordText,
@@ -217,7 +223,7 @@ impl StepBefore {
             push_error(alloc, text, machine.error_number())?;
         }
         if let MemoryBefore::Copied(copy) = &self.memory {
-            push_frames(text, copy.frames, kept, machine, self.caller())?;
+            push_frames(text, copy.frames, kept, machine, self.place())?;
             push_store_changes(alloc, text, copy, machine, self.fate(machine))?;
         }
         push_out(text, printed)?;
@@ -298,14 +304,6 @@ impl StepBefore {
         }
     }
 
-    // The address at which the step was made.
-    fn caller(&self) -> Option<u32> {
-        match self.kind {
-            StepKind::Outside(_) => None,
-            _ => Some(self.cpu.pc()),
-        }
-    }
-
     // A call that resizes a block takes it in R2, and answers in R2 where it is.
     fn fate(&self, machine: &Machine) -> BlockFate {
         let resizes = match self.kind {
@@ -326,14 +324,13 @@ impl StepBefore {
     }
 }
 
-// Where a step is made, and what stands there.
+// What stands where a step is made.
 fn push_place(
     alloc: Global,
     text: &mut RecordText,
     pc: u32,
     cause: Cause,
 ) -> Result<(), AllocError> {
-    text.number_field(b"pc", u64::from(pc))?;
     match cause {
         Cause::Gate => text.string_field(b"asm", b"return gate"),
         Cause::Unmapped => text.string_field(b"asm", b"unmapped"),

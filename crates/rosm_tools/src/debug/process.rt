@@ -10,13 +10,12 @@ ghost use Rattle.debug_program.specs.Talking.{IsStatusOfScript};
 use crate::debug::options::WantedForm;
 use crate::debug::refusal::DebugRefusal;
 use crate::debug::words::{WantedSession, read_words};
-use command_shell::RunError;
 use command_shell_lines::read_script;
 use debug_program::talk::{hand_on, talk};
 use debug_program::{
     DebugTyping, PromptedLines, ShownAnswers, show_transcript, talk_behind_script,
 };
-use debug_records::{DebugSettings, ReportForm, RunMeter, record_script};
+use debug_records::{DebugSettings, ReportForm, RunError, RunMeter, record_script};
 use image_loader::Images;
 use profile::text_lines::cut;
 use profile::{Device, Sink, Source};

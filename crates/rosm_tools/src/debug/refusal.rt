@@ -3,7 +3,7 @@
 
 ghost use Rattle.std.specs.Prelude.{◌≡◌};
 
-use command_shell::RunError;
+use debug_records::RunError;
 use rosm_settings::SettingsRefusal;
 use rosm_settings::command_line::SettingsError;
 use rosm_settings::image_files::FileError;

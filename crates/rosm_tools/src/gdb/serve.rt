@@ -2,7 +2,7 @@
 //! are read anew for each `run`.
 
 ghost use Rattle.std.specs.Prelude.{◌≡◌, false, true, Err, IfErr, OnErr, OnOk};
-ghost use Rattle.command_shell.specs.Error.{IsLineError};
+ghost use Rattle.debug_records.specs.Error.{IsLineError};
 ghost use Rattle.profile.specs.Devices.{device_failed, device_inner};
 ghost use Rattle.gdb_server.specs.Server.{server_state};
 ghost use Rattle.rosm_tools.specs.gdb.Streams.{AnswersBytes, AnswersBytesFront, AnswersFront, AnswersInput, EndsWithInput};

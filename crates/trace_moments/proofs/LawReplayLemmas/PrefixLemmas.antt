@@ -25,7 +25,7 @@ use Rattle.trace_moments.specs.law_replay.Laws.{IsSameMachine, IsRecordOf, Prefi
 word_alike : (c : ShownWord) (f g : ℕ → ℕ) (a : ℕ) → f a ≡ g a → word_after c f a ≡ word_after c g a
 word_alike c f g a h = rw h refl
 
-words_alike : (cs : List ShownWord) (f g : ℕ → ℕ) (a : ℕ) → f a ≡ g a → words_after cs f a ≡ words_after cs g a
+pub words_alike : (cs : List ShownWord) (f g : ℕ → ℕ) (a : ℕ) → f a ≡ g a → words_after cs f a ≡ words_after cs g a
 words_alike [] f g a h = h
 words_alike (c ∷ cs) f g a h = words_alike cs (word_after c f) (word_after c g) a (word_alike c f g a h)
 

@@ -1,14 +1,16 @@
 -- All steps, or those up to the limit and then the rest.
 use Rattle.std.proofs.Common.{arith}
-use Rattle.debug_records.proofs.RecordedLines.{rest_written, steps_written}
+use Rattle.debug_records.specs.Recording.{twin_machine}
+use Rattle.debug_records.proofs.MomentLemmas.{all_steps, some_steps}
 use Rattle.debug_records.proofs.recorder.Twin.record_steps.Goals as goal
 
 pub returns-then-limit-taken : goal.returns-then-limit-taken
 returns-then-limit-taken g c =
-    rest_written c.args.before c.args.limit c.args.taken (g.W.Sink.contents c.args.sink.now) (g.W.Sink.contents c.record_each.new.sink)
+    some_steps c.args.line.before c.args.line.limit c.args.line.taken (twin_machine c.args.self.now) (twin_machine c.record_each.new.self)
+    (twin_machine c.record_rest.new.self) (g.W.Sink.contents c.args.sink.now) (g.W.Sink.contents c.record_each.new.sink)
     (g.W.Sink.contents c.record_rest.new.sink) (omega (arith, c.if-limit-taken.true)) c.in_ok-record_each.ensures c.in_ok-record_rest.ensures
 
 pub returns : goal.returns
 returns g c =
-    steps_written c.args.before c.args.limit c.args.taken (g.W.Sink.contents c.args.sink.now) (g.W.Sink.contents c.record_each-2.new.sink)
-    (omega (arith, c.if-limit-taken.false)) c.in_ok-record_each-2.ensures
+    all_steps c.args.line.before c.args.line.limit c.args.line.taken (twin_machine c.args.self.now) (twin_machine c.record_each-2.new.self)
+    (g.W.Sink.contents c.args.sink.now) (g.W.Sink.contents c.record_each-2.new.sink) (omega (arith, c.if-limit-taken.false)) c.in_ok-record_each-2.ensures

@@ -1,0 +1,19 @@
+-- Each of the session's registers is set, and then its status and its program counter.
+use Rattle.std.proofs.Common.{[], refl}
+use Rattle.command_shell.specs.Session.{script_state}
+use Rattle.debug_records.proofs.TakingLemmas.{none_set, set_by, then_set}
+use Rattle.debug_records.proofs.taking.settle.Goals as goal
+
+pub loop-place-init : goal.loop-place-init
+loop-place-init c = none_set _
+
+pub loop-place-preserved : goal.loop-place-preserved
+loop-place-preserved c =
+    then_set _ _ _ c.loop-place.invariant
+    (set_by (script_state c.loop-place.twin []) _ _ (c.set_register_in.ensures []) refl refl)
+
+pub returns : goal.returns
+returns c =
+    then_set _ _ _ c.loop-place.invariant
+    (then_set _ _ _ (set_by (script_state c.loop-place.twin []) _ _ (c.set_psr.ensures []) refl refl)
+    (set_by (script_state c.set_psr.new.self []) _ _ (c.set_pc.ensures []) refl refl))
