@@ -9,3 +9,4 @@ pub mod Positions
 pub mod StepByStep
 pub mod SumsLed
 pub mod Transferred
+pub mod DecodedLemmas

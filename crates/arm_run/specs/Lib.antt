@@ -5,3 +5,4 @@ pub mod Moved
 pub mod Operated
 pub mod Runs
 pub mod Standing
+pub mod decoded

@@ -7,6 +7,7 @@
 mod act;
 mod blocks;
 mod branching;
+pub mod decoded;
 mod multiplying;
 mod operating;
 mod running;

@@ -5,3 +5,4 @@ pub mod PrintedLines
 pub mod PrintedPrograms
 pub mod SizeLemmas
 pub mod Unbroken
+pub mod AssembledLemmas

@@ -6,3 +6,4 @@ pub mod Laws
 pub mod Line
 pub mod Passes
 pub mod Written
+pub mod assembled

@@ -6,6 +6,7 @@
 //! `docs/ASSEMBLER.md` has the grammar by example.
 #![tactic(auto)]
 
+pub mod assembled;
 mod assembling;
 pub mod directives;
 pub mod error;

@@ -1,4 +1,10 @@
 -- Proofs of the laws of the whole machine.
+pub mod FlexLemmas
+pub mod FlexNamesLemmas
+pub mod SlidingStoresLemmas
+pub mod SlidingNamesLemmas
+pub mod HeapCallsLemmas
+pub mod HeapFrameLemmas
 pub mod ModulesLemmas
 pub mod HeapAloneLemmas
 pub mod LiveBytesLemmas
@@ -10,5 +16,3 @@ pub mod HaltsLemmas
 pub mod SlidingLemmas
 pub mod MovesLemmas
 pub mod FlagsLemmas
-pub mod DecodedLemmas
-pub mod AssembledLemmas

@@ -1,4 +1,10 @@
--- What the laws of the whole machine are about.
+-- What the laws of the whole machine are about: first heaps, flex and sliding.
+pub mod flex
+pub mod flex_names
+pub mod sliding_stores
+pub mod sliding_names
+pub mod heap_calls
+pub mod heap_frame
 pub mod modules
 pub mod heap_alone
 pub mod live_bytes
@@ -10,5 +16,3 @@ pub mod halts
 pub mod sliding
 pub mod moves
 pub mod flags
-pub mod decoded
-pub mod assembled

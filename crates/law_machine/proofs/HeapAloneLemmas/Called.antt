@@ -20,10 +20,10 @@ use Rattle.dynamic_areas.specs.declared.area.Extent.{Extent}
 use Rattle.instances_table.specs.Lookup.{handler_of}
 use Rattle.instances_table.specs.declared.parts.Handler.{Handler}
 use Rattle.flex_store.specs.Calls.{flex_block_size}
-use Rattle.law_blocks.proofs.HeapCallsLemmas.WholeHeaps.{others_whole}
-use Rattle.law_blocks.specs.heap_calls.Laws.{HeapHasNoAnchor, IsLeftWhole, KeepsHeap}
-use Rattle.law_blocks.specs.heap_calls.Lists.{is_call_to}
-use Rattle.law_blocks.specs.heap_calls.Turns.{call_on}
+use Rattle.law_machine.proofs.HeapCallsLemmas.WholeHeaps.{others_whole}
+use Rattle.law_machine.specs.heap_calls.Laws.{HeapHasNoAnchor, IsLeftWhole, KeepsHeap}
+use Rattle.law_machine.specs.heap_calls.Lists.{is_call_to}
+use Rattle.law_machine.specs.heap_calls.Turns.{call_on}
 use Rattle.swi_dispatch_answers.specs.Refusals.{or_error}
 use Rattle.swi_dispatch_answers.specs.declared.refusal.Refusal.{Refusal}
 use Rattle.swi_dispatch_answers.specs.declared.refusal.Refusal.TheVariants as refusal
@@ -41,7 +41,7 @@ use Rattle.law_machine.proofs.HeapAloneLemmas.Keeping.{AnswerKeeps, IsOffSystem,
 use Rattle.law_machine.proofs.HeapAloneLemmas.Rows.{NamesNone, area_went, change_keeps, flex_went, is_flex_call}
 use Rattle.law_machine.proofs.HeapAloneLemmas.States.{HasStore, sound_store}
 use Rattle.law_machine.specs.heap_alone.ModuleMoves.{is_module_name}
-use Rattle.law_blocks.proofs.HeapFrameLemmas.Areas.{heap_same}
+use Rattle.law_machine.proofs.HeapFrameLemmas.Areas.{heap_same}
 
 -- OS_Heap, if that is the call, isn't called on the heap
 abbrev pub IsElsewhere : MachineState → HeapList → Option HeapReason → Type 0

@@ -27,10 +27,10 @@ use Rattle.os_heap_words.specs.lists.Heap.{HeapList}
 use Rattle.os_heap.proofs.Found.{found_start}
 use Rattle.os_heap.specs.Calls.{has_own_size}
 use Rattle.os_heap.specs.Store.{Store, find_heap}
-use Rattle.law_blocks.proofs.HeapCallsLemmas.Forgotten.{calls_forget, forgotten_lies}
-use Rattle.law_blocks.specs.heap_calls.Laws.{IsNotForgotten, KeepsHeap, LiesInBlock}
-use Rattle.law_blocks.specs.heap_calls.Turns.{call_on}
-use Rattle.law_blocks.specs.heap_frame.Fits.{LiesInArea}
+use Rattle.law_machine.proofs.HeapCallsLemmas.Forgotten.{calls_forget, forgotten_lies}
+use Rattle.law_machine.specs.heap_calls.Laws.{IsNotForgotten, KeepsHeap, LiesInBlock}
+use Rattle.law_machine.specs.heap_calls.Turns.{call_on}
+use Rattle.law_machine.specs.heap_frame.Fits.{LiesInArea}
 use Rattle.swi_dispatch_answers.specs.Refusals.{or_error}
 use Rattle.swi_dispatch_answers.specs.declared.refusal.Refusal.{Refusal}
 use Rattle.swi_dispatch_answers.specs.declared.refusal.Refusal.TheVariants as refusal

@@ -17,7 +17,7 @@ use Rattle.swi_dispatch_answers.specs.Returns.{return_word, state_after_return}
 use Rattle.swi_dispatch_answers.specs.declared.refusal.Refusal.{Refusal}
 use Rattle.swi_dispatch_answers.specs.declared.refusal.Refusal.TheVariants as refusal
 use Rattle.swi_dispatch_plans.specs.store.Heaps.{heap_called_for}
-use Rattle.law_blocks.specs.heap_calls.Turns.{call_on}
+use Rattle.law_machine.specs.heap_calls.Turns.{call_on}
 
 -- R2 and R3 are the same registers in all modes, and so are those of a call that goes back
 slot_two : (m : Mode) → slot_of m 2 ≡ 2

@@ -10,9 +10,9 @@ use Rattle.os_heap_words.specs.lists.Heap.{HeapList}
 use Rattle.os_heap.proofs.Stores.{clear_of-found}
 use Rattle.os_heap.specs.Store.{IsSound, Store, find_heap}
 use Rattle.dynamic_areas.proofs.SystemWrites.{system_clear}
-use Rattle.law_blocks.proofs.HeapCallsLemmas.Likeness.{bytes_like}
-use Rattle.law_blocks.specs.heap_calls.Alone.{Alone, alone_in}
-use Rattle.law_blocks.specs.heap_calls.Laws.{IsLeftWhole, KeepsHeap}
+use Rattle.law_machine.proofs.HeapCallsLemmas.Likeness.{bytes_like}
+use Rattle.law_machine.specs.heap_calls.Alone.{Alone, alone_in}
+use Rattle.law_machine.specs.heap_calls.Laws.{IsLeftWhole, KeepsHeap}
 use Rattle.swi_dispatch_answers.specs.Errors.{memory_with_error}
 use Rattle.swi_dispatch_answers.specs.declared.refusal.Refusal.{Refusal}
 use Rattle.swi_dispatch_answers.specs.declared.refusal.Refusal.TheVariants as refusal
@@ -23,7 +23,7 @@ use Rattle.swi_dispatch_guest.specs.MachineState.{MachineState}
 use Rattle.swi_dispatch_guest.specs.Step.{outcome_of_answer, outcome_of_end}
 use Rattle.law_machine.proofs.HeapAloneLemmas.States.{HasStore, sound_store}
 use Rattle.law_machine.specs.heap_alone.Laws.{alone_at}
-use Rattle.law_blocks.proofs.HeapFrameLemmas.Areas.{heap_same}
+use Rattle.law_machine.proofs.HeapFrameLemmas.Areas.{heap_same}
 
 pub kept_alone : (h : HeapList) (s t : Store) → KeepsHeap h s t → alone_in t h ≡ alone_in s h
 kept_alone h s t kept =

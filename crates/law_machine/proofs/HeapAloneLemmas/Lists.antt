@@ -4,10 +4,10 @@ use Rattle.std.proofs.Common.{ℕ, ◌≡◌, ◌++◌, ◌∙◌, Bool, true, f
 use Rattle.std.proofs.lemmas.Bool.{cases_Bool}
 use Rattle.image_loader.specs.Entries.{Entry}
 use Rattle.os_heap_words.specs.lists.Heap.{HeapList}
-use Rattle.law_blocks.specs.heap_calls.Alone.{Alone, HeapCall, alone_in}
-use Rattle.law_blocks.proofs.HeapCallsLemmas.NoHeapInside.{whole_alone}
-use Rattle.law_blocks.specs.heap_calls.Laws.{KeepsHeap}
-use Rattle.law_blocks.specs.heap_calls.Turns.{Reply, heap_after_calls, replies, turn_of_call}
+use Rattle.law_machine.specs.heap_calls.Alone.{Alone, HeapCall, alone_in}
+use Rattle.law_machine.proofs.HeapCallsLemmas.NoHeapInside.{whole_alone}
+use Rattle.law_machine.specs.heap_calls.Laws.{KeepsHeap}
+use Rattle.law_machine.specs.heap_calls.Turns.{Reply, heap_after_calls, replies, turn_of_call}
 use Rattle.swi_dispatch_guest.specs.MachineState.{MachineState}
 use Rattle.law_machine.proofs.HeapAloneLemmas.Keeping.{found_alone, kept_alone}
 use Rattle.law_machine.proofs.HeapAloneLemmas.OwnCalls.{OwnCall, Stands, own_call}

@@ -28,11 +28,11 @@ use Rattle.os_heap.proofs.KeptPayloads.{calls_keep}
 use Rattle.os_heap.specs.Calls.{store_after_init, block_sized, store_after_change, heap_description, gave_back, store_after_get, store_after_resize}
 use Rattle.os_heap.specs.Laws.{KeepsPayloads}
 use Rattle.os_heap.specs.Store.{IsSound, Store, find_heap, owned_in}
-use Rattle.law_blocks.proofs.HeapCallsLemmas.DoneCalls.{OnDone}
-use Rattle.law_blocks.proofs.HeapCallsLemmas.KeptHeaps.{others_recorded}
-use Rattle.law_blocks.specs.heap_calls.Laws.{IsNotForgotten, KeepsHeap, starts_inside}
-use Rattle.law_blocks.specs.heap_calls.Lists.{is_call_to, is_on_heap}
-use Rattle.law_blocks.specs.heap_calls.Turns.{call_on}
+use Rattle.law_machine.proofs.HeapCallsLemmas.DoneCalls.{OnDone}
+use Rattle.law_machine.proofs.HeapCallsLemmas.KeptHeaps.{others_recorded}
+use Rattle.law_machine.specs.heap_calls.Laws.{IsNotForgotten, KeepsHeap, starts_inside}
+use Rattle.law_machine.specs.heap_calls.Lists.{is_call_to, is_on_heap}
+use Rattle.law_machine.specs.heap_calls.Turns.{call_on}
 use Rattle.swi_dispatch_answers.specs.declared.refusal.Refusal.{Refusal}
 use Rattle.swi_dispatch_plans.specs.store.Heaps.{heap_called, heap_called_for}
 use Rattle.swi_dispatch_guest.proofs.Kept.{by_words}
@@ -51,7 +51,7 @@ use Rattle.law_machine.proofs.HeapAloneLemmas.Storing.{step_past}
 use Rattle.law_machine.specs.heap_alone.ByteLaws.{HeapCallsKeepLiveBytes, InstructionsChangeStored, IsStoredPlain}
 use Rattle.law_machine.specs.heap_alone.Moves.{is_heap_swi}
 use Rattle.law_machine.specs.heap_alone.Storing.{is_stored}
-use Rattle.law_blocks.proofs.HeapFrameLemmas.Areas.{heap_same}
+use Rattle.law_machine.proofs.HeapFrameLemmas.Areas.{heap_same}
 
 -- an instruction
 pub byte_done : (s : MachineState) (w : State × Bytes) (a : ℕ) → result_of_instruction s ≡ Ok w → (w.1.at a ≡ s.store.bytes.at a) ⊎ IsStoredPlain s a

@@ -22,11 +22,11 @@ use Rattle.swi_dispatch_guest.specs.Calls.{call_answer, on_module_state}
 use Rattle.swi_dispatch_guest.specs.Errors.{with_error}
 use Rattle.swi_dispatch_guest.specs.MachineState.{MachineState, machine_area_store, machine_module_state}
 use Rattle.swi_dispatch_guest.specs.Step.{outcome_of_answer, os_module_called, os_module_called_for}
-use Rattle.law_blocks.proofs.HeapFrameLemmas.Areas.{heap_same}
-use Rattle.law_blocks.proofs.HeapFrameLemmas.BlockCalls.{block_calls_keep}
-use Rattle.law_blocks.proofs.HeapFrameLemmas.Guests.{area_stores_fit}
-use Rattle.law_blocks.specs.heap_frame.BlockLaws.{StayLive, WereLive, total_in}
-use Rattle.law_blocks.specs.heap_frame.FitAreaStores.{IsFitAreaStore}
+use Rattle.law_machine.proofs.HeapFrameLemmas.Areas.{heap_same}
+use Rattle.law_machine.proofs.HeapFrameLemmas.BlockCalls.{block_calls_keep}
+use Rattle.law_machine.proofs.HeapFrameLemmas.Guests.{area_stores_fit}
+use Rattle.law_machine.specs.heap_frame.BlockLaws.{StayLive, WereLive, total_in}
+use Rattle.law_machine.specs.heap_frame.FitAreaStores.{IsFitAreaStore}
 use Rattle.law_machine.proofs.HeapAloneLemmas.Keeping.{error_kept, off_system}
 use Rattle.law_machine.proofs.HeapAloneLemmas.LiveBytes.{payload_inside}
 use Rattle.law_machine.proofs.HeapAloneLemmas.States.{HasStore, IsGiven, given_same, given_stays, given_store, has_store, sound_store}

@@ -40,13 +40,13 @@ use Rattle.swi_dispatch_guest.specs.Gates.{carried_on}
 use Rattle.swi_dispatch_guest.specs.ModuleStart.{module_opened}
 use Rattle.swi_dispatch_guest.specs.Returns.{gone_back}
 use Rattle.swi_dispatch_guest.specs.Step.{outcome_of_planned, begun_alone, call_of, call_refused, outcome_of_answer, handler_entered, outcome_of_module_swi, module_entered, os_module_called, os_module_called_for}
-use Rattle.law_blocks.proofs.HeapFrameLemmas.Areas.{heap_same}
-use Rattle.law_blocks.proofs.HeapFrameLemmas.Holding.{keeps_all, keeps_both}
-use Rattle.law_blocks.proofs.HeapFrameLemmas.ModuleArea.{module_area_calls_fit}
-use Rattle.law_blocks.specs.heap_frame.FitAreaStores.{AreaStoreStaysFit, IsFitAreaStore}
-use Rattle.law_blocks.specs.heap_frame.Fits.{KeepsOutside}
-use Rattle.law_blocks.specs.heap_frame.PlanLaws.{IsFitModuleState}
-use Rattle.law_blocks.specs.heap_calls.Laws.{KeepsHeap}
+use Rattle.law_machine.proofs.HeapFrameLemmas.Areas.{heap_same}
+use Rattle.law_machine.proofs.HeapFrameLemmas.Holding.{keeps_all, keeps_both}
+use Rattle.law_machine.proofs.HeapFrameLemmas.ModuleArea.{module_area_calls_fit}
+use Rattle.law_machine.specs.heap_frame.FitAreaStores.{AreaStoreStaysFit, IsFitAreaStore}
+use Rattle.law_machine.specs.heap_frame.Fits.{KeepsOutside}
+use Rattle.law_machine.specs.heap_frame.PlanLaws.{IsFitModuleState}
+use Rattle.law_machine.specs.heap_calls.Laws.{KeepsHeap}
 use Rattle.law_machine.proofs.HeapAloneLemmas.Keeping.{error_kept}
 use Rattle.law_machine.proofs.HeapAloneLemmas.ModuleHosts.{IsHost, KeepsRecorded, carried_out, fit_module_state, host_off, opened_out, outside_stays}
 use Rattle.law_machine.proofs.HeapAloneLemmas.ModulePlans.{IsFitPlan}

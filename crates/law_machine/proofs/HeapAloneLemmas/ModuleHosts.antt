@@ -25,15 +25,15 @@ use Rattle.swi_dispatch_guest.specs.MachineState.{MachineState, machine_area_sto
 use Rattle.swi_dispatch_guest.specs.ModuleStart.{opened_at}
 use Rattle.swi_dispatch_guest.specs.GuestState.{IsGuest, IsState, GuestState, state_of}
 use Rattle.swi_dispatch_guest.specs.Returns.{gone_back}
-use Rattle.law_blocks.proofs.HeapFrameLemmas.Guests.{area_stores_fit, outside_keeps}
-use Rattle.law_blocks.proofs.HeapFrameLemmas.Holding.{keeps_all, keeps_both}
-use Rattle.law_blocks.proofs.HeapFrameLemmas.Plans.{plans_fit}
-use Rattle.law_blocks.proofs.HeapFrameLemmas.Slots.{modules_below}
-use Rattle.law_blocks.proofs.HeapFrameLemmas.Words.{writes_fit}
-use Rattle.law_blocks.specs.heap_frame.FitAreaStores.{IsFitAreaStore}
-use Rattle.law_blocks.specs.heap_frame.Fits.{KeepsOutside, LiesInArea}
-use Rattle.law_blocks.specs.heap_frame.PlanLaws.{IsFitModuleState, ModuleStateStaysFit}
-use Rattle.law_blocks.specs.heap_calls.Laws.{IsNotForgotten, KeepsHeap}
+use Rattle.law_machine.proofs.HeapFrameLemmas.Guests.{area_stores_fit, outside_keeps}
+use Rattle.law_machine.proofs.HeapFrameLemmas.Holding.{keeps_all, keeps_both}
+use Rattle.law_machine.proofs.HeapFrameLemmas.Plans.{plans_fit}
+use Rattle.law_machine.proofs.HeapFrameLemmas.Slots.{modules_below}
+use Rattle.law_machine.proofs.HeapFrameLemmas.Words.{writes_fit}
+use Rattle.law_machine.specs.heap_frame.FitAreaStores.{IsFitAreaStore}
+use Rattle.law_machine.specs.heap_frame.Fits.{KeepsOutside, LiesInArea}
+use Rattle.law_machine.specs.heap_frame.PlanLaws.{IsFitModuleState, ModuleStateStaysFit}
+use Rattle.law_machine.specs.heap_calls.Laws.{IsNotForgotten, KeepsHeap}
 use Rattle.law_machine.proofs.HeapAloneLemmas.Keeping.{IsOffSystem, off_system}
 use Rattle.law_machine.proofs.HeapAloneLemmas.ModulePlans.{IsFitPlan}
 use Rattle.law_machine.proofs.HeapAloneLemmas.States.{HasStore, IsGiven, given_store, has_store, with_cpu}

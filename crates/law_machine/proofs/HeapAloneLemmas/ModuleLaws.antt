@@ -5,7 +5,7 @@ use Rattle.profile.specs.Outcome.{bind}
 use Rattle.profile.specs.declared.error.ErrorNumber.TheVariants.{BadString}
 use Rattle.os_heap_words.specs.lists.Heap.{HeapList}
 use Rattle.os_heap.specs.Store.{Store, find_heap}
-use Rattle.law_blocks.specs.heap_calls.Laws.{KeepsHeap}
+use Rattle.law_machine.specs.heap_calls.Laws.{KeepsHeap}
 use Rattle.swi_dispatch_answers.specs.Words.{host_string}
 use Rattle.swi_dispatch_guest.specs.declared.halt.Halt.{Halt}
 use Rattle.swi_dispatch_guest.specs.Additions.{load_planned}
@@ -18,7 +18,7 @@ use Rattle.law_machine.proofs.HeapAloneLemmas.States.{IsGiven, given_goes, given
 use Rattle.law_machine.specs.heap_alone.Laws.{HasHeap}
 use Rattle.law_machine.specs.heap_alone.ModuleLaws.{GatesKeepHeap, HasAnyHeap, LoadsKeepHeap, ModuleCallsKeepHeap, ModuleSwisKeepHeap}
 use Rattle.swi_dispatch_guest.specs.Moves.{machine_with_words}
-use Rattle.law_blocks.proofs.HeapFrameLemmas.Areas.{heap_same}
+use Rattle.law_machine.proofs.HeapFrameLemmas.Areas.{heap_same}
 
 pub any_heap : (s : MachineState) (h : HeapList) → HasHeap s h → HasAnyHeap s h
 any_heap s h has = record { state = has.state; goes = has.goes; found = has.found; own = has.own }

@@ -21,8 +21,8 @@ use Rattle.instances_table.specs.Changes.{free_slot, instance_room, is_slot_held
 use Rattle.instances_table.specs.Lookup.{looked_up, module_at, number_of_title, slot_at, slot_in}
 use Rattle.instances_table.specs.Modules.{Instance, Module, has_title, slots_of}
 use Rattle.instances_table.specs.Names.{name_given, new_name, full_name_parts}
-use Rattle.law_blocks.proofs.HeapFrameLemmas.Slots.{back_below, front_below, joined_below}
-use Rattle.law_blocks.specs.heap_frame.PlanLaws.{AreActionsBelow, AreBelow}
+use Rattle.law_machine.proofs.HeapFrameLemmas.Slots.{back_below, front_below, joined_below}
+use Rattle.law_machine.specs.heap_frame.PlanLaws.{AreActionsBelow, AreBelow}
 
 pub record IsFitPlan (p : Plan) : Type 0 where
   pub below : AreActionsBelow p.actions

@@ -14,12 +14,12 @@ use Rattle.image_loader.specs.Entries.{Entry}
 use Rattle.os_heap_words.specs.lists.Heap.{HeapList}
 use Rattle.os_heap.specs.Calls.{has_own_size}
 use Rattle.os_heap.specs.Store.{Store, find_heap}
-use Rattle.law_blocks.proofs.HeapCallsLemmas.OwnHeaps.{own_kept}
-use Rattle.law_blocks.proofs.HeapCallsLemmas.OwnCalls.{own_turns}
-use Rattle.law_blocks.specs.heap_calls.Alone.{Alone, HeapCall, alone_in, call_given}
-use Rattle.law_blocks.specs.heap_calls.Laws.{HasHeapStill, HeapHasNoAnchor, HoldsNoHeap, IsGuestHeap, KeepsHeap}
-use Rattle.law_blocks.specs.heap_calls.Lists.{is_on_heap}
-use Rattle.law_blocks.specs.heap_calls.Turns.{Answered, Refused, HeapTurn, alone_or, call_on, heap_turn_of_result, turn_of_call}
+use Rattle.law_machine.proofs.HeapCallsLemmas.OwnHeaps.{own_kept}
+use Rattle.law_machine.proofs.HeapCallsLemmas.OwnCalls.{own_turns}
+use Rattle.law_machine.specs.heap_calls.Alone.{Alone, HeapCall, alone_in, call_given}
+use Rattle.law_machine.specs.heap_calls.Laws.{HasHeapStill, HeapHasNoAnchor, HoldsNoHeap, IsGuestHeap, KeepsHeap}
+use Rattle.law_machine.specs.heap_calls.Lists.{is_on_heap}
+use Rattle.law_machine.specs.heap_calls.Turns.{Answered, Refused, HeapTurn, alone_or, call_on, heap_turn_of_result, turn_of_call}
 use Rattle.swi_dispatch_answers.specs.declared.refusal.Refusal.{Refusal}
 use Rattle.swi_dispatch_answers.specs.declared.refusal.Refusal.TheVariants as refusal
 use Rattle.swi_dispatch_plans.specs.store.Heaps.{heap_called, heap_called_for}
@@ -37,7 +37,7 @@ use Rattle.law_machine.proofs.HeapAloneLemmas.Keeping.{error_kept, kept_alone, o
 use Rattle.law_machine.proofs.HeapAloneLemmas.States.{HasStore, IsGiven, given_goes, given_same, given_stays, given_store, guest_heap, has_store, mapped_block}
 use Rattle.law_machine.specs.heap_alone.Laws.{HasHeap, IsMoveDone}
 use Rattle.law_machine.specs.heap_alone.Moves.{heap_calls_of_swi, asked_by, is_swi_to, is_for_heap, is_heap_swi, is_own, reply_of_machine}
-use Rattle.law_blocks.proofs.HeapFrameLemmas.Areas.{heap_same}
+use Rattle.law_machine.proofs.HeapFrameLemmas.Areas.{heap_same}
 
 -- a machine in which the heap at a place stands, and is this one
 pub record Stands (s : MachineState) (start : ℕ) (w : Alone) : Type 0 where

@@ -33,10 +33,10 @@ use Rattle.swi_dispatch_plans.specs.PlannerInput.{PlannerInput, string_asked}
 use Rattle.swi_dispatch_plans.specs.declared.openings.Opening.{Opening}
 use Rattle.swi_dispatch_guest.specs.Additions.{Planned, copy_planned, insertion_planned, load_planned, named_load_planned, plan_alone, planned_of}
 use Rattle.swi_dispatch_guest.specs.MachineState.{MachineState, machine_module_state, setting_of}
-use Rattle.law_blocks.proofs.HeapFrameLemmas.ModuleArea.{fit_same, module_area_calls_fit}
-use Rattle.law_blocks.proofs.HeapFrameLemmas.Words.{writes_fit}
-use Rattle.law_blocks.specs.heap_frame.FitAreaStores.{AreaStoreStaysFit, IsFitAreaStore}
-use Rattle.law_blocks.specs.heap_frame.PlanLaws.{AreBelow, IsFitModuleState, ModuleStateStaysFit}
+use Rattle.law_machine.proofs.HeapFrameLemmas.ModuleArea.{fit_same, module_area_calls_fit}
+use Rattle.law_machine.proofs.HeapFrameLemmas.Words.{writes_fit}
+use Rattle.law_machine.specs.heap_frame.FitAreaStores.{AreaStoreStaysFit, IsFitAreaStore}
+use Rattle.law_machine.specs.heap_frame.PlanLaws.{AreBelow, IsFitModuleState, ModuleStateStaysFit}
 use Rattle.law_machine.proofs.HeapAloneLemmas.ModulePlans.{IsFitPlan, bound, bound_if, bound_short, clearing_fit, deletion_fit, found_or, free_low, instantiation_fit, load_fit, reinitialisation_fit, tidying_fit, titled_below}
 
 -- strings in memory have at most so many bytes

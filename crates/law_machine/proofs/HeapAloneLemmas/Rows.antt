@@ -24,14 +24,14 @@ use Rattle.dynamic_areas.specs.declared.area.Wanted.{Wanted}
 use Rattle.flex_store.specs.Calls.{FlexState, flex_after_alloc, flex_after_init, flex_after_extend, mid_extended, flex_after_release}
 use Rattle.flex_store.specs.Runs.{Alloc, Extend, MidExtend, Release}
 use Rattle.swi_dispatch_plans.specs.flex_frame.Ground.{flex_state, with_flex_record}
-use Rattle.law_blocks.specs.heap_calls.Laws.{HeapHasNoAnchor, KeepsHeap}
-use Rattle.law_blocks.proofs.HeapFrameLemmas.Areas.{area_calls_keep, heap_same}
-use Rattle.law_blocks.proofs.HeapFrameLemmas.Turns.{turns_keep}
-use Rattle.law_blocks.specs.heap_frame.FlexLaws.{IsFreeOfAnchors}
-use Rattle.law_blocks.specs.heap_frame.GuestLaws.{HasGuestHeap}
-use Rattle.law_blocks.specs.heap_frame.TurnLaws.{TurnsOutside}
-use Rattle.law_blocks.specs.sliding.Meaning.{Stores, store_in}
-use Rattle.law_blocks.specs.sliding.Turning.{Call, Init, FlexOrSlide, stores_after_flex, stores_after_step}
+use Rattle.law_machine.specs.heap_calls.Laws.{HeapHasNoAnchor, KeepsHeap}
+use Rattle.law_machine.proofs.HeapFrameLemmas.Areas.{area_calls_keep, heap_same}
+use Rattle.law_machine.proofs.HeapFrameLemmas.Turns.{turns_keep}
+use Rattle.law_machine.specs.heap_frame.FlexLaws.{IsFreeOfAnchors}
+use Rattle.law_machine.specs.heap_frame.GuestLaws.{HasGuestHeap}
+use Rattle.law_machine.specs.heap_frame.TurnLaws.{TurnsOutside}
+use Rattle.law_machine.specs.sliding_stores.Meaning.{Stores, store_in}
+use Rattle.law_machine.specs.sliding_stores.Turning.{Call, Init, FlexOrSlide, stores_after_flex, stores_after_step}
 use Rattle.swi_dispatch_answers.specs.Refusals.{or_error, system_error}
 use Rattle.swi_dispatch_answers.specs.Strings.{string_at}
 use Rattle.swi_dispatch_answers.specs.declared.refusal.Refusal.{Refusal}

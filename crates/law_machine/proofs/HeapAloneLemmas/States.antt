@@ -13,11 +13,11 @@ use Rattle.instances_table.specs.declared.parts.Image.{Image}
 use Rattle.swi_dispatch_plans.specs.flex_frame.Ground.{HasFlex}
 use Rattle.instances.specs.module_state.Sound.{AreSolid}
 use Rattle.instances.specs.module_state.ModuleState.{ModuleState}
-use Rattle.law_blocks.proofs.SlidingLemmas.Turns.{machines_have}
-use Rattle.law_blocks.specs.sliding.Meaning.{AreStores, Stores}
+use Rattle.law_machine.proofs.SlidingStoresLemmas.Turns.{machines_have}
+use Rattle.law_machine.specs.sliding_stores.Meaning.{AreStores, Stores}
 use Rattle.instances.specs.Turns.{MayGoOn}
 use Rattle.instances.specs.actions.Pending.{is_pending, pending_of}
-use Rattle.law_blocks.specs.heap_calls.Laws.{AreImagesFull, IsGuestHeap}
+use Rattle.law_machine.specs.heap_calls.Laws.{AreImagesFull, IsGuestHeap}
 use Rattle.swi_dispatch_guest.proofs.FlexCalls.{pending_one}
 use Rattle.swi_dispatch_guest.specs.MachineState.{MachineState, machine_area_store, machine_module_state}
 use Rattle.swi_dispatch_guest.specs.GuestState.{IsGuest, IsState, GuestState, parts_module_state, state_of}

@@ -16,8 +16,8 @@ use Rattle.image_loader.specs.Entries.{Entry}
 use Rattle.os_heap_words.specs.lists.Heap.{HeapList}
 use Rattle.os_heap.specs.Calls.{has_own_size}
 use Rattle.os_heap.specs.Store.{IsSound, Store, find_heap, owned_in}
-use Rattle.law_blocks.proofs.HeapCallsLemmas.NoHeapInside.{whole_recorded}
-use Rattle.law_blocks.specs.heap_calls.Laws.{HeapHasNoAnchor, IsLeftWhole, KeepsHeap}
+use Rattle.law_machine.proofs.HeapCallsLemmas.NoHeapInside.{whole_recorded}
+use Rattle.law_machine.specs.heap_calls.Laws.{HeapHasNoAnchor, IsLeftWhole, KeepsHeap}
 use Rattle.swi_dispatch_guest.proofs.NextTurn.{unhalted_step, outside_call}
 use Rattle.swi_dispatch_guest.specs.MachineState.{MachineState, StepOutcome}
 use Rattle.swi_dispatch_guest.specs.Step.{outcome_of_call, result_of_instruction, machine_step, store_called, outcome_of_turn, without_x}
@@ -34,7 +34,7 @@ use Rattle.law_machine.specs.heap_alone.Laws.{HasHeap, IsAside, IsMoveDone}
 use Rattle.law_machine.specs.heap_alone.ModuleMoves.{is_module_name}
 use Rattle.law_machine.specs.heap_alone.Moves.{is_for_heap, is_heap_swi, is_own, is_swi_to as is_core_call_to}
 use Rattle.law_machine.specs.heap_alone.Storing.{is_stored}
-use Rattle.law_blocks.proofs.HeapFrameLemmas.Areas.{heap_same}
+use Rattle.law_machine.proofs.HeapFrameLemmas.Areas.{heap_same}
 
 -- where OS_Heap isn't called on the heap at a place
 elsewhere_by : (o : Option HeapReason) (s : MachineState) (h : HeapList) → (is_for_heap o && register_of s.cpu 1 == h.start) ≡ false → IsElsewhere s h o

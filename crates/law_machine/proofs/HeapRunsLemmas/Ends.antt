@@ -7,7 +7,7 @@ use Rattle.std.proofs.lemmas.Bool.Decides.{nat_tests}
 use Rattle.std.proofs.lemmas.List.{length-map}
 use Rattle.profile.specs.declared.stop.Stop.{Stop}
 use Rattle.image_loader.specs.Entries.{Entry}
-use Rattle.law_blocks.specs.heap_calls.Turns.{Reply as WrittenReply}
+use Rattle.law_machine.specs.heap_calls.Turns.{Reply as WrittenReply}
 use Rattle.swi_dispatch.specs.MachineState.{MachineState, stop_of}
 use Rattle.swi_dispatch.specs.Value.{IsMachine, MachineValue}
 use Rattle.law_machine.specs.heap_alone.Moves.{answers_in, is_own, reply_of_machine}

@@ -4,8 +4,8 @@ use Rattle.std.proofs.Common.{ℕ, ◌≡◌, ◌∙◌, List, [], ◌∷◌, ma
 use Rattle.image_loader.specs.Entries.{Entry}
 use Rattle.os_heap_words.specs.lists.Heap.{HeapList}
 use Rattle.os_heap.specs.Store.{find_heap}
-use Rattle.law_blocks.specs.heap_calls.Alone.{Alone, HeapCall, alone_in}
-use Rattle.law_blocks.specs.heap_calls.Turns.{Reply as WrittenReply, heap_after_calls, replies}
+use Rattle.law_machine.specs.heap_calls.Alone.{Alone, HeapCall, alone_in}
+use Rattle.law_machine.specs.heap_calls.Turns.{Reply as WrittenReply, heap_after_calls, replies}
 use Rattle.swi_dispatch.specs.MachineState.{MachineState}
 use Rattle.law_machine.proofs.HeapAloneLemmas.Keeping.{found_alone}
 use Rattle.law_machine.proofs.HeapAloneLemmas.Lists.{stand_alone}

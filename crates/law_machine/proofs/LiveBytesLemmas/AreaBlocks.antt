@@ -18,11 +18,11 @@ use Rattle.dynamic_areas.specs.Areas.{find_area}
 use Rattle.dynamic_areas.specs.Changing.{AreLoose, store_after_end, loose_pages, store_extended, store_less, with_heap_end}
 use Rattle.dynamic_areas.specs.Ground.{AreaStore, IsAreaStore}
 use Rattle.dynamic_areas.specs.Remapped.{without_pages_at}
-use Rattle.law_blocks.proofs.HeapFrameLemmas.BlockCalls.{ended_same, extended_same}
-use Rattle.law_blocks.proofs.HeapFrameLemmas.Blocks.{AreSame}
-use Rattle.law_blocks.proofs.HeapFrameLemmas.Guests.{area_stores_fit}
-use Rattle.law_blocks.specs.heap_frame.BlockLaws.{total_in}
-use Rattle.law_blocks.specs.heap_frame.FitAreaStores.{IsFitAreaStore}
+use Rattle.law_machine.proofs.HeapFrameLemmas.BlockCalls.{ended_same, extended_same}
+use Rattle.law_machine.proofs.HeapFrameLemmas.Blocks.{AreSame}
+use Rattle.law_machine.proofs.HeapFrameLemmas.Guests.{area_stores_fit}
+use Rattle.law_machine.specs.heap_frame.BlockLaws.{total_in}
+use Rattle.law_machine.specs.heap_frame.FitAreaStores.{IsFitAreaStore}
 use Rattle.law_machine.proofs.LiveBytesLemmas.AreaCases.{HoldsAfter, area_call_has}
 use Rattle.law_machine.proofs.LiveBytesLemmas.Growing.{same_kept, same_then}
 use Rattle.law_machine.specs.live_bytes.AreaLaws.{AreaCallsKeepBoth, KeepsBoth}

@@ -15,7 +15,7 @@ use Rattle.dynamic_areas.specs.Changing.{AreLoose, change_answer, change_of, is_
 use Rattle.dynamic_areas.specs.Creating.{pages_for}
 use Rattle.dynamic_areas.specs.Ground.{AreaStore, IsAreaStore}
 use Rattle.dynamic_areas.specs.Remapped.{with_pages_at, without_pages_at}
-use Rattle.law_blocks.proofs.HeapFrameLemmas.Guests.{area_stores_fit}
+use Rattle.law_machine.proofs.HeapFrameLemmas.Guests.{area_stores_fit}
 use Rattle.law_machine.specs.live_bytes.AreaLaws.{AreaCallHas}
 
 -- nothing is changed; pages are mapped; the module area grows; pages go that can; the module area

@@ -18,12 +18,12 @@ use Rattle.swi_dispatch_guest.specs.Gates.{call_ended_by, carried_on, come_back,
 use Rattle.swi_dispatch_guest.specs.MachineState.{MachineState, machine_area_store, machine_module_state}
 use Rattle.swi_dispatch_guest.specs.ModuleStart.{opened_at}
 use Rattle.swi_dispatch_guest.specs.Returns.{gone_back}
-use Rattle.law_blocks.proofs.HeapFrameLemmas.BlockPlans.{plans_keep_blocks, text_same}
-use Rattle.law_blocks.proofs.HeapFrameLemmas.Blocks.{AreSame, same_all, same_were, were_both}
-use Rattle.law_blocks.proofs.HeapFrameLemmas.Plans.{plans_fit}
-use Rattle.law_blocks.specs.heap_frame.BlockLaws.{HaveNoSlide, WereLive}
-use Rattle.law_blocks.specs.heap_frame.FitAreaStores.{IsFitAreaStore}
-use Rattle.law_blocks.specs.heap_frame.PlanLaws.{IsFitModuleState, ModuleStateStaysFit}
+use Rattle.law_machine.proofs.HeapFrameLemmas.BlockPlans.{plans_keep_blocks, text_same}
+use Rattle.law_machine.proofs.HeapFrameLemmas.Blocks.{AreSame, same_all, same_were, were_both}
+use Rattle.law_machine.proofs.HeapFrameLemmas.Plans.{plans_fit}
+use Rattle.law_machine.specs.heap_frame.BlockLaws.{HaveNoSlide, WereLive}
+use Rattle.law_machine.specs.heap_frame.FitAreaStores.{IsFitAreaStore}
+use Rattle.law_machine.specs.heap_frame.PlanLaws.{IsFitModuleState, ModuleStateStaysFit}
 use Rattle.law_machine.proofs.HeapAloneLemmas.ModuleHosts.{HasModules, fit_module_state}
 use Rattle.law_machine.proofs.HeapAloneLemmas.ModulePlans.{IsFitPlan}
 use Rattle.law_machine.proofs.LiveBytesLemmas.Gates.{Goes, gate_has}

@@ -24,15 +24,15 @@ use Rattle.os_heap.specs.Forgetting.{store_after_forget, holds_heap}
 use Rattle.os_heap.specs.Store.{Store, find_heap, has_image}
 use Rattle.dynamic_areas.specs.Ground.{AreaStore}
 use Rattle.rma.specs.Calls.{end_if_moved, end_in_place, grown_in_place, grown_to, in_area, is_full, or_as_before, resized_or_grown, rma_base, rma_extended}
-use Rattle.law_blocks.proofs.HeapFrameLemmas.BlockCalls.{SameGrown, WereLiveIn, gave_were, to_same}
-use Rattle.law_blocks.proofs.HeapFrameLemmas.Blocks.{AreSame, held_total, same_all, same_both, unspelled}
-use Rattle.law_blocks.proofs.HeapFrameLemmas.HeapCalls.{items_of_fit, unless_some}
-use Rattle.law_blocks.proofs.HeapFrameLemmas.Holding.{forgot_is_fit, held_is_fit, written_is_fit}
-use Rattle.law_blocks.proofs.HeapFrameLemmas.Lists.{HasRoomIfSome, resized_room}
-use Rattle.law_blocks.proofs.HeapFrameLemmas.ModuleArea.{OnAreaStore, OnGrown, to_fit}
-use Rattle.law_blocks.specs.heap_frame.BlockLaws.{StayLive, WereLive, total_in}
-use Rattle.law_blocks.specs.heap_frame.FitAreaStores.{IsFitAreaStore}
-use Rattle.law_blocks.specs.heap_frame.Fits.{IsFitStore}
+use Rattle.law_machine.proofs.HeapFrameLemmas.BlockCalls.{SameGrown, WereLiveIn, gave_were, to_same}
+use Rattle.law_machine.proofs.HeapFrameLemmas.Blocks.{AreSame, held_total, same_all, same_both, unspelled}
+use Rattle.law_machine.proofs.HeapFrameLemmas.HeapCalls.{items_of_fit, unless_some}
+use Rattle.law_machine.proofs.HeapFrameLemmas.Holding.{forgot_is_fit, held_is_fit, written_is_fit}
+use Rattle.law_machine.proofs.HeapFrameLemmas.Lists.{HasRoomIfSome, resized_room}
+use Rattle.law_machine.proofs.HeapFrameLemmas.ModuleArea.{OnAreaStore, OnGrown, to_fit}
+use Rattle.law_machine.specs.heap_frame.BlockLaws.{StayLive, WereLive, total_in}
+use Rattle.law_machine.specs.heap_frame.FitAreaStores.{IsFitAreaStore}
+use Rattle.law_machine.specs.heap_frame.Fits.{IsFitStore}
 use Rattle.law_machine.proofs.LiveBytesLemmas.Growing.{same_then}
 use Rattle.law_machine.specs.live_bytes.AreaLaws.{ExtendsKeepBlocks, KeepsBoth}
 use Rattle.rma.proofs.FlexFrameLemmas.Heaps.{OnDone, on_if, on_some}

@@ -9,11 +9,11 @@ use Rattle.swi_dispatch_plans.specs.flex_frame.Ground.{flex_state, spelled_store
 use Rattle.flex_store.specs.Blocks.{FlexStore}
 use Rattle.flex_store.specs.Calls.{FlexState, flex_after_init, flex_after_init_over, is_flex_range}
 use Rattle.flex_store.specs.Runs.{FlexCall}
-use Rattle.law_blocks.proofs.HeapFrameLemmas.FlexStill.{call_still, none_after}
-use Rattle.law_blocks.proofs.HeapFrameLemmas.FlexCalls.{beside_in}
-use Rattle.law_blocks.proofs.HeapFrameLemmas.Turns.{call_is_done, called_aligned}
-use Rattle.law_blocks.specs.sliding.Meaning.{AreStores, Stores, store_in}
-use Rattle.law_blocks.specs.sliding.Turning.{flex_call_answer, stores_after_flex, stores_after_step}
+use Rattle.law_machine.proofs.HeapFrameLemmas.FlexStill.{call_still, none_after}
+use Rattle.law_machine.proofs.HeapFrameLemmas.FlexCalls.{beside_in}
+use Rattle.law_machine.proofs.HeapFrameLemmas.Turns.{call_is_done, called_aligned}
+use Rattle.law_machine.specs.sliding_stores.Meaning.{AreStores, Stores, store_in}
+use Rattle.law_machine.specs.sliding_stores.Turning.{flex_call_answer, stores_after_flex, stores_after_step}
 use Rattle.law_machine.specs.live_bytes.FlexLaws.{FlexCallsChangeAnchors, IsAnchorByte}
 
 module _ (a : ℕ) where

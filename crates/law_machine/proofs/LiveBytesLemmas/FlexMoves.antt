@@ -25,12 +25,12 @@ use Rattle.dynamic_areas.specs.Ground.{AreaStore}
 use Rattle.rma.proofs.FlexFrameLemmas.Heaps.{heap_calls_keep}
 use Rattle.rma.specs.flex_frame.Keeping.{AreAnchorsFree, KeepsFlex}
 use Rattle.rma.specs.flex_frame.Laws.{HeapCallKeeps}
-use Rattle.law_blocks.proofs.HeapCallsLemmas.DoneCalls.{OnDone}
-use Rattle.law_blocks.specs.heap_calls.Turns.{call_on}
-use Rattle.law_blocks.proofs.HeapFrameLemmas.Holding.{keeps_all, keeps_both, system_outside}
-use Rattle.law_blocks.specs.heap_frame.FitAreaStores.{IsFitAreaStore}
-use Rattle.law_blocks.specs.heap_frame.Fits.{KeepsOutside, is_module_byte}
-use Rattle.law_blocks.specs.heap_frame.PlanLaws.{IsFitModuleState}
+use Rattle.law_machine.proofs.HeapCallsLemmas.DoneCalls.{OnDone}
+use Rattle.law_machine.specs.heap_calls.Turns.{call_on}
+use Rattle.law_machine.proofs.HeapFrameLemmas.Holding.{keeps_all, keeps_both, system_outside}
+use Rattle.law_machine.specs.heap_frame.FitAreaStores.{IsFitAreaStore}
+use Rattle.law_machine.specs.heap_frame.Fits.{KeepsOutside, is_module_byte}
+use Rattle.law_machine.specs.heap_frame.PlanLaws.{IsFitModuleState}
 use Rattle.instances_table.specs.plans.Plans.{Plan, plan_after_code}
 use Rattle.swi_dispatch_answers.specs.declared.refusal.Refusal.{Refusal}
 use Rattle.swi_dispatch_answers.specs.declared.refusal.Refusal.TheVariants as refusal

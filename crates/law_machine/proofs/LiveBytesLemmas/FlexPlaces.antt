@@ -20,8 +20,8 @@ use Rattle.flex_store.specs.declared.flex.Extent.{Extent}
 use Rattle.flex_store.specs.declared.flex.Flex.{Flex}
 use Rattle.swi_dispatch_plans.proofs.FlexFrameLemmas.Kept.{whole_word}
 use Rattle.swi_dispatch_plans.specs.flex_frame.Ground.{spelled_store}
-use Rattle.law_blocks.specs.heap_frame.Fits.{is_module_byte}
-use Rattle.law_blocks.specs.sliding.FlexStore.{HasFlexStore, IsFlexRangeSpelled, IsSpelledAt, spelled_blocks}
+use Rattle.law_machine.specs.heap_frame.Fits.{is_module_byte}
+use Rattle.law_machine.specs.sliding_stores.FlexStore.{HasFlexStore, IsFlexRangeSpelled, IsSpelledAt, spelled_blocks}
 use Rattle.swi_dispatch_answers.specs.Words.{host_string}
 use Rattle.swi_dispatch_guest.specs.declared.halt.Halt.{Halt}
 use Rattle.swi_dispatch_guest.specs.Additions.{load_planned}

@@ -13,8 +13,8 @@ use Rattle.os_heap.specs.Store.{Store, is_in_flex_store}
 use Rattle.flex_store.specs.Calls.{FlexState, flex_after_alloc, flex_after_init, flex_after_extend, mid_extended, flex_after_release}
 use Rattle.flex_store.specs.Runs.{Alloc, Extend, FlexCall, MidExtend, Release}
 use Rattle.swi_dispatch_plans.specs.flex_frame.Ground.{flex_state, with_flex_record}
-use Rattle.law_blocks.specs.sliding.Meaning.{Stores, store_in}
-use Rattle.law_blocks.specs.sliding.Turning.{Call, Init, stores_after_flex, stores_after_step}
+use Rattle.law_machine.specs.sliding_stores.Meaning.{Stores, store_in}
+use Rattle.law_machine.specs.sliding_stores.Turning.{Call, Init, stores_after_flex, stores_after_step}
 use Rattle.swi_dispatch_answers.specs.Refusals.{or_error}
 use Rattle.swi_dispatch_answers.specs.declared.refusal.Refusal.{Refusal}
 use Rattle.swi_dispatch_plans.specs.flex.Calls.{fit_shown, flex_called, memory_after_flex as memory_left}

@@ -19,8 +19,8 @@ use Rattle.dynamic_areas.specs.declared.area.Area.{Area}
 use Rattle.dynamic_areas.specs.Areas.{find_area}
 use Rattle.dynamic_areas.specs.Changing.{AreLoose, store_after_end, loose_pages, store_less, with_heap_end}
 use Rattle.dynamic_areas.specs.Ground.{AreRangesMapped, AreaStore, IsAreaStore, IsRecorded, is_fixed, is_in_area, is_area_table, system_pages_range}
-use Rattle.law_blocks.proofs.HeapFrameLemmas.Guests.{IsHeldBy, created_low, held_by}
-use Rattle.law_blocks.specs.heap_frame.Fits.{is_module_byte}
+use Rattle.law_machine.proofs.HeapFrameLemmas.Guests.{IsHeldBy, created_low, held_by}
+use Rattle.law_machine.specs.heap_frame.Fits.{is_module_byte}
 use Rattle.law_machine.proofs.LiveBytesLemmas.AreaCases.{HoldsAfter}
 use Rattle.rma.proofs.FlexFrameLemmas.Areas.{flex_clear}
 use Rattle.rma.proofs.FlexFrameLemmas.Writes.{clear_of_flex}

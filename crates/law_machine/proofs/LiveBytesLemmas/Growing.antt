@@ -1,7 +1,7 @@
 -- The module area's blocks where the area grows: they stay what they are.
 use Rattle.std.proofs.Common.{◌∙◌}
 use Rattle.os_heap.specs.Store.{Store}
-use Rattle.law_blocks.proofs.HeapFrameLemmas.Blocks.{AreSame}
+use Rattle.law_machine.proofs.HeapFrameLemmas.Blocks.{AreSame}
 use Rattle.law_machine.specs.live_bytes.AreaLaws.{KeepsBoth}
 
 pub same_kept : (s t : Store) → AreSame s t → KeepsBoth s t

@@ -16,7 +16,7 @@ use Rattle.os_heap.proofs.Nesting.{within_low}
 use Rattle.os_heap.proofs.Stores.{IsOther, are_others}
 use Rattle.os_heap.specs.Nesting.{IsWithin}
 use Rattle.os_heap.specs.Store.{IsSound, Store, find_heap}
-use Rattle.law_blocks.specs.heap_calls.Laws.{starts_inside}
+use Rattle.law_machine.specs.heap_calls.Laws.{starts_inside}
 use Rattle.swi_dispatch_guest.specs.MachineState.{MachineState}
 use Rattle.swi_dispatch_guest.specs.Step.{outcome_of_call}
 use Rattle.law_machine.proofs.HeapAloneLemmas.Keeping.{off_system}

@@ -33,8 +33,8 @@ use Rattle.os_heap.specs.Calls.{store_after_init, store_with_new_heap, block_siz
 use Rattle.os_heap.specs.Forgetting.{store_after_forget, holds_heap}
 use Rattle.os_heap.specs.Ranges.{is_heap_region, overgrows, overlaps}
 use Rattle.os_heap.specs.Store.{IsSound, Store, find_heap, guest_count, has_image}
-use Rattle.law_blocks.proofs.HeapCallsLemmas.Plain.{sized_to}
-use Rattle.law_blocks.specs.heap_calls.Turns.{call_on}
+use Rattle.law_machine.proofs.HeapCallsLemmas.Plain.{sized_to}
+use Rattle.law_machine.specs.heap_calls.Turns.{call_on}
 use Rattle.law_machine.specs.live_bytes.HeapWrites.{IsHeadByte, IsOfMovedBlock, IsWrittenFor}
 
 -- a byte stays, or it is of a word of the heap's list

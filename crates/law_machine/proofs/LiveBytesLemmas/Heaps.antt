@@ -14,8 +14,8 @@ use Rattle.os_heap_words.specs.lists.Lists.{live_total}
 use Rattle.os_heap.proofs.Found.{found_start}
 use Rattle.os_heap.specs.Calls.{has_own_size}
 use Rattle.os_heap.specs.Store.{StandAreas, Store, find_heap, heap_in, heaps_in, is_module_area, store_of}
-use Rattle.law_blocks.specs.heap_frame.BlockLaws.{total_in}
-use Rattle.law_blocks.specs.heap_calls.Laws.{IsNotForgotten, KeepsHeap}
+use Rattle.law_machine.specs.heap_frame.BlockLaws.{total_in}
+use Rattle.law_machine.specs.heap_calls.Laws.{IsNotForgotten, KeepsHeap}
 use Rattle.swi_dispatch_guest.specs.MachineState.{MachineState}
 use Rattle.swi_dispatch_guest.specs.GuestState.{IsGuest, IsState, GuestState, state_of}
 use Rattle.law_machine.proofs.HeapAloneLemmas.LiveBytes.{payload_inside}

@@ -30,7 +30,7 @@ use Rattle.swi_dispatch_guest.specs.MachineState.{MachineState, machine_module_s
 use Rattle.swi_dispatch_guest.specs.ModuleStart.{module_opened}
 use Rattle.swi_dispatch_guest.specs.Returns.{gone_back}
 use Rattle.swi_dispatch_guest.specs.Step.{outcome_of_planned, begun_alone, call_of, call_refused, outcome_of_answer, module_entered, os_module_called, os_module_called_for}
-use Rattle.law_blocks.specs.heap_frame.PlanLaws.{IsFitModuleState}
+use Rattle.law_machine.specs.heap_frame.PlanLaws.{IsFitModuleState}
 use Rattle.law_machine.proofs.HeapAloneLemmas.ModuleHosts.{HasModules, fit_module_state}
 use Rattle.law_machine.proofs.HeapAloneLemmas.ModulePlans.{IsFitPlan}
 use Rattle.law_machine.proofs.HeapAloneLemmas.PlansMade.{IsFitPlanned, alone_planned, clear_made, copy_made, delete_made, insertion_made, instantiation_made, named_load_made, opening_made, reinit_made, tidy_made}

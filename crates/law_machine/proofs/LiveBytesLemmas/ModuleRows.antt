@@ -38,12 +38,12 @@ use Rattle.swi_dispatch_guest.specs.MachineState.{MachineState, machine_area_sto
 use Rattle.swi_dispatch_guest.specs.ModuleStart.{module_opened}
 use Rattle.swi_dispatch_guest.specs.Returns.{gone_back}
 use Rattle.swi_dispatch_guest.specs.Step.{outcome_of_planned, os_module_called}
-use Rattle.law_blocks.proofs.HeapFrameLemmas.Areas.{heap_same}
-use Rattle.law_blocks.proofs.HeapFrameLemmas.BlockCalls.{block_calls_keep}
-use Rattle.law_blocks.proofs.HeapFrameLemmas.Guests.{area_stores_fit}
-use Rattle.law_blocks.specs.heap_frame.BlockLaws.{total_in}
-use Rattle.law_blocks.specs.heap_frame.FitAreaStores.{IsFitAreaStore}
-use Rattle.law_blocks.specs.heap_frame.PlanLaws.{IsFitModuleState}
+use Rattle.law_machine.proofs.HeapFrameLemmas.Areas.{heap_same}
+use Rattle.law_machine.proofs.HeapFrameLemmas.BlockCalls.{block_calls_keep}
+use Rattle.law_machine.proofs.HeapFrameLemmas.Guests.{area_stores_fit}
+use Rattle.law_machine.specs.heap_frame.BlockLaws.{total_in}
+use Rattle.law_machine.specs.heap_frame.FitAreaStores.{IsFitAreaStore}
+use Rattle.law_machine.specs.heap_frame.PlanLaws.{IsFitModuleState}
 use Rattle.law_machine.proofs.HeapAloneLemmas.Keeping.{error_kept, off_system}
 use Rattle.law_machine.proofs.HeapAloneLemmas.LiveBytes.{payload_inside}
 use Rattle.law_machine.proofs.HeapAloneLemmas.ModuleHosts.{HasModules, fit_module_state}

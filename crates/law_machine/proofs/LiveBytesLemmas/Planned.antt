@@ -30,10 +30,10 @@ use Rattle.swi_dispatch_plans.specs.ModulePlans.{clear_planned, delete_planned, 
 use Rattle.swi_dispatch_plans.specs.PlannerInput.{PlannerInput, string_asked}
 use Rattle.swi_dispatch_guest.specs.Additions.{Planned, copy_planned, insertion_planned, load_planned, named_load_planned, plan_alone, planned_of}
 use Rattle.swi_dispatch_guest.specs.MachineState.{MachineState, machine_module_state, setting_of}
-use Rattle.law_blocks.proofs.HeapFrameLemmas.BlockCalls.{block_calls_keep}
-use Rattle.law_blocks.specs.heap_frame.BlockLaws.{HaveNoSlide, StayLive}
-use Rattle.law_blocks.specs.heap_frame.FitAreaStores.{IsFitAreaStore}
-use Rattle.law_blocks.specs.heap_frame.PlanLaws.{IsFitModuleState}
+use Rattle.law_machine.proofs.HeapFrameLemmas.BlockCalls.{block_calls_keep}
+use Rattle.law_machine.specs.heap_frame.BlockLaws.{HaveNoSlide, StayLive}
+use Rattle.law_machine.specs.heap_frame.FitAreaStores.{IsFitAreaStore}
+use Rattle.law_machine.specs.heap_frame.PlanLaws.{IsFitModuleState}
 use Rattle.law_machine.proofs.HeapAloneLemmas.ModulePlans.{bound, bound_if, bound_short}
 
 -- plans without a slide

@@ -9,8 +9,8 @@ use Rattle.image_loader.specs.Entries.{Entry}
 use Rattle.os_heap_words.specs.lists.Heap.{HeapList}
 use Rattle.os_heap.specs.Store.{Store}
 use Rattle.dynamic_areas.specs.Ground.{AreaStore}
-use Rattle.law_blocks.proofs.HeapFrameLemmas.Areas.{area_calls_keep}
-use Rattle.law_blocks.specs.heap_frame.AreaLaws.{AreaCallKeepsHeap}
+use Rattle.law_machine.proofs.HeapFrameLemmas.Areas.{area_calls_keep}
+use Rattle.law_machine.specs.heap_frame.AreaLaws.{AreaCallKeepsHeap}
 use Rattle.swi_dispatch_answers.specs.declared.refusal.Refusal.{Refusal}
 use Rattle.swi_dispatch_answers.specs.declared.refusal.Refusal.TheVariants as refusal
 use Rattle.swi_dispatch_guest.proofs.Kept.{outside_bytes, outside_word, short_name}

@@ -20,8 +20,8 @@ use Rattle.swi_dispatch_guest.specs.Gates.{call_ended_by, carried_on, ended_of, 
 use Rattle.swi_dispatch_guest.specs.MachineState.{MachineState, machine_area_store, machine_module_state}
 use Rattle.swi_dispatch_guest.specs.ModuleStart.{opened_at}
 use Rattle.swi_dispatch_guest.specs.Returns.{gone_back}
-use Rattle.law_blocks.proofs.HeapFrameLemmas.Guests.{guest_elsewhere}
-use Rattle.law_blocks.specs.heap_frame.GuestLaws.{HasGuestHeap}
+use Rattle.law_machine.proofs.HeapFrameLemmas.Guests.{guest_elsewhere}
+use Rattle.law_machine.specs.heap_frame.GuestLaws.{HasGuestHeap}
 use Rattle.law_machine.proofs.HeapAloneLemmas.ModuleHosts.{IsHost}
 use Rattle.law_machine.specs.module_heaps.GivenUp.{ForgetsGivenUp}
 use Rattle.law_machine.proofs.ModuleHeapsLemmas.Giving.{IsShown}

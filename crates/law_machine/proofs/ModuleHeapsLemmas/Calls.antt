@@ -43,13 +43,13 @@ use Rattle.swi_dispatch_guest.specs.Moves.{machine_with_words}
 use Rattle.swi_dispatch_guest.specs.Returns.{gone_back}
 use Rattle.swi_dispatch_guest.specs.Step.{call_of, call_refused, module_loaded, os_module_called, os_module_called_for, outcome_of_answer, outcome_of_planned, unless_halted}
 use Rattle.swi_dispatch_guest.specs.declared.halt.Halt.{Halt}
-use Rattle.law_blocks.proofs.HeapFrameLemmas.AreaForgetting.{area_calls_forget}
-use Rattle.law_blocks.proofs.HeapFrameLemmas.BlockCalls.{block_calls_keep}
-use Rattle.law_blocks.proofs.HeapFrameLemmas.ModuleArea.{OnAreaStore}
-use Rattle.law_blocks.specs.heap_frame.BlockLaws.{HaveNoSlide, StayLive}
-use Rattle.law_blocks.specs.heap_frame.Fits.{IsFitStore}
-use Rattle.law_blocks.specs.heap_frame.GuestLaws.{HasGuestHeap}
-use Rattle.law_blocks.specs.heap_frame.PlanLaws.{IsFitModuleState}
+use Rattle.law_machine.proofs.HeapFrameLemmas.AreaForgetting.{area_calls_forget}
+use Rattle.law_machine.proofs.HeapFrameLemmas.BlockCalls.{block_calls_keep}
+use Rattle.law_machine.proofs.HeapFrameLemmas.ModuleArea.{OnAreaStore}
+use Rattle.law_machine.specs.heap_frame.BlockLaws.{HaveNoSlide, StayLive}
+use Rattle.law_machine.specs.heap_frame.Fits.{IsFitStore}
+use Rattle.law_machine.specs.heap_frame.GuestLaws.{HasGuestHeap}
+use Rattle.law_machine.specs.heap_frame.PlanLaws.{IsFitModuleState}
 use Rattle.law_machine.proofs.HeapAloneLemmas.ModuleHosts.{IsHost, fit_module_state}
 use Rattle.law_machine.proofs.HeapAloneLemmas.ModuleLaws.{IsAsked, asked, host}
 use Rattle.law_machine.proofs.HeapAloneLemmas.ModulePlans.{IsFitPlan}

@@ -24,12 +24,12 @@ use Rattle.instances.specs.module_state.ModuleState.{ModuleState, area_store_aft
 use Rattle.instances.specs.tidying.Slid.{module_state_slid}
 use Rattle.instances.specs.actions.Actions.{code_of, image_given, module_state_after_action}
 use Rattle.instances.specs.Turns.{module_doing}
-use Rattle.law_blocks.proofs.HeapFrameLemmas.ModuleArea.{OnAreaStore, records_fit}
-use Rattle.law_blocks.proofs.HeapFrameLemmas.Plans.{acts_fit}
-use Rattle.law_blocks.proofs.HeapFrameLemmas.Words.{block_fit}
-use Rattle.law_blocks.specs.heap_frame.FitAreaStores.{AreaStoreStaysFit, IsFitAreaStore}
-use Rattle.law_blocks.specs.heap_frame.Fits.{IsFitStore}
-use Rattle.law_blocks.specs.heap_frame.PlanLaws.{AreActionsBelow, AreBelow, IsFitModuleState, ModuleStateStaysFit, slot_named}
+use Rattle.law_machine.proofs.HeapFrameLemmas.ModuleArea.{OnAreaStore, records_fit}
+use Rattle.law_machine.proofs.HeapFrameLemmas.Plans.{acts_fit}
+use Rattle.law_machine.proofs.HeapFrameLemmas.Words.{block_fit}
+use Rattle.law_machine.specs.heap_frame.FitAreaStores.{AreaStoreStaysFit, IsFitAreaStore}
+use Rattle.law_machine.specs.heap_frame.Fits.{IsFitStore}
+use Rattle.law_machine.specs.heap_frame.PlanLaws.{AreActionsBelow, AreBelow, IsFitModuleState, ModuleStateStaysFit, slot_named}
 use Rattle.law_machine.specs.live_bytes.Changes.{has_slide}
 use Rattle.law_machine.proofs.ModuleHeapsLemmas.Giving.{GivesUp, GivesUpIn, gave_gives, gives_both, same_gives}
 

@@ -19,15 +19,15 @@ use Rattle.os_heap.specs.Calls.{gave_back, holds_anchor, store_holding, total_or
 use Rattle.os_heap.specs.Forgetting.{lowest_lost, store_after_forget, without_heaps_in}
 use Rattle.os_heap.specs.Store.{Store, find_heap, has_image}
 use Rattle.rma.proofs.FlexFrameLemmas.Heaps.{OnDone, on_if, on_some}
-use Rattle.law_blocks.proofs.HeapCallsLemmas.KeptHeaps.{found_beside}
-use Rattle.law_blocks.proofs.HeapCallsLemmas.Plain.{unlive}
-use Rattle.law_blocks.proofs.HeapFrameLemmas.Blocks.{held_total, release_were}
-use Rattle.law_blocks.proofs.HeapFrameLemmas.FoundHeaps.{IsLeftIn, left_in, same_unless}
-use Rattle.law_blocks.proofs.HeapFrameLemmas.HeapCalls.{items_of_fit, unless_some}
-use Rattle.law_blocks.proofs.HeapFrameLemmas.Holding.{forgot_is_fit}
-use Rattle.law_blocks.proofs.HeapFrameLemmas.Lists.{HasRoomFor, HasRoomIfSome, released_room}
-use Rattle.law_blocks.specs.heap_frame.BlockLaws.{block_total, total_in}
-use Rattle.law_blocks.specs.heap_frame.Fits.{IsFitStore}
+use Rattle.law_machine.proofs.HeapCallsLemmas.KeptHeaps.{found_beside}
+use Rattle.law_machine.proofs.HeapCallsLemmas.Plain.{unlive}
+use Rattle.law_machine.proofs.HeapFrameLemmas.Blocks.{held_total, release_were}
+use Rattle.law_machine.proofs.HeapFrameLemmas.FoundHeaps.{IsLeftIn, left_in, same_unless}
+use Rattle.law_machine.proofs.HeapFrameLemmas.HeapCalls.{items_of_fit, unless_some}
+use Rattle.law_machine.proofs.HeapFrameLemmas.Holding.{forgot_is_fit}
+use Rattle.law_machine.proofs.HeapFrameLemmas.Lists.{HasRoomFor, HasRoomIfSome, released_room}
+use Rattle.law_machine.specs.heap_frame.BlockLaws.{block_total, total_in}
+use Rattle.law_machine.specs.heap_frame.Fits.{IsFitStore}
 use Rattle.law_machine.specs.module_heaps.GivenUp.{IsGivenUp}
 
 -- a block that is given back is live no more

@@ -11,10 +11,10 @@ use Rattle.os_heap.proofs.Apart.{range_parts}
 use Rattle.os_heap.proofs.Found.{found_heap, found_start}
 use Rattle.os_heap.specs.Store.{Store}
 use Rattle.dynamic_areas.specs.Ground.{AreaStore}
-use Rattle.law_blocks.proofs.HeapFrameLemmas.Guests.{guests_outside}
-use Rattle.law_blocks.specs.heap_frame.BlockLaws.{StayLive, block_total, total_in}
-use Rattle.law_blocks.specs.heap_frame.Fits.{IsFitStore, LiesInArea, is_module_byte}
-use Rattle.law_blocks.specs.heap_frame.GuestLaws.{HasGuestHeap}
+use Rattle.law_machine.proofs.HeapFrameLemmas.Guests.{guests_outside}
+use Rattle.law_machine.specs.heap_frame.BlockLaws.{StayLive, block_total, total_in}
+use Rattle.law_machine.specs.heap_frame.Fits.{IsFitStore, LiesInArea, is_module_byte}
+use Rattle.law_machine.specs.heap_frame.GuestLaws.{HasGuestHeap}
 
 -- where a live block's bytes lie
 record SpansBytes (block total : ℕ) : Type 0 where

@@ -21,11 +21,11 @@ use Rattle.swi_dispatch_plans.specs.ImagePlans.{copy_asked, insertion_asked, loa
 use Rattle.swi_dispatch_plans.specs.PlannerInput.{string_asked}
 use Rattle.swi_dispatch_guest.specs.Additions.{Planned, copy_planned, insertion_planned, load_planned, named_load_planned, plan_alone, planned_of}
 use Rattle.swi_dispatch_guest.specs.MachineState.{MachineState, machine_module_state, setting_of}
-use Rattle.law_blocks.specs.heap_calls.Laws.{IsNotForgotten}
-use Rattle.law_blocks.proofs.HeapFrameLemmas.AreaForgetting.{area_calls_forget}
-use Rattle.law_blocks.proofs.HeapFrameLemmas.ModuleArea.{module_area_calls_fit}
-use Rattle.law_blocks.specs.heap_frame.FitAreaStores.{IsFitAreaStore}
-use Rattle.law_blocks.specs.heap_frame.Fits.{KeepsOutside}
+use Rattle.law_machine.specs.heap_calls.Laws.{IsNotForgotten}
+use Rattle.law_machine.proofs.HeapFrameLemmas.AreaForgetting.{area_calls_forget}
+use Rattle.law_machine.proofs.HeapFrameLemmas.ModuleArea.{module_area_calls_fit}
+use Rattle.law_machine.specs.heap_frame.FitAreaStores.{IsFitAreaStore}
+use Rattle.law_machine.specs.heap_frame.Fits.{KeepsOutside}
 use Rattle.law_machine.proofs.HeapAloneLemmas.ModulePlans.{bound, bound_if, bound_short}
 
 -- a heap that starts elsewhere and isn't forgotten is found as it was

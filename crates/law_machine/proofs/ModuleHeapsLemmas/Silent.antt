@@ -46,10 +46,10 @@ use Rattle.swi_dispatch_guest.specs.ModuleStart.{opened_at}
 use Rattle.swi_dispatch_guest.specs.Moves.{machine_with_words}
 use Rattle.swi_dispatch_guest.specs.Returns.{gone_back}
 use Rattle.swi_dispatch_guest.specs.Step.{os_module_called}
-use Rattle.law_blocks.specs.heap_calls.Laws.{IsNotForgotten}
-use Rattle.law_blocks.proofs.HeapFrameLemmas.PlanForgetting.{acts_forget_none}
-use Rattle.law_blocks.specs.heap_frame.ForgettingLaws.{gives_back}
-use Rattle.law_blocks.specs.heap_frame.PlanLaws.{IsFitModuleState}
+use Rattle.law_machine.specs.heap_calls.Laws.{IsNotForgotten}
+use Rattle.law_machine.proofs.HeapFrameLemmas.PlanForgetting.{acts_forget_none}
+use Rattle.law_machine.specs.heap_frame.ForgettingLaws.{gives_back}
+use Rattle.law_machine.specs.heap_frame.PlanLaws.{IsFitModuleState}
 use Rattle.law_machine.proofs.HeapAloneLemmas.ModuleHosts.{IsHost, fit_module_state}
 use Rattle.law_machine.proofs.HeapAloneLemmas.ModuleLaws.{asked, host}
 use Rattle.law_machine.proofs.LiveBytesLemmas.Gates.{Goes, gate_has}

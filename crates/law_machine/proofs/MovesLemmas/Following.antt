@@ -17,11 +17,11 @@ use Rattle.swi_dispatch_guest.specs.GuestState.{IsState, state_of}
 use Rattle.swi_dispatch_guest.specs.Step.{outcome_of_call, result_of_instruction, machine_step, store_called, outcome_of_turn, unless_halted, without_x}
 use Rattle.swi_dispatch_guest.specs.Moves.{Call, Move, Step, machine_with_words, machine_after_event, swi_of_turn, with_registers}
 use Rattle.swi_dispatch_guest.specs.Writes.{machine_with_register}
-use Rattle.law_blocks.specs.sliding.Meaning.{AreStores, Meaning, Stores, meaning_of}
-use Rattle.law_blocks.specs.sliding.Rules.{IsTurned}
-use Rattle.law_blocks.specs.sliding.Turning.{Call as FlexStep, Init, Slide, FlexOrSlide, answer_of_turn, anchor_place_of_turn, stores_after_step as stores_turned}
-use Rattle.law_blocks.proofs.SlidingNamesLemmas.Naming.{turns_named}
-use Rattle.law_blocks.specs.sliding_names.Named.{IsTurnByNames}
+use Rattle.law_machine.specs.sliding_stores.Meaning.{AreStores, Meaning, Stores, meaning_of}
+use Rattle.law_machine.specs.sliding_stores.Rules.{IsTurned}
+use Rattle.law_machine.specs.sliding_stores.Turning.{Call as FlexStep, Init, Slide, FlexOrSlide, answer_of_turn, anchor_place_of_turn, stores_after_step as stores_turned}
+use Rattle.law_machine.proofs.SlidingNamesLemmas.Naming.{turns_named}
+use Rattle.law_machine.specs.sliding_names.Named.{IsTurnByNames}
 use Rattle.law_machine.proofs.SlidingLemmas.Flex.{allowed}
 use Rattle.law_machine.proofs.SlidingLemmas.Lawful.{calls_are, tidies_go}
 use Rattle.law_machine.proofs.SlidingLemmas.PlanKept.{plans_kept, plans_kept_outside}

@@ -9,8 +9,8 @@ use Rattle.instances.specs.actions.Actions.{code_of, image_given, module_state_a
 use Rattle.instances.specs.tidying.Slid.{module_state_slid}
 use Rattle.instances.specs.Turns.{module_doing}
 use Rattle.instances.specs.module_state.ModuleState.{ModuleState}
-use Rattle.law_blocks.proofs.HeapFrameLemmas.Plans.{acts_fit}
-use Rattle.law_blocks.specs.heap_frame.PlanLaws.{AreActionsBelow, AreBelow, IsFitModuleState, ModuleStateStaysFit, slot_named}
+use Rattle.law_machine.proofs.HeapFrameLemmas.Plans.{acts_fit}
+use Rattle.law_machine.specs.heap_frame.PlanLaws.{AreActionsBelow, AreBelow, IsFitModuleState, ModuleStateStaysFit, slot_named}
 use Rattle.law_machine.proofs.OtherBytesLemmas.Releases.{image_words, private_written, removed_written, text_written, word_written}
 use Rattle.law_machine.proofs.OtherBytesLemmas.Slides.{slid_written}
 use Rattle.law_machine.specs.other_bytes.ActionWrites.{ActionsKeepOthers, IsWrittenByAction, IsWrittenByActions, PlansKeepOthers, if_no_code}

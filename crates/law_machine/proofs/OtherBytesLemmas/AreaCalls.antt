@@ -17,10 +17,10 @@ use Rattle.rma.specs.Calls.{end_if_moved, end_in_place, grown_in_place, grown_to
 use Rattle.rma.specs.Images.{image_recorded, store_with_image}
 use Rattle.rma.specs.NewImages.{image_copied, image_made}
 use Rattle.rma.proofs.FlexFrameLemmas.Heaps.{OnDone}
-use Rattle.law_blocks.proofs.HeapFrameLemmas.AreaReleases.{area_there}
-use Rattle.law_blocks.proofs.HeapFrameLemmas.Guests.{area_stores_fit}
-use Rattle.law_blocks.proofs.HeapFrameLemmas.ModuleArea.{OnAreaStore, OnGrown as OnFit, to_fit}
-use Rattle.law_blocks.specs.heap_frame.FitAreaStores.{IsFitAreaStore}
+use Rattle.law_machine.proofs.HeapFrameLemmas.AreaReleases.{area_there}
+use Rattle.law_machine.proofs.HeapFrameLemmas.Guests.{area_stores_fit}
+use Rattle.law_machine.proofs.HeapFrameLemmas.ModuleArea.{OnAreaStore, OnGrown as OnFit, to_fit}
+use Rattle.law_machine.specs.heap_frame.FitAreaStores.{IsFitAreaStore}
 use Rattle.law_machine.proofs.OtherBytesLemmas.AreaGrowth.{IsBase, IsGrown, OnGrown, base_of, before_grown, not_grown, to_grown}
 use Rattle.law_machine.proofs.OtherBytesLemmas.AreaLists.{IsMovedIn, LeavesIn, Resizes, ResizesIn, got_leaves, gave_leaves, resized_leaves}
 use Rattle.law_machine.specs.other_bytes.AreaWrites.{AreaCallsKeepOthers, IsAreaWord, IsOfMovedAreaBlock}

@@ -18,7 +18,7 @@ use Rattle.dynamic_areas.specs.Ground.{AreaStore, IsAreaStore}
 use Rattle.rma.specs.Calls.{area_pages, area_room, grown_by, grown_to, or_as_before, pages_short}
 use Rattle.instances.specs.tidying.Laws.{AreBytes}
 use Rattle.law_machine.proofs.HeapAloneLemmas.Storing.{word_past}
-use Rattle.law_blocks.proofs.HeapFrameLemmas.AreaReleases.{HasArea, area_there}
+use Rattle.law_machine.proofs.HeapFrameLemmas.AreaReleases.{HasArea, area_there}
 
 -- a store whose memory spells the module area's heap
 pub record IsBase (d : Store) (o : HeapList) : Type 0 where

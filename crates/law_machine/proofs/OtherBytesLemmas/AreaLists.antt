@@ -24,11 +24,11 @@ use Rattle.os_heap.proofs.PayloadLists.{with_list}
 use Rattle.os_heap.specs.Calls.{gave_back, handed_over, holds_anchor, resized_or_moved, store_after_copy, store_after_get, store_after_move, store_after_resize, store_holding, total_or_0, unless_image}
 use Rattle.os_heap.specs.Forgetting.{holds_heap, store_after_forget}
 use Rattle.os_heap.specs.Store.{Store, find_heap, has_image}
-use Rattle.law_blocks.proofs.HeapCallsLemmas.Plain.{unlive}
-use Rattle.law_blocks.proofs.HeapFrameLemmas.HeapCalls.{items_of_fit, unless_some}
-use Rattle.law_blocks.proofs.HeapFrameLemmas.Holding.{forgot_is_fit, held_is_fit, written_is_fit}
-use Rattle.law_blocks.proofs.HeapFrameLemmas.Lists.{HasRoomFor, HasRoomIfSome, released_room, resized_room}
-use Rattle.law_blocks.specs.heap_frame.Fits.{IsFitStore}
+use Rattle.law_machine.proofs.HeapCallsLemmas.Plain.{unlive}
+use Rattle.law_machine.proofs.HeapFrameLemmas.HeapCalls.{items_of_fit, unless_some}
+use Rattle.law_machine.proofs.HeapFrameLemmas.Holding.{forgot_is_fit, held_is_fit, written_is_fit}
+use Rattle.law_machine.proofs.HeapFrameLemmas.Lists.{HasRoomFor, HasRoomIfSome, released_room, resized_room}
+use Rattle.law_machine.specs.heap_frame.Fits.{IsFitStore}
 use Rattle.rma.proofs.FlexFrameLemmas.Heaps.{OnDone, on_if, on_some}
 
 -- The heap is there after a call, and ends where it ended; the byte stays, or it is of a word of

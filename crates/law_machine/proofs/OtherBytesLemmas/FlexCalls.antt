@@ -16,12 +16,12 @@ use Rattle.flex_store.specs.Calls.{FlexState, breaks_anchor, end_in, flex_after_
 use Rattle.flex_store.specs.Runs.{Alloc, Extend, FlexCall, IsFlexCallDone, MidExtend, Release}
 use Rattle.flex_store.specs.Shifts.{following, removal_shifts, splice_shifts}
 use Rattle.flex_store.specs.declared.flex.Extent.{Extent}
-use Rattle.law_blocks.proofs.FlexLemmas.OneBlock.{found_has}
-use Rattle.law_blocks.proofs.HeapFrameLemmas.FlexBesides.{HasAligned}
-use Rattle.law_blocks.proofs.HeapFrameLemmas.FlexCalls.{anchors_are, spelled_aligned}
-use Rattle.law_blocks.proofs.HeapFrameLemmas.Turns.{call_is_done, called_aligned}
-use Rattle.law_blocks.specs.sliding.FlexStore.{IsSpelledAt, spelled_blocks}
-use Rattle.law_blocks.specs.sliding.Meaning.{store_in}
+use Rattle.law_machine.proofs.FlexLemmas.OneBlock.{found_has}
+use Rattle.law_machine.proofs.HeapFrameLemmas.FlexBesides.{HasAligned}
+use Rattle.law_machine.proofs.HeapFrameLemmas.FlexCalls.{anchors_are, spelled_aligned}
+use Rattle.law_machine.proofs.HeapFrameLemmas.Turns.{call_is_done, called_aligned}
+use Rattle.law_machine.specs.sliding_stores.FlexStore.{IsSpelledAt, spelled_blocks}
+use Rattle.law_machine.specs.sliding_stores.Meaning.{store_in}
 use Rattle.law_machine.specs.live_bytes.FlexLaws.{IsAnchorByte}
 use Rattle.law_machine.proofs.OtherBytesLemmas.FlexLaid.{IsLaidFrom, Lays, first_fits, laid_written, none_fit, rest_follows, room_lays}
 use Rattle.law_machine.specs.other_bytes.FlexWrites.{FlexCallsKeepOthers, IsLaidOut}

@@ -17,7 +17,7 @@ use Rattle.flex_store.specs.Calls.{FlexState, end_in, flex_if_room, with_blocks}
 use Rattle.flex_store.specs.Memory.{blocks_text_of, laid_out, standing, with_anchors}
 use Rattle.flex_store.specs.Shifts.{Shifts, following, gone_to}
 use Rattle.law_machine.proofs.HeapAloneLemmas.Storing.{word_past}
-use Rattle.law_blocks.proofs.HeapFrameLemmas.FlexBesides.{HasAligned}
+use Rattle.law_machine.proofs.HeapFrameLemmas.FlexBesides.{HasAligned}
 
 -- the byte is of the word of one of these blocks' anchors
 record IsOfAnchor (bs : List Block) (a : ℕ) : Type 0 where

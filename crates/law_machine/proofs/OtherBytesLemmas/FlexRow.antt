@@ -10,8 +10,8 @@ use Rattle.flex_store.specs.Blocks.{FlexStore, bytes_taken_by_all}
 use Rattle.flex_store.specs.Calls.{FlexState, flex_after_alloc, flex_after_extend, flex_after_init, flex_after_release, mid_extended}
 use Rattle.flex_store.specs.Runs.{Alloc, Extend, FlexCall, MidExtend, Release}
 use Rattle.flex_store.specs.declared.flex.Flex.{Flex}
-use Rattle.law_blocks.specs.sliding.Meaning.{Stores, store_in}
-use Rattle.law_blocks.specs.sliding.Turning.{Init, flex_call_answer, stores_after_flex, stores_after_step}
+use Rattle.law_machine.specs.sliding_stores.Meaning.{Stores, store_in}
+use Rattle.law_machine.specs.sliding_stores.Turning.{Init, flex_call_answer, stores_after_flex, stores_after_step}
 use Rattle.swi_dispatch_answers.specs.Refusals.{or_error}
 use Rattle.swi_dispatch_plans.specs.flex.Calls.{fit_shown, flex_called, memory_after_flex as memory_left}
 use Rattle.swi_dispatch_guest.specs.Calls.{machine_flex, on_flex}

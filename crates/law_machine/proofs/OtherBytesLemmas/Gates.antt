@@ -18,7 +18,7 @@ use Rattle.swi_dispatch_guest.specs.declared.halt.Halt.TheVariants as halt
 use Rattle.swi_dispatch_guest.specs.Gates.{carried_on, come_back, fault_ahead, frame_closed, frame_left, gated_by, outcome_left, outcome_of_gate, plan_left, unless_fault}
 use Rattle.swi_dispatch_guest.specs.MachineState.{MachineState, machine_module_state, silent}
 use Rattle.swi_dispatch_guest.specs.Returns.{outcome_of_error, outcome_of_halt}
-use Rattle.law_blocks.proofs.HeapFrameLemmas.Slots.{doable_below}
+use Rattle.law_machine.proofs.HeapFrameLemmas.Slots.{doable_below}
 use Rattle.law_machine.proofs.HeapAloneLemmas.Gates.{settled_given}
 use Rattle.law_machine.proofs.HeapAloneLemmas.ModuleHosts.{HasModules, fit_module_state}
 use Rattle.law_machine.proofs.HeapAloneLemmas.ModulePlans.{IsFitPlan}

@@ -7,7 +7,7 @@ use Rattle.profile.specs.declared.reason.HeapReason.{HeapReason}
 use Rattle.profile.specs.declared.swi.SwiName.TheVariants as swi
 use Rattle.arm_core.specs.State.{State, register_of}
 use Rattle.os_heap.specs.Store.{IsSound, Store}
-use Rattle.law_blocks.specs.heap_calls.Turns.{call_on}
+use Rattle.law_machine.specs.heap_calls.Turns.{call_on}
 use Rattle.swi_dispatch_answers.specs.declared.refusal.Refusal.{Refusal}
 use Rattle.swi_dispatch_answers.specs.declared.refusal.Refusal.TheVariants as refusal
 use Rattle.swi_dispatch_plans.specs.store.Heaps.{heap_called, heap_called_for}

@@ -43,7 +43,7 @@ use Rattle.law_machine.proofs.HeapAloneLemmas.HeapAnswers.{overflow_back}
 use Rattle.law_machine.proofs.HeapAloneLemmas.ModuleHosts.{HasModules, fit_module_state}
 use Rattle.law_machine.proofs.HeapAloneLemmas.ModulePlans.{IsFitPlan}
 use Rattle.law_machine.proofs.HeapAloneLemmas.PlansMade.{IsFitPlanned, alone_planned, clear_made, copy_made, delete_made, insertion_made, instantiation_made, load_made, named_load_made, reinit_made, tidy_made}
-use Rattle.law_blocks.specs.heap_frame.PlanLaws.{IsFitModuleState}
+use Rattle.law_machine.specs.heap_frame.PlanLaws.{IsFitModuleState}
 use Rattle.law_machine.proofs.OtherBytesLemmas.AreaCalls.{area_calls_keep_others}
 use Rattle.law_machine.proofs.OtherBytesLemmas.Ending.{Ends, Nothing, refused}
 use Rattle.law_machine.proofs.OtherBytesLemmas.Plans.{PlansAt, carried_written, copy_plans, insertion_plans, load_plans, named_load_plans, opened_text}

@@ -19,7 +19,7 @@ use Rattle.instances.specs.tidying.Laws.{AreBytes}
 use Rattle.instances.specs.tidying.Movable.{movable_blocks}
 use Rattle.instances.specs.tidying.Slid.{moves_in, private_words_of, words_moved, module_state_slid, module_state_slid_in}
 use Rattle.instances.specs.module_state.ModuleState.{ModuleState, private_word, with_private}
-use Rattle.law_blocks.proofs.FlexLemmas.Small.{word_small}
+use Rattle.law_machine.proofs.FlexLemmas.Small.{word_small}
 use Rattle.law_machine.specs.other_bytes.ActionWrites.{TidiesKeepWords}
 
 -- two words are the same, so their bytes are

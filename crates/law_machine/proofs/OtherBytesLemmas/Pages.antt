@@ -8,7 +8,7 @@ use Rattle.dynamic_areas.specs.declared.area.Area.{Area}
 use Rattle.dynamic_areas.specs.Areas.{find_area}
 use Rattle.dynamic_areas.specs.Changing.{change_answer, is_growth, pages_had, store_emptied, store_extended, store_less, store_more, store_reduced, with_heap_end}
 use Rattle.dynamic_areas.specs.Remapped.{without_pages_at}
-use Rattle.law_blocks.proofs.HeapFrameLemmas.AreaReleases.{area_there}
+use Rattle.law_machine.proofs.HeapFrameLemmas.AreaReleases.{area_there}
 use Rattle.law_machine.proofs.OtherBytesLemmas.AreaGrowth.{IsBase, IsGrown, base_of, end_grown, extended_grown, not_grown}
 use Rattle.law_machine.specs.other_bytes.PageWrites.{IsAreaEndByte, IsUnmapped, PageCallsKeepOthers}
 

@@ -32,7 +32,7 @@ use Rattle.swi_dispatch_guest.specs.MachineState.{MachineState, machine_area_sto
 use Rattle.swi_dispatch_guest.specs.ModuleStart.{opened_at}
 use Rattle.swi_dispatch_guest.specs.Returns.{gone_back}
 use Rattle.law_machine.proofs.HeapAloneLemmas.ModulePlans.{IsFitPlan, bound, bound_if, bound_short}
-use Rattle.law_blocks.specs.heap_frame.PlanLaws.{IsFitModuleState}
+use Rattle.law_machine.specs.heap_frame.PlanLaws.{IsFitModuleState}
 use Rattle.law_machine.proofs.OtherBytesLemmas.Actions.{plans_keep_others}
 use Rattle.law_machine.proofs.OtherBytesLemmas.AreaCalls.{area_calls_keep_others}
 use Rattle.law_machine.proofs.OtherBytesLemmas.Releases.{text_written}

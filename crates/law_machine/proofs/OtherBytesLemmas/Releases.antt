@@ -18,11 +18,11 @@ use Rattle.instances_table.specs.declared.parts.Image.{Image}
 use Rattle.instances_table.specs.plans.Code.{private_of}
 use Rattle.instances.specs.module_state.ModuleState.{ModuleState, area_store_after_free, image_gone, image_gone_of, image_gone_with, or_same, private_freed, private_word, with_private, with_text, module_state_after_remove}
 use Rattle.law_machine.proofs.HeapAloneLemmas.Storing.{word_past}
-use Rattle.law_blocks.proofs.HeapFrameLemmas.Holding.{written_is_fit}
-use Rattle.law_blocks.proofs.HeapFrameLemmas.ModuleArea.{freed_fit, records_fit}
-use Rattle.law_blocks.proofs.HeapFrameLemmas.Words.{or_same_fit}
-use Rattle.law_blocks.specs.heap_frame.FitAreaStores.{IsFitAreaStore}
-use Rattle.law_blocks.specs.heap_frame.Fits.{IsFitStore}
+use Rattle.law_machine.proofs.HeapFrameLemmas.Holding.{written_is_fit}
+use Rattle.law_machine.proofs.HeapFrameLemmas.ModuleArea.{freed_fit, records_fit}
+use Rattle.law_machine.proofs.HeapFrameLemmas.Words.{or_same_fit}
+use Rattle.law_machine.specs.heap_frame.FitAreaStores.{IsFitAreaStore}
+use Rattle.law_machine.specs.heap_frame.Fits.{IsFitStore}
 use Rattle.law_machine.proofs.OtherBytesLemmas.AreaLists.{Leaves, LeavesIn, gave_leaves}
 use Rattle.law_machine.specs.other_bytes.ActionWrites.{IsOfPrivateBlock, IsPrivateByte, IsTextByte}
 use Rattle.law_machine.specs.other_bytes.AreaWrites.{IsAreaWord}

@@ -29,8 +29,8 @@ use Rattle.instances.specs.tidying.Laws.{tidy_moves, tidy_moves_in}
 use Rattle.instances.specs.tidying.Movable.{movable_blocks}
 use Rattle.instances.specs.tidying.Slid.{moves_in, private_words_of, words_moved, module_state_moved, module_state_slid, module_state_slid_in}
 use Rattle.instances.specs.module_state.ModuleState.{ModuleState, private_word, with_private}
-use Rattle.law_blocks.proofs.HeapFrameLemmas.Holding.{area_of}
-use Rattle.law_blocks.specs.heap_frame.FitAreaStores.{IsFitAreaStore}
+use Rattle.law_machine.proofs.HeapFrameLemmas.Holding.{area_of}
+use Rattle.law_machine.specs.heap_frame.FitAreaStores.{IsFitAreaStore}
 use Rattle.law_machine.proofs.OtherBytesLemmas.Releases.{word_written}
 use Rattle.law_machine.specs.other_bytes.ActionWrites.{IsOfHeldSlot, IsOfSlidBlock, IsPrivateByte}
 use Rattle.law_machine.specs.other_bytes.AreaWrites.{IsAreaWord}

@@ -9,12 +9,12 @@ use Rattle.rma.specs.Calls.{with_store}
 use Rattle.instances.specs.module_state.ModuleState.{ModuleState, private_word, with_text}
 use Rattle.instances_table.specs.Changes.{is_slot_held}
 use Rattle.instances_table.specs.Modules.{Module, has_instance}
-use Rattle.law_blocks.proofs.SlidingLemmas.Besides.{behind}
-use Rattle.law_blocks.specs.sliding.Besides.{IsSame, stores_with_bytes}
-use Rattle.law_blocks.specs.sliding.Laws.{IsFollowed, module_without_place}
-use Rattle.law_blocks.specs.sliding.Meaning.{AreStores, Meaning, Stores, Value, area_names, meaning_of, store_in}
-use Rattle.law_blocks.specs.sliding.Rules.{IsTurned}
-use Rattle.law_blocks.specs.sliding.Turning.{FlexOrSlide, answer_of_turn, anchor_place_of_turn}
+use Rattle.law_machine.proofs.SlidingStoresLemmas.Besides.{behind}
+use Rattle.law_machine.specs.sliding_stores.Besides.{IsSame, stores_with_bytes}
+use Rattle.law_machine.specs.sliding_stores.Laws.{IsFollowed, module_without_place}
+use Rattle.law_machine.specs.sliding_stores.Meaning.{AreStores, Meaning, Stores, Value, area_names, meaning_of, store_in}
+use Rattle.law_machine.specs.sliding_stores.Rules.{IsTurned}
+use Rattle.law_machine.specs.sliding_stores.Turning.{FlexOrSlide, answer_of_turn, anchor_place_of_turn}
 use Rattle.law_machine.specs.sliding.Turns.{StoresAreStill}
 
 -- of module states

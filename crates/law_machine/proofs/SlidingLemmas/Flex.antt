@@ -30,12 +30,12 @@ use Rattle.swi_dispatch_guest.specs.Calls.{call_answer, machine_flex, on_flex}
 use Rattle.swi_dispatch_guest.specs.MachineState.{MachineState}
 use Rattle.swi_dispatch_guest.specs.Returns.{outcome_of_halt}
 use Rattle.swi_dispatch_guest.specs.Step.{outcome_of_call, called_by, outcome_of_answer, is_exit}
-use Rattle.law_blocks.proofs.SlidingLemmas.Called.{words_said}
-use Rattle.law_blocks.proofs.SlidingLemmas.Turns.{turns_follow}
-use Rattle.law_blocks.specs.sliding.Laws.{IsFollowed, module_without_place}
-use Rattle.law_blocks.specs.sliding.Meaning.{AreStores, Meaning, Stores, meaning_of}
-use Rattle.law_blocks.specs.sliding.Rules.{IsTurned}
-use Rattle.law_blocks.specs.sliding.Turning.{Call, Init, Slide, FlexOrSlide, answer_of, IsTurnAllowed, answer_of_turn, stores_after_flex, anchor_place_of_turn, stores_after_step}
+use Rattle.law_machine.proofs.SlidingStoresLemmas.Called.{words_said}
+use Rattle.law_machine.proofs.SlidingStoresLemmas.Turns.{turns_follow}
+use Rattle.law_machine.specs.sliding_stores.Laws.{IsFollowed, module_without_place}
+use Rattle.law_machine.specs.sliding_stores.Meaning.{AreStores, Meaning, Stores, meaning_of}
+use Rattle.law_machine.specs.sliding_stores.Rules.{IsTurned}
+use Rattle.law_machine.specs.sliding_stores.Turning.{Call, Init, Slide, FlexOrSlide, answer_of, IsTurnAllowed, answer_of_turn, stores_after_flex, anchor_place_of_turn, stores_after_step}
 use Rattle.law_machine.proofs.SlidingLemmas.Behind.{IsBehind, held_word, still_behind, written_outside}
 use Rattle.law_machine.specs.sliding.MachineStores.{stores_of}
 use Rattle.law_machine.specs.sliding.Turns.{Allocated, StoresAreStill, Extended, FlexSwi, Freed, IsTurnMade, MadeStore, MidExtended, flex_name, flex_turn}

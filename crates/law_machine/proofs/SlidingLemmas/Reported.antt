@@ -12,7 +12,7 @@ use Rattle.swi_dispatch_guest.specs.Answers.{went_on}
 use Rattle.swi_dispatch_guest.specs.Calls.{machine_flex, on_flex}
 use Rattle.swi_dispatch_guest.specs.MachineState.{MachineState}
 use Rattle.swi_dispatch_guest.specs.Step.{outcome_of_answer}
-use Rattle.law_blocks.specs.sliding.Turning.{answer_of, answer_of_turn}
+use Rattle.law_machine.specs.sliding_stores.Turning.{answer_of, answer_of_turn}
 use Rattle.law_machine.proofs.SlidingLemmas.Flex.{calls_as}
 use Rattle.law_machine.specs.sliding.MachineStores.{stores_of}
 use Rattle.law_machine.specs.sliding.Reported.{FlexCallsPrintRoom, shows_room}

@@ -7,8 +7,8 @@ use Rattle.instances.specs.Turns.{MayGoOn}
 use Rattle.instances.specs.actions.Pending.{is_pending, pending_of}
 use Rattle.swi_dispatch_guest.proofs.FlexCalls.{pending_one}
 use Rattle.swi_dispatch_guest.specs.GuestState.{GuestState, parts_module_state}
-use Rattle.law_blocks.proofs.SlidingLemmas.Turns.{machines_have}
-use Rattle.law_blocks.specs.sliding.Meaning.{AreStores}
+use Rattle.law_machine.proofs.SlidingStoresLemmas.Turns.{machines_have}
+use Rattle.law_machine.specs.sliding_stores.Meaning.{AreStores}
 use Rattle.law_machine.specs.sliding.MachineStores.{StatesHaveStores, pending_in}
 
 stores_by : (p : GuestState) (plan : Option Plan) → MayGoOn (parts_module_state p) plan → HasFlex p.map p.tables.flex → AreModules p.tables.modules

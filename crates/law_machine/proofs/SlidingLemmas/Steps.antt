@@ -41,10 +41,10 @@ use Rattle.swi_dispatch_guest.specs.Gates.{carried_on, come_back, fault_ahead, f
 use Rattle.swi_dispatch_guest.specs.MachineState.{MachineState, machine_module_state, silent, setting_of}
 use Rattle.swi_dispatch_guest.specs.Returns.{outcome_of_error, outcome_of_halt}
 use Rattle.swi_dispatch_guest.specs.Step.{outcome_of_planned, begun_alone, call_of, outcome_of_call, called_by, is_exit, os_module_called, os_module_called_for}
-use Rattle.law_blocks.proofs.SlidingLemmas.Turns.{turns_follow}
-use Rattle.law_blocks.specs.sliding.Laws.{IsFollowed}
-use Rattle.law_blocks.specs.sliding.Meaning.{AreStores, Stores}
-use Rattle.law_blocks.specs.sliding.Turning.{Slide, stores_after_step}
+use Rattle.law_machine.proofs.SlidingStoresLemmas.Turns.{turns_follow}
+use Rattle.law_machine.specs.sliding_stores.Laws.{IsFollowed}
+use Rattle.law_machine.specs.sliding_stores.Meaning.{AreStores, Stores}
+use Rattle.law_machine.specs.sliding_stores.Turning.{Slide, stores_after_step}
 use Rattle.law_machine.proofs.SlidingLemmas.Behind.{IsTexted, behind_from, followed_behind, still_behind, texted_then}
 use Rattle.law_machine.proofs.SlidingLemmas.Carrying.{IsCarriedOn, carried_so}
 use Rattle.law_machine.proofs.SlidingLemmas.Tidying.{IsInitialised, IsOnItsWay, Waits, all_tidying, initialised, owed_too, slide_ahead, tidied, tidy_settles}

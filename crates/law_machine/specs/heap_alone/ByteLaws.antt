@@ -11,7 +11,7 @@ use Rattle.os_heap_words.specs.lists.Heap.{HeapList}
 use Rattle.os_heap_words.specs.lists.Lists.{live_total}
 use Rattle.os_heap.specs.Laws.{KeepsPayloads}
 use Rattle.os_heap.specs.Store.{find_heap, owned_in}
-use Rattle.law_blocks.specs.heap_calls.Laws.{HoldsNoHeap}
+use Rattle.law_machine.specs.heap_calls.Laws.{HoldsNoHeap}
 use Rattle.swi_dispatch_guest.specs.MachineState.{MachineState}
 use Rattle.swi_dispatch_guest.specs.Step.{result_of_instruction}
 use Rattle.law_machine.specs.heap_alone.Laws.{HasHeap}

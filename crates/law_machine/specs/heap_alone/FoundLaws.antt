@@ -10,8 +10,8 @@ use Rattle.arm_core.specs.State.{State, register_of}
 use Rattle.image_loader.specs.Entries.{Entry}
 use Rattle.os_heap_words.specs.lists.Heap.{HeapList}
 use Rattle.os_heap.specs.Store.{Store, find_heap}
-use Rattle.law_blocks.specs.heap_calls.Forgotten.{IsForgotten}
-use Rattle.law_blocks.specs.heap_calls.Laws.{IsNotForgotten, LiesInBlock}
+use Rattle.law_machine.specs.heap_calls.Forgotten.{IsForgotten}
+use Rattle.law_machine.specs.heap_calls.Laws.{IsNotForgotten, LiesInBlock}
 use Rattle.swi_dispatch_guest.specs.MachineState.{MachineState}
 use Rattle.law_machine.specs.heap_alone.ModuleLaws.{HasAnyHeap}
 use Rattle.law_machine.specs.heap_alone.ModuleMoves.{is_module_move}

@@ -9,9 +9,9 @@ use Rattle.image_loader.specs.Entries.{Entry}
 use Rattle.os_heap_words.specs.lists.Heap.{HeapList}
 use Rattle.os_heap.specs.Calls.{has_own_size}
 use Rattle.os_heap.specs.Store.{Store, find_heap}
-use Rattle.law_blocks.specs.heap_calls.Alone.{Alone, alone_in}
-use Rattle.law_blocks.specs.heap_calls.Laws.{HeapHasNoAnchor, HoldsNoHeap, IsLeftWhole}
-use Rattle.law_blocks.specs.heap_calls.Turns.{heap_after_calls, replies}
+use Rattle.law_machine.specs.heap_calls.Alone.{Alone, alone_in}
+use Rattle.law_machine.specs.heap_calls.Laws.{HeapHasNoAnchor, HoldsNoHeap, IsLeftWhole}
+use Rattle.law_machine.specs.heap_calls.Turns.{heap_after_calls, replies}
 use Rattle.swi_dispatch_guest.specs.MachineState.{MachineState}
 use Rattle.swi_dispatch_guest.specs.GuestState.{IsState}
 use Rattle.law_machine.specs.heap_alone.Moves.{answers_in, calls_in, is_own}

@@ -8,8 +8,8 @@ use Rattle.os_heap_words.specs.lists.Heap.{HeapList}
 use Rattle.os_heap.specs.Calls.{has_own_size}
 use Rattle.os_heap.specs.Store.{find_heap}
 use Rattle.instances_table.specs.declared.parts.Handler.{Handler}
-use Rattle.law_blocks.specs.heap_calls.Laws.{IsNotForgotten, KeepsHeap}
-use Rattle.law_blocks.specs.heap_frame.Fits.{LiesInArea}
+use Rattle.law_machine.specs.heap_calls.Laws.{IsNotForgotten, KeepsHeap}
+use Rattle.law_machine.specs.heap_frame.Fits.{LiesInArea}
 use Rattle.swi_dispatch_guest.specs.Gates.{outcome_of_gate}
 use Rattle.swi_dispatch_guest.specs.MachineState.{MachineState}
 use Rattle.swi_dispatch_guest.specs.Step.{outcome_of_module_swi, module_loaded, os_module_called}

@@ -11,9 +11,9 @@ use Rattle.arm_core.specs.State.{State, register_of}
 use Rattle.image_loader.specs.Entries.{Entry}
 use Rattle.os_heap_words.specs.lists.Heap.{HeapList}
 use Rattle.os_heap.specs.Store.{Store, find_heap}
-use Rattle.law_blocks.specs.heap_calls.Alone.{HeapCall, call_given}
-use Rattle.law_blocks.specs.heap_calls.Lists.{is_on_heap}
-use Rattle.law_blocks.specs.heap_calls.Turns.{Answered, Refused, Reply}
+use Rattle.law_machine.specs.heap_calls.Alone.{HeapCall, call_given}
+use Rattle.law_machine.specs.heap_calls.Lists.{is_on_heap}
+use Rattle.law_machine.specs.heap_calls.Turns.{Answered, Refused, Reply}
 use Rattle.swi_dispatch_guest.specs.Errors.{error_number}
 use Rattle.swi_dispatch_guest.specs.MachineState.{MachineState}
 

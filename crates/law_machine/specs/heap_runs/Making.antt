@@ -7,9 +7,9 @@ use Rattle.image_loader.specs.Entries.{Entry}
 use Rattle.os_heap_words.specs.lists.Heap.{HeapList}
 use Rattle.os_heap.specs.Calls.{has_own_size}
 use Rattle.os_heap.specs.Store.{find_heap}
-use Rattle.law_blocks.specs.heap_calls.Alone.{alone_in}
-use Rattle.law_blocks.specs.heap_calls.Laws.{HeapHasNoAnchor, HoldsNoHeap, IsLeftWhole}
-use Rattle.law_blocks.specs.heap_calls.Turns.{replies}
+use Rattle.law_machine.specs.heap_calls.Alone.{alone_in}
+use Rattle.law_machine.specs.heap_calls.Laws.{HeapHasNoAnchor, HoldsNoHeap, IsLeftWhole}
+use Rattle.law_machine.specs.heap_calls.Turns.{replies}
 use Rattle.swi_dispatch.specs.SwiDispatchGuestHalt.{Halt}
 use Rattle.swi_dispatch.specs.MachineState.{MachineState, stop_of}
 use Rattle.swi_dispatch.specs.GuestState.{IsState}

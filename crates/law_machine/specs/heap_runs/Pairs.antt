@@ -4,7 +4,7 @@ use Rattle.swi_dispatch.specs.Moves.{Move}
 use Rattle.std.specs.Prelude.{ℕ, ◌≡◌, List}
 use Rattle.image_loader.specs.Entries.{Entry}
 use Rattle.os_heap_words.specs.lists.Heap.{HeapList}
-use Rattle.law_blocks.specs.heap_calls.Alone.{alone_in}
+use Rattle.law_machine.specs.heap_calls.Alone.{alone_in}
 use Rattle.swi_dispatch.specs.MachineState.{MachineState}
 use Rattle.law_machine.specs.heap_alone.Laws.{MachinesAnswerAlike}
 use Rattle.law_machine.specs.heap_alone.Moves.{calls_in}

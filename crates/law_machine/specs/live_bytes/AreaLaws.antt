@@ -11,8 +11,8 @@ use Rattle.dynamic_areas.specs.Creating.{area_table_after_create, pages_for}
 use Rattle.dynamic_areas.specs.Ground.{AreaStore, IsAreaStore}
 use Rattle.dynamic_areas.specs.Remapped.{with_pages_at}
 use Rattle.rma.specs.Calls.{rma_extended}
-use Rattle.law_blocks.specs.heap_frame.BlockLaws.{block_total}
-use Rattle.law_blocks.specs.heap_frame.FitAreaStores.{IsFitAreaStore}
+use Rattle.law_machine.specs.heap_frame.BlockLaws.{block_total}
+use Rattle.law_machine.specs.heap_frame.FitAreaStores.{IsFitAreaStore}
 
 -- A block of the module area that is live in both stores holds the same in both, as far as it holds
 -- it in both.

@@ -3,8 +3,8 @@
 use Rattle.std.specs.Prelude.{ℕ, ◌≡◌, ◌⊎◌, true, false}
 use Rattle.os_heap.specs.Store.{Store, is_in_flex_store}
 use Rattle.flex_store.specs.Runs.{FlexCall}
-use Rattle.law_blocks.specs.sliding.Meaning.{AreStores, Stores, store_in}
-use Rattle.law_blocks.specs.sliding.Turning.{Call, Init, stores_after_step}
+use Rattle.law_machine.specs.sliding_stores.Meaning.{AreStores, Stores, store_in}
+use Rattle.law_machine.specs.sliding_stores.Turning.{Call, Init, stores_after_step}
 
 -- the byte is one of a word that is an anchor in the one store or in the other
 abbrev pub IsAnchorByte : Store → Store → ℕ → Type 0

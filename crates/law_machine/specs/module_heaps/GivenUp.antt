@@ -20,10 +20,10 @@ use Rattle.swi_dispatch_guest.specs.Gates.{outcome_left, outcome_of_gate}
 use Rattle.swi_dispatch_guest.specs.MachineState.{MachineState, machine_area_store}
 use Rattle.swi_dispatch_guest.specs.Moves.{machine_with_words}
 use Rattle.swi_dispatch_guest.specs.Step.{module_loaded, os_module_called}
-use Rattle.law_blocks.specs.heap_calls.Forgotten.{IsForgotten}
-use Rattle.law_blocks.specs.heap_calls.Laws.{IsNotForgotten}
-use Rattle.law_blocks.specs.heap_frame.BlockLaws.{block_total}
-use Rattle.law_blocks.specs.heap_frame.ForgettingLaws.{gives_back}
+use Rattle.law_machine.specs.heap_calls.Forgotten.{IsForgotten}
+use Rattle.law_machine.specs.heap_calls.Laws.{IsNotForgotten}
+use Rattle.law_machine.specs.heap_frame.BlockLaws.{block_total}
+use Rattle.law_machine.specs.heap_frame.ForgettingLaws.{gives_back}
 use Rattle.law_machine.specs.heap_alone.ModuleLaws.{HasAnyHeap}
 use Rattle.law_machine.specs.live_bytes.Changes.{begins_tidy, slides_on}
 

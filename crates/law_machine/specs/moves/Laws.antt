@@ -15,9 +15,9 @@ use Rattle.swi_dispatch_guest.specs.MachineState.{MachineState, setting_of}
 use Rattle.swi_dispatch_guest.specs.Step.{result_of_instruction}
 use Rattle.swi_dispatch_guest.specs.Moves.{Call, Move, Step, core_of, machine_with_words, machine_after_event, swi_made}
 use Rattle.swi_dispatch_guest.specs.GuestState.{IsState}
-use Rattle.law_blocks.specs.sliding.Meaning.{meaning_of}
-use Rattle.law_blocks.specs.sliding.Turning.{answer_of_turn, anchor_place_of_turn}
-use Rattle.law_blocks.specs.sliding_names.Named.{IsTurnByNames}
+use Rattle.law_machine.specs.sliding_stores.Meaning.{meaning_of}
+use Rattle.law_machine.specs.sliding_stores.Turning.{answer_of_turn, anchor_place_of_turn}
+use Rattle.law_machine.specs.sliding_names.Named.{IsTurnByNames}
 use Rattle.law_machine.specs.sliding.Laws.{TidyGoesOn}
 use Rattle.law_machine.specs.sliding.MachineStores.{stores_of}
 use Rattle.law_machine.specs.sliding.Turns.{FlexSwi, IsTidied, IsTidyKept, IsTurnMade, flex_name, flex_turn}

@@ -23,7 +23,7 @@ use Rattle.instances.specs.tidying.Slid.{module_state_slid}
 use Rattle.instances.specs.Turns.{module_doing}
 use Rattle.instances.specs.module_state.Sound.{IsModuleState}
 use Rattle.instances.specs.module_state.ModuleState.{ModuleState, private_freed, private_word}
-use Rattle.law_blocks.specs.heap_frame.PlanLaws.{AreActionsBelow, IsFitModuleState}
+use Rattle.law_machine.specs.heap_frame.PlanLaws.{AreActionsBelow, IsFitModuleState}
 use Rattle.law_machine.specs.other_bytes.AreaWrites.{IsAreaWord}
 
 -- a byte of the private word of a slot, and of a text, with the zero after it, in the environment

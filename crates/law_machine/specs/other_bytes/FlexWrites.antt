@@ -8,8 +8,8 @@ use Rattle.flex_store.specs.Blocks.{FlexStore}
 use Rattle.flex_store.specs.Calls.{FlexState, end_in, header_place_in}
 use Rattle.flex_store.specs.Runs.{Alloc, Extend, FlexCall, MidExtend, Release}
 use Rattle.law_machine.specs.live_bytes.FlexLaws.{IsAnchorByte}
-use Rattle.law_blocks.specs.sliding.Meaning.{AreStores, Stores, store_in}
-use Rattle.law_blocks.specs.sliding.Turning.{flex_call_answer}
+use Rattle.law_machine.specs.sliding_stores.Meaning.{AreStores, Stores, store_in}
+use Rattle.law_machine.specs.sliding_stores.Turning.{flex_call_answer}
 
 -- where the header is of the block that a call makes, or that it changes or takes away
 abbrev pub header_of_call : FlexStore → FlexCall → ℕ

@@ -4,7 +4,7 @@
 use Rattle.std.specs.Prelude.{ℕ, ◌≡◌, ◌⊎◌, Ok}
 use Rattle.profile.specs.declared.reason.HeapReason.{HeapReason}
 use Rattle.os_heap.specs.Store.{IsSound, Store}
-use Rattle.law_blocks.specs.heap_calls.Turns.{call_on}
+use Rattle.law_machine.specs.heap_calls.Turns.{call_on}
 use Rattle.law_machine.specs.live_bytes.HeapWrites.{IsWrittenFor}
 
 -- The call on the heap at `heap`, with a block in R2 and a size or a change of one in R3, was done,

@@ -5,7 +5,7 @@ use Rattle.instances_table.specs.declared.parts.Image.{Image}
 use Rattle.instances.specs.actions.Pending.{pending_of}
 use Rattle.swi_dispatch_guest.specs.MachineState.{MachineState, machine_module_state}
 use Rattle.swi_dispatch_guest.specs.GuestState.{IsGuest, GuestState, state_of}
-use Rattle.law_blocks.specs.sliding.Meaning.{AreStores, Stores}
+use Rattle.law_machine.specs.sliding_stores.Meaning.{AreStores, Stores}
 
 -- the image that the call under way has recorded and not added to the modules yet, if there is one
 abbrev pub pending_in : Option Plan → List Image

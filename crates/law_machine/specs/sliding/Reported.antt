@@ -6,7 +6,7 @@ use Rattle.image_loader.specs.Entries.{Entry}
 use Rattle.swi_dispatch_plans.specs.flex.Calls.{room_word_of}
 use Rattle.swi_dispatch_guest.specs.MachineState.{MachineState}
 use Rattle.swi_dispatch_guest.specs.Step.{outcome_of_call}
-use Rattle.law_blocks.specs.sliding.Turning.{answer_of_turn}
+use Rattle.law_machine.specs.sliding_stores.Turning.{answer_of_turn}
 use Rattle.law_machine.specs.sliding.MachineStores.{stores_of}
 use Rattle.law_machine.specs.sliding.Turns.{Allocated, Extended, FlexSwi, Freed, MadeStore, MidExtended, flex_name, flex_turn}
 

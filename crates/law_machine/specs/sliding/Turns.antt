@@ -13,9 +13,9 @@ use Rattle.instances_table.specs.Changes.{is_slot_held}
 use Rattle.instances.specs.module_state.ModuleState.{private_word}
 use Rattle.flex_store.specs.Runs.{Alloc, Extend, MidExtend, Release}
 use Rattle.swi_dispatch_guest.specs.MachineState.{MachineState}
-use Rattle.law_blocks.specs.sliding.Laws.{IsFollowed}
-use Rattle.law_blocks.specs.sliding.Meaning.{AreStores, Stores, meaning_of, store_in}
-use Rattle.law_blocks.specs.sliding.Turning.{Call, Init, Slide, FlexOrSlide, answer_of_turn, stores_after_step}
+use Rattle.law_machine.specs.sliding_stores.Laws.{IsFollowed}
+use Rattle.law_machine.specs.sliding_stores.Meaning.{AreStores, Stores, meaning_of, store_in}
+use Rattle.law_machine.specs.sliding_stores.Turning.{Call, Init, Slide, FlexOrSlide, answer_of_turn, stores_after_step}
 use Rattle.law_machine.specs.sliding.MachineStores.{stores_of}
 
 -- the flex calls that change the store

@@ -1,5 +1,0 @@
-use Rattle.law_blocks.proofs.FlexLemmas.Apart.{anchors_are_apart}
-use Rattle.law_blocks.proofs.flex.laws.anchors_are_apart.Goals as goal
-
-pub returns : goal.returns
-returns c = anchors_are_apart

@@ -1,5 +1,0 @@
-use Rattle.law_blocks.proofs.FlexLemmas.Calls.{no_room_changes_nothing}
-use Rattle.law_blocks.proofs.flex.laws.no_room_changes_nothing.Goals as goal
-
-pub returns : goal.returns
-returns c = no_room_changes_nothing

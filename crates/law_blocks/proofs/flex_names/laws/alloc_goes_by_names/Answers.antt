@@ -1,5 +1,0 @@
-use Rattle.law_blocks.proofs.FlexNamesLemmas.Additions.{alloc_goes_by_names}
-use Rattle.law_blocks.proofs.flex_names.laws.alloc_goes_by_names.Goals as goal
-
-pub returns : goal.returns
-returns c = alloc_goes_by_names

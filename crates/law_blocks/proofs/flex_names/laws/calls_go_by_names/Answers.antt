@@ -1,5 +1,0 @@
-use Rattle.law_blocks.proofs.FlexNamesLemmas.Calls.{calls_go_by_names}
-use Rattle.law_blocks.proofs.flex_names.laws.calls_go_by_names.Goals as goal
-
-pub returns : goal.returns
-returns c = calls_go_by_names

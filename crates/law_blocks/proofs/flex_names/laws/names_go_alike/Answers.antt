@@ -1,5 +1,0 @@
-use Rattle.law_blocks.proofs.FlexNamesLemmas.Alike.{names_go_alike}
-use Rattle.law_blocks.proofs.flex_names.laws.names_go_alike.Goals as goal
-
-pub returns : goal.returns
-returns c = names_go_alike

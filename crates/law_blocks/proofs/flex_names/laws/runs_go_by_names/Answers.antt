@@ -1,5 +1,0 @@
-use Rattle.law_blocks.proofs.FlexNamesLemmas.Runs.{runs_go_by_names}
-use Rattle.law_blocks.proofs.flex_names.laws.runs_go_by_names.Goals as goal
-
-pub returns : goal.returns
-returns c = runs_go_by_names

@@ -1,5 +1,0 @@
-use Rattle.law_blocks.proofs.FlexNamesLemmas.Words.{words_have_names}
-use Rattle.law_blocks.proofs.flex_names.laws.words_have_names.Goals as goal
-
-pub returns : goal.returns
-returns c = words_have_names

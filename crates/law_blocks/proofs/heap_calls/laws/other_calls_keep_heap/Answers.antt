@@ -1,5 +1,0 @@
-use Rattle.law_blocks.proofs.HeapCallsLemmas.Forgotten.{others_kept}
-use Rattle.law_blocks.proofs.heap_calls.laws.other_calls_keep_heap.Goals as goal
-
-pub returns : goal.returns
-returns c = others_kept

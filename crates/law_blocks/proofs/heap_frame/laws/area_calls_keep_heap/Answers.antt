@@ -1,5 +1,0 @@
-use Rattle.law_blocks.proofs.HeapFrameLemmas.Areas.{area_calls_keep}
-use Rattle.law_blocks.proofs.heap_frame.laws.area_calls_keep_heap.Goals as goal
-
-pub returns : goal.returns
-returns c = area_calls_keep

@@ -1,5 +1,0 @@
-use Rattle.law_blocks.proofs.HeapFrameLemmas.Guests.{area_stores_fit}
-use Rattle.law_blocks.proofs.heap_frame.laws.area_stores_are_fit.Goals as goal
-
-pub returns : goal.returns
-returns c = area_stores_fit

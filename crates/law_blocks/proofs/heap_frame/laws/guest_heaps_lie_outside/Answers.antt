@@ -1,5 +1,0 @@
-use Rattle.law_blocks.proofs.HeapFrameLemmas.Guests.{guests_outside}
-use Rattle.law_blocks.proofs.heap_frame.laws.guest_heaps_lie_outside.Goals as goal
-
-pub returns : goal.returns
-returns c = guests_outside

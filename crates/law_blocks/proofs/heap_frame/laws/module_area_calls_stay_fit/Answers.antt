@@ -1,5 +1,0 @@
-use Rattle.law_blocks.proofs.HeapFrameLemmas.ModuleArea.{module_area_calls_fit}
-use Rattle.law_blocks.proofs.heap_frame.laws.module_area_calls_stay_fit.Goals as goal
-
-pub returns : goal.returns
-returns c = module_area_calls_fit

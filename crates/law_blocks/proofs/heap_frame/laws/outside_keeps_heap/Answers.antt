@@ -1,5 +1,0 @@
-use Rattle.law_blocks.proofs.HeapFrameLemmas.Guests.{outside_keeps}
-use Rattle.law_blocks.proofs.heap_frame.laws.outside_keeps_heap.Goals as goal
-
-pub returns : goal.returns
-returns c = outside_keeps

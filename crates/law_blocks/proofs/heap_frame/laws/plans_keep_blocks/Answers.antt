@@ -1,5 +1,0 @@
-use Rattle.law_blocks.proofs.HeapFrameLemmas.BlockPlans.{plans_keep_blocks}
-use Rattle.law_blocks.proofs.heap_frame.laws.plans_keep_blocks.Goals as goal
-
-pub returns : goal.returns
-returns c = plans_keep_blocks

@@ -1,6 +1,0 @@
-use Rattle.law_blocks.proofs.HeapFrameLemmas.Plans.{plans_fit}
-use Rattle.law_blocks.proofs.HeapFrameLemmas.Slots.{doable_below, modules_below}
-use Rattle.law_blocks.proofs.heap_frame.laws.plans_stay_fit.Goals as goal
-
-pub returns : goal.returns
-returns c = record { fit = plans_fit; modules = modules_below; plans = doable_below }

@@ -1,5 +1,0 @@
-use Rattle.law_blocks.proofs.HeapFrameLemmas.Turns.{turns_keep}
-use Rattle.law_blocks.proofs.heap_frame.laws.turns_keep_heap.Goals as goal
-
-pub returns : goal.returns
-returns c = turns_keep

@@ -1,5 +1,0 @@
-use Rattle.law_blocks.proofs.HeapFrameLemmas.Words.{writes_fit}
-use Rattle.law_blocks.proofs.heap_frame.laws.writes_stay_fit.Goals as goal
-
-pub returns : goal.returns
-returns c = writes_fit

@@ -1,5 +1,0 @@
-use Rattle.law_blocks.proofs.SlidingNamesLemmas.Naming.{turns_named}
-use Rattle.law_blocks.proofs.sliding_names.laws.turns_go_by_names.Goals as goal
-
-pub returns : goal.returns
-returns c = turns_named

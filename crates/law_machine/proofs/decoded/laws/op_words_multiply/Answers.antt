@@ -1,5 +1,0 @@
-use Rattle.law_machine.proofs.DecodedLemmas.PlainLemmas.{products_are_set}
-use Rattle.law_machine.proofs.decoded.laws.op_words_multiply.Goals as goal
-
-pub returns : goal.returns
-returns c = products_are_set

@@ -1,0 +1,5 @@
+use Rattle.law_machine.proofs.FlexLemmas.Splices.{splice_shows_others}
+use Rattle.law_machine.proofs.flex.laws.splice_shows_others.Goals as goal
+
+pub returns : goal.returns
+returns c = splice_shows_others
