@@ -1,5 +1,5 @@
 -- What the records of lines and of their answers have.
-use Rattle.std.proofs.Common.{◌≡◌, ◌∙◌, ℕ, zero, suc, Bool, true, false, List, [], ◌∷◌, ◌++◌, take, Option, refl, sym, ap, subst, append_assoc}
+use Rattle.std.proofs.Common.{◌≡◌, ◌∙◌, ℕ, ◌==◌, zero, suc, Bool, true, false, List, [], ◌∷◌, ◌++◌, take, Option, refl, sym, ap, subst, append_assoc}
 use Rattle.std.specs.Prelude.{◌&&◌, codes, not}
 use Rattle.std.proofs.lemmas.Bool.{false≢true}
 use Rattle.std.proofs.lemmas.List.{append-nil}
@@ -17,50 +17,50 @@ use Rattle.debug_records.proofs.RecordLemmas.{joined}
 
 -- THE RECORD OF AN ANSWER
 
-pub answer_whole : (remark stepping resets : Bool) (x y : List ℕ) (s t : MachineState) (a b : Option (List ℕ)) → remark ≡ true → x ≡ y
-    → Adds (IsOfForm (Whole x)) a b → Adds (IsOfForm (answer_form remark stepping resets y s t)) a b
-answer_whole true stepping resets x y s t a b is same h = subst (λ (z : List ℕ). Adds (IsOfForm (Whole z)) a b) same h
-answer_whole false stepping resets x y s t a b is same h = absurd (false≢true is)
+pub answer_whole : (remark stays resets : Bool) (x y : List ℕ) (s t : MachineState) (a b : Option (List ℕ)) → remark ≡ true → x ≡ y
+    → Adds (IsOfForm (Whole x)) a b → Adds (IsOfForm (answer_form remark stays resets y s t)) a b
+answer_whole true stays resets x y s t a b is same h = subst (λ (z : List ℕ). Adds (IsOfForm (Whole z)) a b) same h
+answer_whole false stays resets x y s t a b is same h = absurd (false≢true is)
 
-pub answer_begins : (remark stepping resets : Bool) (x y : List ℕ) (s t : MachineState) (a b : Option (List ℕ)) → remark ≡ false
-    → (not remark && (not stepping && not resets)) ≡ false → x ≡ y
-    → Adds (IsRecord x) a b → Adds (IsOfForm (answer_form remark stepping resets y s t)) a b
-answer_begins true stepping resets x y s t a b is some same h = absurd (false≢true (sym is))
-answer_begins false true resets x y s t a b is some same h = subst (λ (z : List ℕ). Adds (IsRecord z) a b) same h
-answer_begins false false true x y s t a b is some same h = subst (λ (z : List ℕ). Adds (IsRecord z) a b) same h
-answer_begins false false false x y s t a b is some same h = absurd (false≢true (sym some))
+pub answer_begins : (remark stays resets : Bool) (x y : List ℕ) (s t : MachineState) (a b : Option (List ℕ)) → remark ≡ false
+    → (stays && not resets) ≡ false → x ≡ y
+    → Adds (IsRecord x) a b → Adds (IsOfForm (answer_form remark stays resets y s t)) a b
+answer_begins true stays resets x y s t a b is some same h = absurd (false≢true (sym is))
+answer_begins false false resets x y s t a b is some same h = subst (λ (z : List ℕ). Adds (IsRecord z) a b) same h
+answer_begins false true true x y s t a b is some same h = subst (λ (z : List ℕ). Adds (IsRecord z) a b) same h
+answer_begins false true false x y s t a b is some same h = absurd (false≢true (sym some))
 
-pub answer_changes : (remark stepping resets : Bool) (x y : List ℕ) (s t : MachineState) (a b : Option (List ℕ))
-    → (not remark && (not stepping && not resets)) ≡ true → x ≡ y
-    → Adds (IsOfForm (Changes x s t)) a b → Adds (IsOfForm (answer_form remark stepping resets y s t)) a b
-answer_changes true stepping resets x y s t a b is same h = absurd (false≢true is)
-answer_changes false true resets x y s t a b is same h = absurd (false≢true is)
-answer_changes false false true x y s t a b is same h = absurd (false≢true is)
-answer_changes false false false x y s t a b is same h = subst (λ (z : List ℕ). Adds (IsOfForm (Changes z s t)) a b) same h
+pub answer_changes : (remark stays resets : Bool) (x y : List ℕ) (s t : MachineState) (a b : Option (List ℕ)) → remark ≡ false
+    → (stays && not resets) ≡ true → x ≡ y
+    → Adds (IsOfForm (Changes x s t)) a b → Adds (IsOfForm (answer_form remark stays resets y s t)) a b
+answer_changes true stays resets x y s t a b is some same h = absurd (false≢true (sym is))
+answer_changes false false resets x y s t a b is some same h = absurd (false≢true some)
+answer_changes false true true x y s t a b is some same h = absurd (false≢true some)
+answer_changes false true false x y s t a b is some same h = subst (λ (z : List ℕ). Adds (IsOfForm (Changes z s t)) a b) same h
 
-answer_from : (remark stepping resets : Bool) (head : List ℕ) (s m t : MachineState) (a b : Option (List ℕ)) → (stepping ≡ false → IsAlike s m)
-    → Adds (IsOfForm (answer_form remark stepping resets head s t)) a b → Adds (IsOfForm (answer_form remark stepping resets head m t)) a b
-answer_from true stepping resets head s m t a b alike h = h
-answer_from false true resets head s m t a b alike h = h
-answer_from false false true head s m t a b alike h = h
-answer_from false false false head s m t a b alike h = changes_from head s m t a b (alike refl) h
+answer_from : (remark stays resets : Bool) (head : List ℕ) (s m t : MachineState) (a b : Option (List ℕ)) → (stays ≡ true → IsAlike s m)
+    → Adds (IsOfForm (answer_form remark stays resets head s t)) a b → Adds (IsOfForm (answer_form remark stays resets head m t)) a b
+answer_from true stays resets head s m t a b alike h = h
+answer_from false false resets head s m t a b alike h = h
+answer_from false true true head s m t a b alike h = h
+answer_from false true false head s m t a b alike h = changes_from head s m t a b (alike refl) h
 
 same_form : (number n : ℕ) (remark r stepping s resets e : Bool) (taken t : ℕ) (counts c : LineCounts) (after d : DebugState)
     (text x : List ℕ) (m last m' : MachineState) → number ≡ n → remark ≡ r → stepping ≡ s → resets ≡ e → taken ≡ t → counts ≡ c → after ≡ d → text ≡ x
-    → last ≡ m' → answer_form remark stepping resets (answer_head number (answer_fields remark stepping taken counts after text)) m last
-    ≡ answer_form r s e (answer_head n (answer_fields r s t c d x)) m m'
+    → last ≡ m' → answer_form remark (taken == 0) resets (answer_head number (answer_fields remark stepping taken counts after text)) m last
+    ≡ answer_form r (t == 0) e (answer_head n (answer_fields r s t c d x)) m m'
 same_form number n remark r stepping s resets e taken t counts c after d text x m last m' f g h i j k l o p = rw (f, g, h, i, j, k, l, o, p) refl
 
 -- the same line, the same steps before it, and the same answer
 pub answer_is : (number n : ℕ) (remark r stepping s resets e : Bool) (taken t : ℕ) (counts c : LineCounts) (after d : DebugState)
     (text x : List ℕ) (first m last m' : MachineState) (a b : Option (List ℕ)) → number ≡ n → remark ≡ r → stepping ≡ s → resets ≡ e
-    → taken ≡ t → counts ≡ c → after ≡ d → text ≡ x → last ≡ m' → (stepping ≡ false → IsAlike first m)
-    → Adds (IsOfForm (answer_form remark stepping resets (answer_head number (answer_fields remark stepping taken counts after text)) first last)) a b
-    → Adds (IsOfForm (answer_form r s e (answer_head n (answer_fields r s t c d x)) m m')) a b
+    → taken ≡ t → counts ≡ c → after ≡ d → text ≡ x → last ≡ m' → ((taken == 0) ≡ true → IsAlike first m)
+    → Adds (IsOfForm (answer_form remark (taken == 0) resets (answer_head number (answer_fields remark stepping taken counts after text)) first last)) a b
+    → Adds (IsOfForm (answer_form r (t == 0) e (answer_head n (answer_fields r s t c d x)) m m')) a b
 answer_is number n remark r stepping s resets e taken t counts c after d text x first m last m' a b f g h i j k l o p alike written =
     subst (λ (form : RecordForm). Adds (IsOfForm form) a b)
     (same_form number n remark r stepping s resets e taken t counts c after d text x m last m' f g h i j k l o p)
-    (answer_from remark stepping resets (answer_head number (answer_fields remark stepping taken counts after text)) first m last a b alike written)
+    (answer_from remark (taken == 0) resets (answer_head number (answer_fields remark stepping taken counts after text)) first m last a b alike written)
 
 pub written_is : (new old text : List ℕ) → old ≡ [] → new ≡ old ++ text → new ≡ text
 written_is new old text empty is = is ∙ ap (λ (t : List ℕ). t ++ text) empty

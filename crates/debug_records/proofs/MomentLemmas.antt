@@ -214,16 +214,15 @@ some_steps before limit taken s t u a b c beyond =
 
 -- those of a line
 pub line_stepped : (before limit taken : ℕ) (s t m m' : MachineState) (a b : Option (List ℕ)) → IsAlike s m → IsAlike t m'
-    → Adds (AreSteps before limit taken s t) a b → Adds (AreRecords (step_forms true before limit taken m m')) a b
+    → Adds (AreSteps before limit taken s t) a b → Adds (AreRecords (step_forms false before limit taken m m')) a b
 line_stepped before limit taken s t m m' a b starts ends =
-    also_written (AreSteps before limit taken s t) (AreRecords (step_forms true before limit taken m m')) a b
+    also_written (AreSteps before limit taken s t) (AreRecords (step_forms false before limit taken m m')) a b
     (λ x are. one_record (Steps before limit taken m m') x (record { first = s; last = t; starts = starts; steps = are; ends = ends }))
 
--- the same, by what the line asks for, what it took, and the machine behind it
-pub steps_are : (stepping r : Bool) (before limit taken t : ℕ) (m last m' : MachineState) (a b : Option (List ℕ)) → stepping ≡ r → taken ≡ t
-    → last ≡ m' → Adds (AreRecords (step_forms stepping before limit taken m last)) a b
-    → Adds (AreRecords (step_forms r before limit t m m')) a b
-steps_are stepping r before limit taken t m last m' a b asked took behind h =
+-- the same, by what the line took, and the machine behind it
+pub steps_are : (before limit taken t : ℕ) (m last m' : MachineState) (a b : Option (List ℕ)) → taken ≡ t
+    → last ≡ m' → Adds (AreRecords (step_forms (taken == 0) before limit taken m last)) a b
+    → Adds (AreRecords (step_forms (t == 0) before limit t m m')) a b
+steps_are before limit taken t m last m' a b took behind h =
     subst (λ (forms : List RecordForm). Adds (AreRecords forms) a b)
-    (ap (λ (s : Bool). step_forms s before limit taken m last) asked
-    ∙ (ap (λ (n : ℕ). step_forms r before limit n m last) took ∙ ap (step_forms r before limit t m) behind)) h
+    (ap (λ (n : ℕ). step_forms (n == 0) before limit n m last) took ∙ ap (step_forms (t == 0) before limit t m) behind) h

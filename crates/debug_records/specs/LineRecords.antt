@@ -1,7 +1,7 @@
 -- Which records a line has that is answered: one with its number and its text as typed; then one for
 -- each step that it took, with the step's number over the whole script; past the limit, one for all the
 -- steps that are left; and one of its answer, with what it says. Those of the steps, or that of the answer
--- to a line that takes none, replay on the machine before the line to that behind it, as Moments says.
+-- to a line that took none, replay on the machine before the line to that behind it, as Moments says.
 -- `line_forms` says what each of them is, or begins with: what a record has beside those fields is a text
 -- on its line.
 use Rattle.std.specs.Prelude.{◌≡◌, ℕ, ◌+◌, ◌==◌, not, Bool, true, false, List, [], ◌∷◌, ◌++◌, codes, take, Option, Some, None, is_some, option_map}
@@ -78,30 +78,31 @@ line_head number line time = codes "\"line\":" ++ (decimal number
 
 -- THE RECORDS OF A LINE
 
--- those of its steps, of a line that asks for steps
+-- those of its steps, by whether it took none
 abbrev pub step_forms : Bool → ℕ → ℕ → ℕ → MachineState → MachineState → List RecordForm
-step_forms false before limit taken m m' = []
-step_forms true before limit taken m m' = Steps before limit taken m m' ∷ []
+step_forms true before limit taken m m' = []
+step_forms false before limit taken m m' = Steps before limit taken m m' ∷ []
 
 -- that of a line, with the lines that its block takes
 abbrev pub line_record_form : List ℕ → List ℕ → Option ℕ → RecordingState → RecordForm
 line_record_form line words time at = Whole (line_head at.number line time
     ++ block_field (debug_opens_block (request_read line words at)) (take (lines_in_block at.left) at.left))
 
--- that of an answer, by whether the line asks for nothing, for steps, or for a fresh machine
+-- that of an answer, by whether the line asks for nothing, took no step, and asks for a fresh machine
 abbrev pub answer_form : Bool → Bool → Bool → List ℕ → MachineState → MachineState → RecordForm
-answer_form true stepping resets fields m m' = Whole fields
-answer_form false true resets fields m m' = Begins fields
-answer_form false false true fields m m' = Begins fields
-answer_form false false false fields m m' = Changes fields m m'
+answer_form true stays resets fields m m' = Whole fields
+answer_form false false resets fields m m' = Begins fields
+answer_form false true true fields m m' = Begins fields
+answer_form false true false fields m m' = Changes fields m m'
 
 abbrev pub answer_record_form : List ℕ → List ℕ → RecordingState → RecordForm
 answer_record_form line words at =
     let request = request_read line words at in
     let answer = answer_by words at in
-    answer_form (is_remark_request request) (is_some (steps_asked request)) (is_reset_request request)
+    let taken = steps_of_line request answer.state in
+    answer_form (is_remark_request request) (taken == 0) (is_reset_request request)
     (answer_head at.number (answer_fields (is_remark_request request)
-    (is_some (steps_asked request)) (steps_of_line request answer.state) (line_counts at.debug) answer.state
+    (is_some (steps_asked request)) taken (line_counts at.debug) answer.state
     answer.text)) at.debug.script.machine answer.state.script.machine
 
 -- those of a line that was answered by these words, or of one time that it was
@@ -109,8 +110,8 @@ abbrev pub line_forms : List ℕ → List ℕ → Option ℕ → RecordingState 
 line_forms line words time at =
     let request = request_read line words at in
     let after = state_answered words at in
-    line_record_form line words time at
-    ∷ (step_forms (is_some (steps_asked request)) at.steps at.limit (steps_of_line request after)
+    let taken = steps_of_line request after in
+    line_record_form line words time at ∷ (step_forms (taken == 0) at.steps at.limit taken
     at.debug.script.machine after.script.machine ++ (answer_record_form line words at ∷ []))
 
 -- THE RECORDS OF LINES

@@ -1,6 +1,6 @@
 //! The answer to a line, recorded.
 
-ghost use Rattle.std.specs.Prelude.{◌≡◌, List, OnOk};
+ghost use Rattle.std.specs.Prelude.{◌≡◌, ◌==◌, ◌&&◌, not, List, OnOk};
 ghost use Rattle.image_loader.specs.Entries.{Entry};
 ghost use Rattle.debug_session.specs.Session.{debug_state};
 ghost use Rattle.debug_records.specs.AnswerHeads.{answer_fields, answer_head, is_remark_use, is_reset_use, is_stepping_use};
@@ -37,6 +37,15 @@ pub(crate) struct AnswerParts<'a> {
     pub(crate) answer: &'a [u8],
 }
 
+impl AnswerParts<'_> {
+    // Whether the record says what differs: steps have records of their own, and RESET shows the whole machine.
+    fn may_change(&self, used: &LineUse<'_>) -> bool
+        ensures { result ≡ ((self.now.taken == 0) && not (is_reset_use used.now)) }
+    {
+        self.taken == 0 && !matches!(used, LineUse::Reset)
+    }
+}
+
 impl Twin {
     /// Writes the record of an answer.
     pub(crate) fn print_answer<W: Sink>(
@@ -49,7 +58,7 @@ impl Twin {
         sink: &mut W,
     ) -> Result<(), RunError>
         ensures { (held : List Entry) → OnOk result (Adds (IsOfForm (answer_form (is_remark_use used.now)
-            (is_stepping_use used.now) (is_reset_use used.now)
+            (parts.now.taken == 0) (is_reset_use used.now)
             (answer_head parts.now.number (answer_fields (is_remark_use used.now) (is_stepping_use used.now)
             parts.now.taken parts.now.counts (debug_state session.now held) parts.now.answer.now))
             (twin_machine self.old) (session_machine session.now)))
@@ -60,7 +69,7 @@ impl Twin {
             push_whole(sink, &head)?;
             return Ok(());
         }
-        if used.may_change() {
+        if parts.may_change(used) {
             self.print_changed(session, images, parts, used, block, &head, sink)?;
             return Ok(());
         }
@@ -68,7 +77,7 @@ impl Twin {
         Ok(())
     }
 
-    // Writes that of a line that takes steps: where they ended; or of RESET: the whole machine.
+    // Writes that of a line that took steps: where they ended; or of RESET: the whole machine.
     fn print_without_changes<W: Sink>(
         &mut self,
         session: &DebugSession,
@@ -92,7 +101,7 @@ impl Twin {
         Ok(())
     }
 
-    // That of another answer: with what the line changed, and the image that its block has made.
+    // That of another answer: with what the line changed, and what stands before it.
     fn print_changed<W: Sink>(
         &mut self,
         session: &DebugSession,
@@ -116,7 +125,7 @@ impl Twin {
         Ok(())
     }
 
-    // The image that a block has made, if it has made one.
+    // The image that a block has made, if it has made one; where a line ended that took none of its steps.
     fn push_made(
         &mut self,
         session: &DebugSession,
@@ -128,10 +137,12 @@ impl Twin {
         ensures { OnOk result (self.new.changes ≡ self.old.changes) }
     {
         let counts = LineCounts::of(session);
-        if let LineUse::Block(name, origin) = *used {
-            if parts.counts.refused == counts.refused {
+        match *used {
+            LineUse::Steps => push_ending(self.alloc, &mut self.text, session)?,
+            LineUse::Block(name, origin) if parts.counts.refused == counts.refused => {
                 self.print_image(images, name, origin, block)?;
             }
+            _ => {}
         }
         Ok(())
     }

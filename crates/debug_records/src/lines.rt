@@ -1,6 +1,6 @@
 //! One line of a script, recorded.
 
-ghost use Rattle.std.specs.Prelude.{◌≡◌, ◌<◌, ◌-◌, ◌++◌, ◌&&◌, false, not, true, take, List, Some, IfOk, OnOk, option_map, is_some, if◌then◌else◌};
+ghost use Rattle.std.specs.Prelude.{◌≡◌, ◌<◌, ◌-◌, ◌++◌, ◌==◌, false, true, take, List, Some, IfOk, OnOk, option_map, is_some, if◌then◌else◌};
 ghost use Rattle.image_loader.specs.Entries.{Entry};
 ghost use Rattle.command_shell_lines.specs.Blocks.{lines_in_block};
 ghost use Rattle.command_shell_lines.specs.Requests.{opens_block, request_of_command};
@@ -18,13 +18,14 @@ use crate::answers::AnswerParts;
 use crate::counts::LineCounts;
 use crate::recorder::{Recorder, SteppedLine, Twin};
 use crate::records::{line_head, push_whole};
+use crate::taking::take_or_let;
 use command_shell::RunError;
 use command_shell_lines::{ScriptCommand, command_of, skip_block};
 use debug_lines::{
     DebugCommand, ModeCommand, SteppingCommand, is_script_command, is_script_line, simple_command,
     stepping_in, tidied,
 };
-use debug_session::DebugSession;
+use debug_session::{DebugSession, is_faulted};
 use profile::Sink;
 use profile::text_lines::Lines;
 use profile::text_sink::TextSink;
@@ -52,20 +53,6 @@ impl LineUse<'_> {
         ensures { result ≡ is_remark_use self.now }
     {
         matches!(self, LineUse::Remark)
-    }
-
-    fn takes_steps(&self) -> bool
-        ensures { result ≡ is_stepping_use self.now }
-    {
-        matches!(self, LineUse::Steps)
-    }
-
-    /// Whether the answer says what differs.
-    pub(crate) fn may_change(&self) -> bool
-        ensures { result ≡ not (is_remark_use self.now)
-            && (not (is_stepping_use self.now) && not (is_reset_use self.now)) }
-    {
-        matches!(self, LineUse::Block(_, _) | LineUse::Other)
     }
 
     fn opens_block(&self) -> bool
@@ -250,7 +237,7 @@ impl Recorder {
             taken,
         };
         self.twin
-            .record_taken(&self.session, &used, &steps, stepped, sink)?;
+            .record_taken(&self.session, &steps, stepped, sink)?;
         self.steps = self.steps.saturating_add(taken);
         self.limit = limit_after(meant.as_slice(), self.limit);
         let parts = AnswerParts {
@@ -261,7 +248,7 @@ impl Recorder {
         };
         self.twin
             .print_answer(&self.session, &self.images, &parts, &used, &block, sink)?;
-        self.twin.follow(&used, words, &block)?;
+        self.twin.follow(&self.session, taken, words, &block)?;
         Ok(())
     }
 }
@@ -284,34 +271,43 @@ fn meant_words(
 }
 
 impl Twin {
-    // The twin answers a line that takes no steps.
-    fn follow(&mut self, used: &LineUse<'_>, words: &[u8], block: &Lines) -> Result<(), RunError> {
-        if used.takes_steps() {
+    // The twin answers a line that took no steps. Behind steps it is halted where the session is: a fault is
+    // no step.
+    fn follow(
+        &mut self,
+        session: &DebugSession,
+        taken: u64,
+        words: &[u8],
+        block: &Lines,
+    ) -> Result<(), RunError> {
+        let mut unseen = TextSink::new(self.alloc);
+        if taken > 0 {
+            if is_faulted(&session.session) {
+                take_or_let(&mut self.session.session, &self.images, &mut unseen, &None)?;
+            }
             return Ok(());
         }
-        let mut unseen = TextSink::new(self.alloc);
         let mut lines = block.again();
         self.session
             .answer_line(&mut self.images, &mut unseen, words, &mut lines)
     }
 
-    // Records the steps that a line has taken, if it asks for steps: behind them the twin stands as the
-    // session does.
+    // Records the steps that a line has taken, if there are some: behind them the twin stands as the session
+    // does.
     fn record_taken<W: Sink>(
         &mut self,
         session: &DebugSession,
-        used: &LineUse<'_>,
         command: &Option<SteppingCommand<'_>>,
         line: SteppedLine,
         sink: &mut W,
     ) -> Result<(), RunError>
         ensures records { (m : MachineState) → IsAlike (twin_machine self.old) m → OnOk result
-            (Adds (AreRecords (step_forms (is_stepping_use used.now) line.before line.limit
-            line.taken m (session_machine session.now))) (W.contents sink.old) (W.contents sink.new)) }
-        ensures kept { is_stepping_use used.now ≡ false → OnOk result
+            (Adds (AreRecords (step_forms (line.taken == 0) line.before line.limit line.taken m
+            (session_machine session.now))) (W.contents sink.old) (W.contents sink.new)) }
+        ensures kept { (line.taken == 0) ≡ true → OnOk result
             (twin_machine self.new ≡ twin_machine self.old) }
     {
-        if !used.takes_steps() {
+        if line.taken == 0 {
             return Ok(());
         }
         self.record_steps(session, command, line, sink)?;

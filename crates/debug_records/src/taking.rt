@@ -129,7 +129,11 @@ fn take_steps(
     let mut left = count;
     while left > 0 {
         let taken = if twin.stubs().is_empty() {
-            run_steps(&mut twin.session, images, printed, left)?
+            twin.session.set_budget(left);
+            match twin.session.take_steps(images, printed, left) {
+                Ok(ran) => ran.taken,
+                Err(_) => return Err(AllocError),
+            }
         } else {
             0
         };
@@ -142,19 +146,6 @@ fn take_steps(
         }
     }
     Ok(())
-}
-
-fn run_steps(
-    twin: &mut Session,
-    images: &Images,
-    printed: &mut TextSink,
-    count: u64,
-) -> Result<u64, AllocError> {
-    twin.set_budget(count);
-    match twin.take_steps(images, printed, count) {
-        Ok(ran) => Ok(ran.taken),
-        Err(_) => Err(AllocError),
-    }
 }
 
 /// Behind the last step of a line the core of the twin becomes that of the session: a routine that has come

@@ -1,5 +1,5 @@
 -- The record of a line, those of its steps, and that of its answer.
-use Rattle.std.proofs.Common.{◌≡◌, ◌∙◌, ◌++◌, ℕ, List, is_some, ap, subst, sym}
+use Rattle.std.proofs.Common.{◌≡◌, ◌∙◌, ◌++◌, ◌==◌, ℕ, List, is_some, ap, subst, sym}
 use Rattle.debug_lines.specs.DebugRequests.{debug_opens_block}
 use Rattle.debug_session.specs.DebugScript.{line_opens}
 use Rattle.command_shell.specs.MachineState.{MachineState}
@@ -60,15 +60,15 @@ returns g c =
     c.use_of-used.ensures.stepping ∙ ap (λ (ws : List ℕ). is_some (steps_asked (request_meant ws))) first_read in
     record {
       records = line_written (line_record_form line words c.args.time at) (answer_record_form line words at)
-          (step_forms (is_some (steps_asked asked)) own.steps own.limit steps m after.script.machine) before first stepped last
+          (step_forms (steps == 0) own.steps own.limit steps m after.script.machine) before first stepped last
           (subst (λ (form : RecordForm). Adds (IsOfForm form) before first)
           (line_is c.number-number.result place.number line c.args.time c.opens_block.result (debug_opens_block asked)
           c.again-block.result place number
           (c.opens_block.ensures ∙ (c.use_of-used.ensures.block
           ∙ ap (λ (ws : List ℕ). debug_opens_block (request_meant ws)) first_read)) c.again-block.ensures)
           c.in_ok-print_line.ensures)
-          (steps_are (is_stepping_use c.use_of-used.result) (is_some (steps_asked asked)) own.steps own.limit c.steps_taken-taken.result steps m
-          last_machine after.script.machine first stepped stepping taken behind (c.in_ok-record_taken.ensures.records m alike))
+          (steps_are own.steps own.limit c.steps_taken-taken.result steps m last_machine after.script.machine first stepped taken behind
+          (c.in_ok-record_taken.ensures.records m alike))
           (answer_is c.number-number.result place.number (is_remark_use c.use_of-used.result) (is_remark_request asked)
           (is_stepping_use c.use_of-used.result) (is_some (steps_asked asked)) (is_reset_use c.use_of-used.result) (is_reset_request asked)
           c.steps_taken-taken.result steps c.of-counts.result (line_counts at.debug) debug after c.bytes.result.now answer.text
@@ -76,7 +76,7 @@ returns g c =
           (c.use_of-used.ensures.remark ∙ ap (λ (ws : List ℕ). is_remark_request (request_meant ws)) first_read) stepping
           (c.use_of-used.ensures.resets ∙ ap (λ (ws : List ℕ). is_reset_request (request_meant ws)) first_read)
           taken c.of-counts.ensures now text behind
-          (λ plain. subst (λ (s : MachineState). IsAlike s m) (sym (c.in_ok-record_taken.ensures.kept plain)) alike)
+          (λ none. subst (λ (s : MachineState). IsAlike s m) (sym (c.in_ok-record_taken.ensures.kept none)) alike)
           (c.in_ok-print_answer.ensures c.answer_line.new.images));
       state = left_behind at (request_meant read) after (line_opens words) c.answer_line.new.self.setting debug left.number left.left
           c.steps_taken-taken.result c.saturating_add-self.result c.limit_after-self.result here.setting now here.number

@@ -23,15 +23,15 @@ returns g c =
     let b = g.W.Sink.contents c.push_moment.new.sink in
     let now : t ≡ settled = c.machine-machine.ensures [] in
     let start : twin_machine c.clear.new.self ≡ s = ap session_machine c.clear.ensures.session in
-    let taken : IsStepTaken first s left c.in_ok-begin.before =
-    subst (λ (m : MachineState). IsStepTaken first m left c.in_ok-begin.before) start c.in_ok-begin.ensures.taken in
+    let taken : IsStepTaken first s left c.in_ok-before.before =
+    subst (λ (m : MachineState). IsStepTaken first m left c.in_ok-before.before) start c.in_ok-before.ensures.taken in
     let set : IsSet left t = subst (λ (m : MachineState). IsSet left m) (sym now) c.settle_last.ensures.set in
     let shown = c.cpu.ensures ∙ ap (λ (m : MachineState). m.cpu) (c.machine.ensures []) in
     let ends : t ≡ twin_machine c.push_moved.new.self = now ∙ sym (ap session_machine c.in_ok-push_moved.ensures.session) in
     subst (λ (m : MachineState). Adds (IsStepRecord c.args.number first c.args.is_last s m) a b) ends
-    (step_recorded c.args.number first c.args.is_last s left t c.in_ok-begin.before c.cpu.result.now c.clear.new.self.changes
+    (step_recorded c.args.number first c.args.is_last s left t c.in_ok-before.before c.cpu.result.now c.clear.new.self.changes
     begun.changes c.push_changes.new.text c.push_moved.new.self.changes c.push_moved.new.self.front.bytes.items
     c.push_moved.new.self.text.bytes.items c.in_ok-head.head.bytes.items c.place.result a b taken set
     (λ earlier. now ∙ c.settle_last.ensures.earlier earlier) shown c.in_ok-push_changes.ensures c.clear.ensures.changes
-    c.in_ok-begin.ensures.changes c.in_ok-push_moved.ensures.changes c.in_ok-push_moment.ensures.others
+    c.in_ok-before.ensures.changes c.in_ok-push_moved.ensures.changes c.in_ok-push_moment.ensures.others
     c.in_ok-push_moment.ensures.others_behind c.in_ok-head.ensures c.place.ensures c.in_ok-push_moment.ensures.written)

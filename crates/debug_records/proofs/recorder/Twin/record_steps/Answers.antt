@@ -4,13 +4,13 @@ use Rattle.debug_records.specs.Recording.{twin_machine}
 use Rattle.debug_records.proofs.MomentLemmas.{all_steps, some_steps}
 use Rattle.debug_records.proofs.recorder.Twin.record_steps.Goals as goal
 
-pub returns-then-limit-taken : goal.returns-then-limit-taken
-returns-then-limit-taken g c =
+pub returns-then-line : goal.returns-then-line
+returns-then-line g c =
     some_steps c.args.line.before c.args.line.limit c.args.line.taken (twin_machine c.args.self.now) (twin_machine c.record_each.new.self)
     (twin_machine c.record_rest.new.self) (g.W.Sink.contents c.args.sink.now) (g.W.Sink.contents c.record_each.new.sink)
-    (g.W.Sink.contents c.record_rest.new.sink) (omega (arith, c.if-limit-taken.true)) c.in_ok-record_each.ensures c.in_ok-record_rest.ensures
+    (g.W.Sink.contents c.record_rest.new.sink) (omega (arith, c.if-line.true)) c.in_ok-record_each.ensures c.in_ok-record_rest.ensures
 
 pub returns : goal.returns
 returns g c =
     all_steps c.args.line.before c.args.line.limit c.args.line.taken (twin_machine c.args.self.now) (twin_machine c.record_each-2.new.self)
-    (g.W.Sink.contents c.args.sink.now) (g.W.Sink.contents c.record_each-2.new.sink) (omega (arith, c.if-limit-taken.false)) c.in_ok-record_each-2.ensures
+    (g.W.Sink.contents c.args.sink.now) (g.W.Sink.contents c.record_each-2.new.sink) (omega (arith, c.if-line.false)) c.in_ok-record_each-2.ensures
