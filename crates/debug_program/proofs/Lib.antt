@@ -1,7 +1,9 @@
 pub mod AnsweringLemmas
 pub mod FrontLineLemmas
 pub mod GoingOnLemmas
+pub mod IncludingLemmas
 pub mod ReadLemmas
+pub mod ScriptLemmas
 pub mod ShownLemmas
 pub mod SpellingLemmas
 pub mod TakenLemmas

@@ -7,6 +7,9 @@
 mod answering;
 mod front_lines;
 mod going_on;
+mod include_words;
+mod including;
+mod including_script;
 mod prompted;
 mod shown;
 mod spelling;
@@ -16,6 +19,8 @@ mod typing;
 mod whole_lines;
 
 pub use going_on::talk_behind_script;
+pub use including::{IncludeRefusal, ScriptFiles, TextFault};
+pub use including_script::{IncludingScript, LentSource};
 pub use prompted::PromptedLines;
 pub use shown::ShownAnswers;
 pub use transcript::show_transcript;

@@ -7,6 +7,7 @@
 mod options;
 mod process;
 mod refusal;
+mod scripts;
 mod words;
 
 pub use process::run;

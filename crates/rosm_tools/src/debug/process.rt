@@ -9,11 +9,13 @@ ghost use Rattle.debug_program.specs.Talking.{IsStatusOfScript};
 
 use crate::debug::options::WantedForm;
 use crate::debug::refusal::DebugRefusal;
+use crate::debug::scripts::{HostScripts, ending_of};
 use crate::debug::words::{WantedSession, read_words};
 use command_shell_lines::read_script;
 use debug_program::talk::{hand_on, talk};
 use debug_program::{
-    DebugTyping, PromptedLines, ShownAnswers, show_transcript, talk_behind_script,
+    DebugTyping, IncludingScript, LentSource, PromptedLines, ShownAnswers, show_transcript,
+    talk_behind_script,
 };
 use debug_records::{DebugSettings, ReportForm, RunError, RunMeter, record_script};
 use image_loader::Images;
@@ -57,32 +59,39 @@ fn debug_on_standard_streams<'a, R, E>(
     meter: RunMeter,
 ) -> Result<u8, DebugRefusal<'a>>
 where
-    R: AllocGlobal + fs::Files + Input + Print,
+    R: AllocGlobal + Eprint + fs::Files + Input + Print,
     E: Sink,
 {
     let mut images = Images::new();
     take_files(rt, wanted, &mut images)?;
     match &wanted.script {
         None => {
-            let mut input = PromptedLines::new(Device::new(rt.reader()), is_terminal);
-            answer(rt, wanted, images, &mut input, errors, is_terminal, meter)
+            let input = PromptedLines::new(Device::new(rt.reader()), is_terminal);
+            answer(rt, wanted, images, "", input, errors, is_terminal, meter)
         }
         Some(path) => match File::open(rt, path.as_str()) {
             Ok(file) if wanted.goes_on => {
-                go_on(rt, wanted, images, file, errors, is_terminal, meter)
-            }
-            Ok(file) => {
-                let mut input = Device::new(file);
-                answer(
+                go_on(
                     rt,
                     wanted,
                     images,
-                    &mut input,
+                    path.as_str(),
+                    file,
                     errors,
-                    false,
-                    RunMeter::silent(),
+                    is_terminal,
+                    meter,
                 )
             }
+            Ok(file) => answer(
+                rt,
+                wanted,
+                images,
+                path.as_str(),
+                Device::new(file),
+                errors,
+                false,
+                RunMeter::silent(),
+            ),
             Err(error) => Err(DebugRefusal::File(path.as_str(), FileError::from(error))),
         },
     }
@@ -103,8 +112,31 @@ where
     }
 }
 
-// Answers what a reader gives on a fresh machine, on standard output.
+// Answers the script that a reader gives, of which this is the path, with the lines of the files that it
+// includes, on a fresh machine, on standard output.
 fn answer<'a, R, S, E>(
+    rt: &R,
+    wanted: &'a WantedSession,
+    images: Images,
+    script: &str,
+    input: S,
+    errors: &mut E,
+    is_terminal: bool,
+    meter: RunMeter,
+) -> Result<u8, DebugRefusal<'a>>
+where
+    R: AllocGlobal + Eprint + fs::Files + Print,
+    S: Source + Drop,
+    E: Sink,
+{
+    let files = HostScripts { rt };
+    let mut reader = IncludingScript::new(rt.alloc(), &files, script, input, is_terminal);
+    let ending = answer_in_form(rt, wanted, images, &mut reader, errors, is_terminal, meter);
+    ending_of(ending, reader.take_refusal())
+}
+
+// The same, without such files.
+fn answer_in_form<'a, R, S, E>(
     rt: &R,
     wanted: &'a WantedSession,
     mut images: Images,
@@ -165,13 +197,14 @@ fn go_on<'a, R, E>(
     rt: &R,
     wanted: &'a WantedSession,
     mut images: Images,
+    path: &str,
     script: R::File,
     errors: &mut E,
     is_terminal: bool,
     meter: RunMeter,
 ) -> Result<u8, DebugRefusal<'a>>
 where
-    R: AllocGlobal + fs::Files + Input + Print,
+    R: AllocGlobal + Eprint + fs::Files + Input + Print,
     E: Sink,
 {
     let form = match wanted.form {
@@ -183,17 +216,21 @@ where
         return Err(DebugRefusal::Memory);
     };
     let shows_answers = is_terminal && form == ReportForm::Answers;
-    let mut input = PromptedLines::new(Device::new(rt.reader()), is_terminal);
-    answer_both(
+    let files = HostScripts { rt };
+    let mut script = IncludingScript::new(alloc, &files, path, Device::new(script), false);
+    let typed = PromptedLines::new(Device::new(rt.reader()), is_terminal);
+    let mut input = IncludingScript::new(alloc, &files, "", typed, is_terminal);
+    let ending = answer_both(
         alloc,
         setting_of(wanted, form, meter),
         &mut images,
-        Device::new(script),
+        LentSource { inner: &mut script },
         &mut input,
         &mut Device::new(ShownAnswers::new(buffered, shows_answers)),
         errors,
         is_terminal,
-    )
+    );
+    ending_of(ending, script.take_refusal().or(input.take_refusal()))
 }
 
 // Answers the lines of a script and those that are typed behind it, on a fresh machine.

@@ -3,6 +3,7 @@
 
 ghost use Rattle.std.specs.Prelude.{◌≡◌};
 
+use debug_program::IncludeRefusal;
 use debug_records::RunError;
 use rosm_settings::SettingsRefusal;
 use rosm_settings::command_line::SettingsError;
@@ -32,6 +33,9 @@ pub enum DebugRefusal<'a> {
     /// The file of this path is no image, or no script that can be read, for this reason.
     #[error("{0:?}: {1}")]
     File(&'a str, FileError),
+    /// A line of a script includes no file; the text has the script, the line, and why.
+    #[error("{0}")]
+    Include(String),
     /// Not all lines can be answered, for this reason.
     #[error("{0}")]
     Script(RunError),
@@ -46,7 +50,10 @@ impl DebugRefusal<'_> {
     {
         match self {
             DebugRefusal::NotText | DebugRefusal::Line(_) | DebugRefusal::Sizes(_) => 2,
-            DebugRefusal::Memory | DebugRefusal::File(_, _) | DebugRefusal::Script(_) => 4,
+            DebugRefusal::Memory
+            | DebugRefusal::File(_, _)
+            | DebugRefusal::Include(_)
+            | DebugRefusal::Script(_) => 4,
         }
     }
 }
@@ -58,6 +65,21 @@ impl<'a> From<AllocError> for DebugRefusal<'a> {
 
     fn from(_error: AllocError) -> DebugRefusal<'a> {
         DebugRefusal::Memory
+    }
+}
+
+impl<'a> From<IncludeRefusal> for DebugRefusal<'a> {
+    ghost use Rattle.rosm_tools.specs.debug.Endings.{include_refusal};
+
+    ghost from_gives = { λ error refused. refused ≡ include_refusal error };
+
+    fn from(error: IncludeRefusal) -> DebugRefusal<'a> {
+        match error {
+            IncludeRefusal::Memory => DebugRefusal::Script(RunError::Memory),
+            IncludeRefusal::ReadFault => DebugRefusal::Script(RunError::ReadFault),
+            IncludeRefusal::TooLong => DebugRefusal::Script(RunError::ScriptTooLong),
+            IncludeRefusal::Line(text) => DebugRefusal::Include(text),
+        }
     }
 }
 

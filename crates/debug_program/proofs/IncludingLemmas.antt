@@ -1,0 +1,169 @@
+-- What a script gives, byte by byte, and what of it is known.
+use Rattle.std.proofs.Common.{◌≡◌, ◌<◌, ◌≤◌, ◌+◌, ◌-◌, ℕ, zero, suc, Bool, true, false, List, [], ◌∷◌, ◌++◌, length, Option, Some, None, IfSome, append_assoc, append-nil, ap, sym, subst, refl, ◌∙◌, arith}
+use Rattle.std.specs.Prelude.{◌==◌, if◌then◌else◌, option_map, option_and_then}
+use Rattle.std.specs.Str.Lines.{strip_carriage_return}
+use Rattle.debug_lines.specs.BlockEnds.{one_line_more}
+use Rattle.debug_lines.specs.WholeDebugRequests.{is_debug_block_open_after}
+use Rattle.debug_program.specs.Including.{Given, Included, StaysKnown, file_given, given_file, given_line, given_none, include_of, is_path, note_text, path_beside, with_all, with_byte, with_bytes, with_ended, with_last, with_line, with_wanted}
+
+-- WHAT STAYS KNOWN
+
+pub stays_self : (v : Option Given) → StaysKnown v v
+stays_self None = tt
+stays_self (Some g) = refl
+
+pub stays_trans : (a b c : Option Given) → StaysKnown a b → StaysKnown b c → StaysKnown a c
+stays_trans None b c h k = tt
+stays_trans (Some g) b c h k = subst (λ (v : Option Given). StaysKnown v c) h k
+
+pub known_there : (v : Option Given) (h : Given) → IfSome v (λ k. h ≡ k) → StaysKnown v (Some h)
+known_there None h is = tt
+known_there (Some k) h is = ap (λ (x : Given). Some x) is
+
+-- a step from a value, as far as it is known
+pub then_stays : {A : Type 0} (v : Option A) (h : A) (f : A → Option Given) → IfSome v (λ k. h ≡ k)
+    → StaysKnown (option_and_then f v) (f h)
+then_stays None h f is = tt
+then_stays {A} (Some k) h f is = subst (λ (x : A). StaysKnown (f k) (f x)) (sym is) (stays_self (f k))
+
+pub stays_then : (a b : Option Given) (f : Given → Option Given) → StaysKnown a b
+    → StaysKnown (option_and_then f a) (option_and_then f b)
+stays_then None b f is = tt
+stays_then (Some g) b f is =
+    subst (λ (v : Option Given). StaysKnown (f g) (option_and_then f v)) (sym is) (stays_self (f g))
+
+-- a byte is taken, and where a line INCLUDE ends its file
+pub step_stays : (files : Included) (script : List ℕ) (g mid h : Given) (wanted : Option (List ℕ)) (byte : ℕ) (rest : List ℕ)
+    → with_byte files script g byte ≡ with_wanted files script mid wanted
+    → IfSome (with_wanted files script mid wanted) (λ k. h ≡ k)
+    → StaysKnown (with_bytes files script g (byte ∷ rest)) (with_bytes files script h rest)
+unfolding with_bytes
+step_stays files script g mid h wanted byte rest taken there =
+    subst (λ (v : Option Given). StaysKnown (option_and_then (λ k. with_bytes files script k rest) v) (with_bytes files script h rest))
+    (sym taken) (then_stays (with_wanted files script mid wanted) h (λ k. with_bytes files script k rest) there)
+
+-- nothing follows
+pub last_stays : (files : Included) (script end : List ℕ) (g mid h : Given) (wanted : Option (List ℕ))
+    → with_last files script end g ≡ with_wanted files script mid wanted
+    → IfSome (with_wanted files script mid wanted) (λ k. h ≡ k)
+    → StaysKnown (with_last files script end g) (Some h)
+last_stays files script end g mid h wanted taken there =
+    subst (λ (v : Option Given). StaysKnown v (Some h)) (sym taken) (known_there (with_wanted files script mid wanted) h there)
+
+pub with_none : (files : Included) (script : List ℕ) (g : Given) → with_bytes files script g [] ≡ Some g
+unfolding with_bytes
+with_none files script g = refl
+
+-- all of a file was taken
+pub file_stays : (text_of : List ℕ → Option (List ℕ)) (depth : ℕ) (path : List ℕ) (number : ℕ) (bytes : List ℕ) (last mid h : Given)
+    (wanted : Option (List ℕ)) → 0 < depth
+    → IfSome (text_of path) (λ known. bytes ≡ known)
+    → StaysKnown (with_bytes (file_given text_of (depth - 1)) path (given_none number) bytes)
+    (with_bytes (file_given text_of (depth - 1)) path last [])
+    → with_last (file_given text_of (depth - 1)) path (10 ∷ []) last ≡ with_wanted (file_given text_of (depth - 1)) path mid wanted
+    → IfSome (with_wanted (file_given text_of (depth - 1)) path mid wanted) (λ k. h ≡ k)
+    → StaysKnown (file_given text_of depth path number) (Some h)
+unfolding file_given
+file_stays text_of zero path number bytes last mid h wanted some known taken ended there = absurd (omega (arith, some))
+file_stays text_of (suc d) path number bytes last mid h wanted some known taken ended there =
+    let less : suc d - 1 ≡ d = omega arith in
+    let files : Included = file_given text_of (suc d - 1) in
+    let all = then_stays (text_of path) bytes (with_all files path (10 ∷ []) (given_none number)) known in
+    let lasts = stays_then (with_bytes files path (given_none number) bytes) (Some last) (with_last files path (10 ∷ []))
+    (subst (λ (v : Option Given). StaysKnown (with_bytes files path (given_none number) bytes) v) (with_none files path last) taken) in
+    let file = last_stays files path (10 ∷ []) last mid h wanted ended there in
+    let both = stays_trans (with_all files path (10 ∷ []) (given_none number) bytes) (with_last files path (10 ∷ []) last) (Some h) lasts file in
+    subst (λ (n : ℕ). StaysKnown (option_and_then (with_all (file_given text_of n) path (10 ∷ []) (given_none number)) (text_of path)) (Some h))
+    less (stays_trans (option_and_then (with_all files path (10 ∷ []) (given_none number)) (text_of path))
+    (with_all files path (10 ∷ []) (given_none number) bytes) (Some h) all both)
+
+file_there : (v : Option Given) (path : List ℕ) (g file now : Given) → StaysKnown v (Some file) → now ≡ given_file g path file
+    → IfSome (option_map (given_file g path) v) (λ k. now ≡ k)
+file_there None path g file now stays taken = tt
+file_there (Some k) path g file now stays taken =
+    let same : Some file ≡ Some k = stays in
+    let is : file ≡ k = cc in
+    taken ∙ ap (given_file g path) is
+
+-- and stands in place of the line that names it
+pub wanted_taken : (text_of : List ℕ → Option (List ℕ)) (depth : ℕ) (script wanted path : List ℕ) (g file now : Given)
+    → is_path wanted ≡ true → path ≡ path_beside script wanted
+    → StaysKnown (file_given text_of depth path (one_line_more g.number)) (Some file)
+    → now ≡ given_file g path file
+    → IfSome (with_wanted (file_given text_of depth) script g (Some wanted)) (λ k. now ≡ k)
+wanted_taken text_of depth script wanted path g file now is at stays taken =
+    subst (λ (b : Bool). IfSome (if b then option_map (given_file g (path_beside script wanted))
+    (file_given text_of depth (path_beside script wanted) (one_line_more g.number)) else None) (λ k. now ≡ k)) (sym is)
+    (subst (λ (p : List ℕ). IfSome (option_map (given_file g p) (file_given text_of depth p (one_line_more g.number))) (λ k. now ≡ k)) at
+    (file_there (file_given text_of depth path (one_line_more g.number)) path g file now stays taken))
+
+-- A TEXT THAT WAS GIVEN BEFORE
+
+abbrev pub in_front : List ℕ → Given → Given
+in_front text g = record g { text = text ++ g.text }
+
+front_of_given : (text : List ℕ) (g : Given) (path : List ℕ) (h : Given)
+    → given_file (in_front text g) path h ≡ in_front text (given_file g path h)
+front_of_given text g path h =
+    ap (λ (t : List ℕ). let k : Given = record { text = t; line = []; is_in_block = h.is_in_block; number = h.number } in k)
+    (append_assoc text g.text (note_text path (one_line_more (one_line_more g.number)) h.number ++ h.text))
+
+front_of_found : (text : List ℕ) (g : Given) (path : List ℕ) (v : Option Given)
+    → option_map (given_file (in_front text g) path) v ≡ option_map (in_front text) (option_map (given_file g path) v)
+front_of_found text g path None = refl
+front_of_found text g path (Some h) = ap (λ (k : Given). Some k) (front_of_given text g path h)
+
+front_of_choice : (text : List ℕ) (is : Bool) (a b c d : Option Given) → a ≡ option_map (in_front text) c → b ≡ option_map (in_front text) d
+    → (if is then a else b) ≡ option_map (in_front text) (if is then c else d)
+front_of_choice text true a b c d one other = one
+front_of_choice text false a b c d one other = other
+
+front_of_line : (files : Included) (script end text : List ℕ) (g : Given) (wanted : Option (List ℕ))
+    → with_line files script end (in_front text g) wanted ≡ option_map (in_front text) (with_line files script end g wanted)
+front_of_line files script end text g None = ap (λ (t : List ℕ). let k : Given = record {
+  text = t;
+  line = [];
+  is_in_block = is_debug_block_open_after g.is_in_block (strip_carriage_return g.line);
+  number = one_line_more g.number;
+} in Some k) (append_assoc text g.text (g.line ++ end))
+front_of_line files script end text g (Some path) = front_of_choice text (is_path path) _ _ _ None
+    (front_of_found text g (path_beside script path) (files (path_beside script path) (one_line_more g.number))) refl
+
+front_of_ended : (files : Included) (script end text : List ℕ) (g : Given)
+    → with_ended files script end (in_front text g) ≡ option_map (in_front text) (with_ended files script end g)
+front_of_ended files script end text g =
+    front_of_line files script end text g (include_of g.is_in_block (strip_carriage_return g.line))
+
+front_of_byte : (files : Included) (script text : List ℕ) (g : Given) (byte : ℕ)
+    → with_byte files script (in_front text g) byte ≡ option_map (in_front text) (with_byte files script g byte)
+front_of_byte files script text g byte =
+    front_of_choice text (byte == 10) _ _ _ (Some (record g { line = g.line ++ byte ∷ [] })) (front_of_ended files script (10 ∷ []) text g) refl
+
+front_of_then : (text : List ℕ) (v : Option Given) (f : Given → Option Given)
+    → ((h : Given) → f (in_front text h) ≡ option_map (in_front text) (f h))
+    → option_and_then f (option_map (in_front text) v) ≡ option_map (in_front text) (option_and_then f v)
+front_of_then text None f same = refl
+front_of_then text (Some h) f same = same h
+
+front_of_bytes : (files : Included) (script text : List ℕ) (g : Given) (bytes : List ℕ)
+    → with_bytes files script (in_front text g) bytes ≡ option_map (in_front text) (with_bytes files script g bytes)
+unfolding with_bytes
+front_of_bytes files script text g [] = refl
+front_of_bytes files script text g (byte ∷ rest) =
+    ap (option_and_then (λ h. with_bytes files script h rest)) (front_of_byte files script text g byte)
+    ∙ front_of_then text (with_byte files script g byte) (λ h. with_bytes files script h rest)
+    (λ h. front_of_bytes files script text h rest)
+
+front_of_last : (files : Included) (script end text : List ℕ) (g : Given)
+    → with_last files script end (in_front text g) ≡ option_map (in_front text) (with_last files script end g)
+front_of_last files script end text g =
+    front_of_choice text (length g.line == 0) _ _ (Some g) _ refl (front_of_ended files script end text g)
+
+-- what is given beyond a text doesn't depend on it
+pub text_apart : (files : Included) (script end : List ℕ) (g : Given) (bytes : List ℕ)
+    → with_all files script end g bytes ≡ option_map (in_front g.text) (with_all files script end (record g { text = [] }) bytes)
+text_apart files script end g bytes =
+    ap (λ (t : List ℕ). with_all files script end (record g { text = t }) bytes) (sym (append-nil g.text))
+    ∙ ap (option_and_then (with_last files script end)) (front_of_bytes files script g.text (record g { text = [] }) bytes)
+    ∙ front_of_then g.text (with_bytes files script (record g { text = [] }) bytes) (with_last files script end)
+    (λ h. front_of_last files script end g.text h)

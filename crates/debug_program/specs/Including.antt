@@ -1,0 +1,114 @@
+-- Scripts in which lines INCLUDE name other scripts: in place of such a line stands a remark that says which lines
+-- are those of its file, and behind it these lines, each with its end. A line of a block is the block's.
+use Rattle.std.specs.Prelude.{◌≡◌, ℕ, ◌==◌, ◌&&◌, not, nat_lt, Bool, true, false, List, [], ◌∷◌, ◌++◌, length, drop, Option, Some, None, IfSome, codes, decimal, option_map, option_and_then, unwrap_or, suc, zero, if◌then◌else◌}
+use Rattle.std.specs.List.{list_any}
+use Rattle.std.specs.Path.{path_join, path_parent}
+use Rattle.std.specs.Str.Lines.{strip_carriage_return}
+use Rattle.command_shell_lines.specs.Requests.{is_same_word}
+use Rattle.command_shell_lines.specs.debug_words.Texts.{text_behind}
+use Rattle.debug_lines.specs.BlockEnds.{one_line_more}
+use Rattle.debug_lines.specs.Tidy.{tidied_line}
+use Rattle.debug_lines.specs.WholeDebugRequests.{is_debug_block_open_after}
+
+-- what lies behind the word INCLUDE of a tidy line, which may be nothing
+abbrev pub include_text : List ℕ → Option (List ℕ)
+include_text tidy = if is_same_word tidy (codes "INCLUDE") then Some [] else text_behind (codes "INCLUDE ") tidy
+
+-- the same of any line, if it stands in no block
+abbrev pub include_of : Bool → List ℕ → Option (List ℕ)
+include_of is_in_block line = if is_in_block then None else include_text (tidied_line line)
+
+-- one word
+abbrev pub is_path : List ℕ → Bool
+is_path text = not (length text == 0) && not (list_any (λ b. b == 32) text)
+
+-- a path counts from the folder of the script that names it
+abbrev pub path_beside : List ℕ → List ℕ → List ℕ
+path_beside script path = path_join (unwrap_or (path_parent script) []) path
+
+-- the remark in place of a line INCLUDE: which lines of the whole text are its file's
+abbrev pub note_text : List ℕ → ℕ → ℕ → List ℕ
+note_text path first last = if nat_lt last first then codes "; INCLUDE " ++ path ++ codes ": no lines\n" else
+    codes "; INCLUDE " ++ path ++ codes ": lines " ++ decimal first ++ codes " to " ++ decimal last ++ codes " here\n"
+
+-- The text that a script has given, and where its reading stands: the bytes of the line that has no end yet, whether
+-- a block is open before it, and how many lines were given.
+pub record Given : Type 0 where
+  pub text : List ℕ
+  pub line : List ℕ
+  pub is_in_block : Bool
+  pub number : ℕ
+
+-- before the first line of a file, where so many lines were given before it
+abbrev pub given_none : ℕ → Given
+given_none number = record { text = []; line = []; is_in_block = false; number = number }
+
+-- what the file of a path gives, where so many lines were given before it
+abbrev pub Included : Type 0
+Included = List ℕ → ℕ → Option Given
+
+-- a line stands as it is
+abbrev pub given_line : Given → List ℕ → Given
+given_line g end = record {
+  text = g.text ++ (g.line ++ end);
+  line = [];
+  is_in_block = is_debug_block_open_after g.is_in_block (strip_carriage_return g.line);
+  number = one_line_more g.number;
+}
+
+-- a file's lines stand in place of a line
+abbrev pub given_file : Given → List ℕ → Given → Given
+given_file g path h = record {
+  text = g.text ++ (note_text path (one_line_more (one_line_more g.number)) h.number ++ h.text);
+  line = [];
+  is_in_block = h.is_in_block;
+  number = h.number;
+}
+
+-- the file that a script names, if one is named, in place of its line
+abbrev pub with_wanted : Included → List ℕ → Given → Option (List ℕ) → Option Given
+with_wanted files script g None = Some g
+with_wanted files script g (Some path) = if is_path path then option_map (given_file g (path_beside script path))
+    (files (path_beside script path) (one_line_more g.number)) else None
+
+abbrev pub with_line : Included → List ℕ → List ℕ → Given → Option (List ℕ) → Option Given
+with_line files script end g None = Some (given_line g end)
+with_line files script end g (Some path) = with_wanted files script g (Some path)
+
+-- the line that ends here
+abbrev pub with_ended : Included → List ℕ → List ℕ → Given → Option Given
+with_ended files script end g =
+    with_line files script end g (include_of g.is_in_block (strip_carriage_return g.line))
+
+-- one byte more
+abbrev pub with_byte : Included → List ℕ → Given → ℕ → Option Given
+with_byte files script g byte = if byte == 10 then with_ended files script (10 ∷ []) g
+    else Some (record g { line = g.line ++ byte ∷ [] })
+
+unfoldable pub with_bytes : Included → List ℕ → Given → List ℕ → Option Given
+with_bytes files script g [] = Some g
+with_bytes files script g (byte ∷ rest) =
+    option_and_then (λ h. with_bytes files script h rest) (with_byte files script g byte)
+
+-- nothing follows: a line without its end is one, too
+abbrev pub with_last : Included → List ℕ → List ℕ → Given → Option Given
+with_last files script end g = if length g.line == 0 then Some g else with_ended files script end g
+
+abbrev pub with_all : Included → List ℕ → List ℕ → Given → List ℕ → Option Given
+with_all files script end g bytes =
+    option_and_then (with_last files script end) (with_bytes files script g bytes)
+
+-- what a file gives, where files include one another so many deep at most, by what is known of the files' bytes
+unfoldable pub file_given : (List ℕ → Option (List ℕ)) → ℕ → Included
+file_given text_of zero path number = None
+file_given text_of (suc depth) path number = option_and_then
+    (with_all (file_given text_of depth) path (10 ∷ []) (given_none number)) (text_of path)
+
+-- what is left to give of a script of which some bytes are still to be read, as far as these are known
+abbrev pub script_left : Included → List ℕ → ℕ → Given → List ℕ → Option (List ℕ) → Option (List ℕ)
+script_left files script shown g unread known = option_and_then
+    (λ bytes. option_map (λ h. drop shown h.text) (with_all files script [] g (unread ++ bytes))) known
+
+-- what was known stays so
+abbrev pub StaysKnown : Option Given → Option Given → Type 0
+StaysKnown old new = IfSome old (λ g. new ≡ Some g)

@@ -1,0 +1,125 @@
+//! What a line INCLUDE names, and where that file is.
+
+ghost use Rattle.std.specs.Prelude.{◌≡◌, IfOk, option_map, string_bytes};
+ghost use Rattle.std.specs.Str.Lines.{strip_carriage_return};
+ghost use Rattle.debug_lines.specs.WholeDebugRequests.{is_debug_block_open_after};
+ghost use Rattle.debug_program.specs.Including.{include_of, include_text, is_path, note_text, path_beside};
+
+use command_shell_lines::debug_words::text_behind;
+use command_shell_lines::is_block_end;
+use debug_lines::{opens_block, tidied};
+use itoa::Buffer;
+use std::alloc::{AllocError, Global};
+use std::path::Path;
+
+/// What lies behind the word INCLUDE, where a line begins with it that stands in no block.
+///
+/// # Errors
+///
+/// Memory ran out.
+pub(crate) fn include_of(
+    alloc: Global,
+    is_in_block: bool,
+    line: &[u8],
+) -> Result<Option<Vec<u8>>, AllocError>
+    ensures { IfOk result (λ wanted. option_map (λ text. text.items) wanted ≡ include_of is_in_block line.now) }
+{
+    if is_in_block {
+        return Ok(None);
+    }
+    let tidy = tidied(alloc, line)?;
+    match include_text(&tidy) {
+        Some(text) => Ok(Some(Vec::from_slice(alloc, text)?)),
+        None => Ok(None),
+    }
+}
+
+fn include_text(tidy: &[u8]) -> Option<&[u8]>
+    ensures { option_map (λ text. text.now) result ≡ include_text tidy.now }
+{
+    if tidy.eq_ignore_ascii_case(b"INCLUDE") {
+        Some(&[])
+    } else {
+        text_behind(b"INCLUDE ", tidy)
+    }
+}
+
+/// Whether a block is open behind a line, by whether one is open before it.
+///
+/// # Errors
+///
+/// Memory ran out.
+pub(crate) fn is_block_open_after(
+    alloc: Global,
+    is_in_block: bool,
+    line: &[u8],
+) -> Result<bool, AllocError>
+    ensures { IfOk result (λ is_open. is_open ≡ is_debug_block_open_after is_in_block line.now) }
+{
+    if is_in_block {
+        Ok(!is_block_end(line))
+    } else {
+        opens_block(alloc, line)
+    }
+}
+
+/// A line without the carriage return at its end.
+pub(crate) fn without_return(line: &[u8]) -> &[u8]
+    ensures { result.now ≡ strip_carriage_return line.now }
+{
+    match line {
+        [front @ .., b'\r'] => front,
+        _ => line,
+    }
+}
+
+/// Whether a text is one word.
+pub(crate) fn is_path(text: &[u8]) -> bool
+    ensures { result ≡ is_path text.now }
+{
+    !text.is_empty() && !text.contains(&b' ')
+}
+
+/// The path of a file that a script names: from the folder of the script.
+///
+/// # Errors
+///
+/// Memory ran out.
+pub(crate) fn path_beside(alloc: Global, script: &str, path: &str) -> Result<String, AllocError>
+    ensures { IfOk result (λ beside. string_bytes beside ≡ path_beside script.now path.now) }
+{
+    let folder = match Path::new(script).parent() {
+        Some(folder) => folder,
+        None => Path::new(""),
+    };
+    Ok(folder.join(alloc, path)?.into_string())
+}
+
+/// The line that stands in place of a line INCLUDE: which lines are those of its file, by how many came
+/// before it and up to the last of them.
+///
+/// # Errors
+///
+/// Memory ran out.
+pub(crate) fn note_text(
+    alloc: Global,
+    path: &str,
+    first: usize,
+    last: usize,
+) -> Result<Vec<u8>, AllocError>
+    ensures { IfOk result (λ note. note.items ≡ note_text path.now first last) }
+{
+    let mut note = Vec::from_slice(alloc, b"; INCLUDE ")?;
+    note.extend_from_slice(path.as_bytes())?;
+    if last < first {
+        note.extend_from_slice(b": no lines\n")?;
+        return Ok(note);
+    }
+    let mut digits = Buffer::new();
+    note.extend_from_slice(b": lines ")?;
+    note.extend_from_slice(digits.format(first).as_bytes())?;
+    note.extend_from_slice(b" to ")?;
+    note.extend_from_slice(digits.format(last).as_bytes())?;
+    note.extend_from_slice(b" here\n")?;
+    Ok(note)
+}

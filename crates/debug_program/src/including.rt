@@ -1,0 +1,299 @@
+//! What a script gives, byte by byte, with the lines of the files that it includes.
+
+ghost use Rattle.std.specs.Prelude.{◌≡◌, ◌++◌, ℕ, true, List, Option, option_map, IfOk, IfNone, IfSome, IsSome, OnErr, OnOk, string_bytes};
+
+use crate::include_words::{
+    include_of, is_block_open_after, is_path, note_text, path_beside, without_return,
+};
+use profile::memory_map::MOST_BYTES;
+use std::alloc::{AllocError, Global};
+
+/// Why the bytes of a file that a script includes aren't had.
+#[derive(Debug, PartialEq, Eq, Drop)]
+pub enum TextFault {
+    /// Memory ran out.
+    Memory,
+    /// The file can't be read, for this reason.
+    Unread(String),
+}
+
+/// The files that scripts include.
+pub trait ScriptFiles {
+    // The bytes of the file of a path, or `None` where that isn't known.
+    ghost text_of: { Self → List ℕ → Option (List ℕ) };
+
+    /// The bytes of the file of a path, 1,048,576 at most.
+    ///
+    /// # Errors
+    ///
+    /// `Memory`, and `Unread` where there is no such file, or another reason against it.
+    fn read_text(&self, alloc: Global, path: &str) -> Result<Vec<u8>, TextFault>
+        ensures { IfOk result (λ text. IfSome (text_of self.now path.now) (λ known. text.items ≡ known)) };
+
+    /// Shows a person a line about a file that isn't included.
+    fn show(&self, message: &str);
+}
+
+/// Why a script can't be read on.
+#[derive(Debug, PartialEq, Eq, Drop)]
+pub enum IncludeRefusal {
+    /// Memory ran out.
+    Memory,
+    /// The script's own file, or standard input, can't be read.
+    ReadFault,
+    /// A line of the script has more than 1,048,576 bytes.
+    TooLong,
+    /// A line INCLUDE names no file that can be included: the script, its line, the file and the reason.
+    Line(String),
+}
+
+impl From<AllocError> for IncludeRefusal {
+    ghost use Rattle.debug_program.specs.declared.including.IncludeRefusal.TheVariants.{Memory};
+
+    ghost from_gives = { λ _ refusal. refusal ≡ Memory };
+
+    fn from(_error: AllocError) -> IncludeRefusal {
+        IncludeRefusal::Memory
+    }
+}
+
+/// What a script has given, and where its reading stands.
+#[derive(Drop)]
+pub(crate) struct GivenText {
+    /// What was given.
+    pub(crate) text: Vec<u8>,
+    /// The line that has no end yet.
+    pub(crate) line: Vec<u8>,
+    is_in_block: bool,
+    // How many lines were given, and how many of them stand in the script itself.
+    number: usize,
+    own_number: usize,
+}
+
+impl GivenText {
+    ghost use Rattle.std.specs.Prelude.{◌∷◌, [], length};
+    ghost use Rattle.debug_program.specs.Including.{Given, Included, file_given, given_file, given_line, given_none, with_byte, with_ended, with_last, with_wanted};
+    ghost use Rattle.debug_program.specs.GivenText.{given_of};
+
+    /// Before the first line of a script, where so many lines were given before it.
+    pub(crate) fn new(alloc: Global, number: usize) -> GivenText
+        ensures { given_of result ≡ given_none number }
+    {
+        GivenText {
+            text: Vec::new(alloc),
+            line: Vec::new(alloc),
+            is_in_block: false,
+            number,
+            own_number: 0,
+        }
+    }
+
+    /// Takes a byte of the script; of a line INCLUDE that ends here what lies behind that word, and that
+    /// line stays.
+    ///
+    /// # Errors
+    ///
+    /// Memory ran out, and nothing is taken.
+    pub(crate) fn take_byte(
+        &mut self,
+        alloc: Global,
+        byte: u8,
+    ) -> Result<Option<Vec<u8>>, AllocError>
+        ensures taken { IfOk result (λ wanted. (files : Included) (script : List ℕ)
+            → with_byte files script (given_of self.old) byte
+            ≡ with_wanted files script (given_of self.new) (option_map (λ path. path.items) wanted)) }
+        ensures waits { IfOk result (λ wanted. IfSome wanted (λ _. self.new ≡ self.old)) }
+        ensures kept { OnErr result (given_of self.new ≡ given_of self.old) }
+    {
+        if byte == b'\n' {
+            return self.take_line(alloc, b"\n");
+        }
+        self.line.extend_from_slice(&[byte])?;
+        Ok(None)
+    }
+
+    /// Takes the line that has no end, where nothing follows it, with this end.
+    ///
+    /// # Errors
+    ///
+    /// Memory ran out, and nothing is taken.
+    pub(crate) fn take_last(
+        &mut self,
+        alloc: Global,
+        end: &[u8],
+    ) -> Result<Option<Vec<u8>>, AllocError>
+        ensures taken { IfOk result (λ wanted. (files : Included) (script : List ℕ)
+            → with_last files script end.now (given_of self.old)
+            ≡ with_wanted files script (given_of self.new) (option_map (λ path. path.items) wanted)) }
+        ensures line { IfOk result (λ wanted. IfNone wanted (self.new.line.items ≡ [])) }
+        ensures waits { IfOk result (λ wanted. IfSome wanted (λ _. self.new ≡ self.old)) }
+        ensures kept { OnErr result (given_of self.new ≡ given_of self.old) }
+    {
+        if self.line.is_empty() {
+            return Ok(None);
+        }
+        self.take_line(alloc, end)
+    }
+
+    // Takes a line that ends here.
+    fn take_line(&mut self, alloc: Global, end: &[u8]) -> Result<Option<Vec<u8>>, AllocError>
+        ensures taken { IfOk result (λ wanted. (files : Included) (script : List ℕ)
+            → with_ended files script end.now (given_of self.old)
+            ≡ with_wanted files script (given_of self.new) (option_map (λ path. path.items) wanted)) }
+        ensures line { IfOk result (λ wanted. IfNone wanted (self.new.line.items ≡ [])) }
+        ensures waits { IfOk result (λ wanted. IfSome wanted (λ _. self.new ≡ self.old)) }
+        ensures kept { OnErr result (given_of self.new ≡ given_of self.old) }
+    {
+        let line = without_return(self.line.as_slice());
+        if let Some(path) = include_of(alloc, self.is_in_block, line)? {
+            return Ok(Some(path));
+        }
+        let is_open = is_block_open_after(alloc, self.is_in_block, line)?;
+        let whole = joined(alloc, self.line.as_slice(), end)?;
+        self.text.extend_from_slice(&whole)?;
+        self.line.clear();
+        self.is_in_block = is_open;
+        self.number = self.number.saturating_add(1);
+        self.own_number = self.own_number.saturating_add(1);
+        Ok(None)
+    }
+
+    /// Takes in, in place of a line INCLUDE, the lines of the file that it names.
+    ///
+    /// # Errors
+    ///
+    /// `Line` where it names no one file, the file can't be read, or files include one another more deeply
+    /// than this; `Memory`. Nothing is taken then.
+    pub(crate) fn include<D: ScriptFiles>(
+        &mut self,
+        alloc: Global,
+        files: &D,
+        script: &str,
+        depth: usize,
+        wanted: Option<Vec<u8>>,
+    ) -> Result<(), IncludeRefusal>
+        ensures taken { OnOk result (IfSome (with_wanted (file_given (D.text_of files.now) depth) script.now
+            (given_of self.old) (option_map (λ path. path.items) wanted)) (λ g. given_of self.new ≡ g)) }
+        ensures line { OnOk result (IfSome wanted (λ _. self.new.line.items ≡ [])) }
+        ensures none { IfNone wanted (self.new ≡ self.old) }
+        ensures asked { OnErr result (IsSome wanted) }
+        ensures kept { OnErr result (given_of self.new ≡ given_of self.old) }
+    {
+        let Some(wanted) = wanted else {
+            return Ok(());
+        };
+        let place = ScriptPlace {
+            script,
+            number: self.own_number.saturating_add(1),
+        };
+        let path = place.path_of(alloc, wanted.as_slice())?;
+        if depth == 0 {
+            return Err(place.refused(alloc, path.as_str(), TOO_DEEP));
+        }
+        let bytes = place.text_at(alloc, files, path.as_str())?;
+        let mut file = GivenText::new(alloc, self.number.saturating_add(1));
+        for byte in &bytes {
+            let inner = file.take_byte(alloc, *byte)?;
+            file.include(alloc, files, path.as_str(), depth - 1, inner)?;
+            if file.text.len() > MOST_BYTES {
+                return Err(place.refused(alloc, path.as_str(), TOO_MUCH));
+            }
+        }
+        let inner = file.take_last(alloc, b"\n")?;
+        file.include(alloc, files, path.as_str(), depth - 1, inner)?;
+        self.take_file(alloc, path.as_str(), file)?;
+        Ok(())
+    }
+
+    // Takes in what a file gives in place of a line.
+    fn take_file(&mut self, alloc: Global, path: &str, file: GivenText) -> Result<(), AllocError>
+        ensures taken { OnOk result
+            (given_of self.new ≡ given_file (given_of self.old) path.now (given_of file)) }
+        ensures kept { OnErr result (given_of self.new ≡ given_of self.old) }
+    {
+        let first = self.number.saturating_add(1).saturating_add(1);
+        let note = note_text(alloc, path, first, file.number)?;
+        let whole = joined(alloc, note.as_slice(), file.text.as_slice())?;
+        self.text.extend_from_slice(&whole)?;
+        self.line.clear();
+        self.is_in_block = file.is_in_block;
+        self.number = file.number;
+        self.own_number = self.own_number.saturating_add(1);
+        Ok(())
+    }
+}
+
+const TOO_DEEP: &str = "files include one another more than 8 deep";
+
+const TOO_MUCH: &str = "more than 1048576 bytes with what it includes";
+
+const NO_FILE: &str = "INCLUDE wants one file";
+
+// A line of a script.
+#[derive(Clone, Copy)]
+struct ScriptPlace<'a> {
+    script: &'a str,
+    number: usize,
+}
+
+impl ScriptPlace<'_> {
+    ghost use Rattle.std.specs.Prelude.{◌&&◌};
+    ghost use Rattle.debug_program.specs.Including.{is_path, path_beside};
+
+    // The path of the file that the line names.
+    fn path_of(&self, alloc: Global, wanted: &[u8]) -> Result<String, IncludeRefusal>
+        ensures one { OnOk result (is_path wanted.now ≡ true) }
+        ensures path { IfOk result (λ path. string_bytes path ≡ path_beside self.now.script.now wanted.now) }
+    {
+        if !is_path(wanted) {
+            return Err(self.refused_line(alloc, NO_FILE));
+        }
+        match str::from_utf8(wanted) {
+            Ok(path) => Ok(path_beside(alloc, self.script, path)?),
+            Err(_) => Err(self.refused_line(alloc, "a path is text in UTF-8")),
+        }
+    }
+
+    fn text_at<D: ScriptFiles>(
+        &self,
+        alloc: Global,
+        files: &D,
+        path: &str,
+    ) -> Result<Vec<u8>, IncludeRefusal>
+        ensures { IfOk result (λ text. IfSome (D.text_of files.now path.now) (λ known. text.items ≡ known)) }
+    {
+        match files.read_text(alloc, path) {
+            Ok(text) => Ok(text),
+            Err(TextFault::Memory) => Err(IncludeRefusal::Memory),
+            Err(TextFault::Unread(reason)) => Err(self.refused(alloc, path, reason.as_str())),
+        }
+    }
+
+    // The file of that path isn't included.
+    fn refused(&self, alloc: Global, path: &str, reason: &str) -> IncludeRefusal {
+        match format!(in alloc; "INCLUDE {path:?}: {reason}") {
+            Ok(reason) => self.refused_line(alloc, reason.as_str()),
+            Err(_) => IncludeRefusal::Memory,
+        }
+    }
+
+    fn refused_line(&self, alloc: Global, reason: &str) -> IncludeRefusal {
+        let number = self.number;
+        let text = match self.script {
+            "" => format!(in alloc; "standard input line {number}: {reason}"),
+            script => format!(in alloc; "{script:?} line {number}: {reason}"),
+        };
+        match text {
+            Ok(text) => IncludeRefusal::Line(text),
+            Err(_) => IncludeRefusal::Memory,
+        }
+    }
+}
+
+fn joined(alloc: Global, front: &[u8], rest: &[u8]) -> Result<Vec<u8>, AllocError>
+    ensures { IfOk result (λ all. all.items ≡ front.now ++ rest.now) }
+{
+    let mut all = Vec::from_slice(alloc, front)?;
+    all.extend_from_slice(rest)?;
+    Ok(all)
+}

@@ -1,0 +1,203 @@
+//! A source that gives a script with the lines of the files that it includes.
+
+ghost use Rattle.std.specs.Prelude.{◌≡◌};
+
+use crate::including::{GivenText, IncludeRefusal, ScriptFiles};
+use profile::memory_map::MOST_BYTES;
+use profile::{ReadFault, Source};
+use std::alloc::Global;
+
+// The most bytes that are read at once.
+const PIECE: usize = 4096;
+
+// How deeply files may include one another.
+const DEPTH: usize = 8;
+
+/// A script with the lines of the files that it includes.
+#[derive(Drop)]
+pub struct IncludingScript<'a, D, S> {
+    alloc: Global,
+    files: &'a D,
+    // The path of the script's file, from whose folder paths count; none of standard input.
+    script: &'a str,
+    inner: S,
+    // What was read last, and how many bytes of it were taken.
+    piece: [u8; PIECE],
+    length: usize,
+    taken: usize,
+    // What is given, of which so many bytes were pulled.
+    given: GivenText,
+    pulled: usize,
+    // A person is shown what can't be included, and types on.
+    is_terminal: bool,
+    refusal: Option<IncludeRefusal>,
+}
+
+impl<'a, D: ScriptFiles, S: Source> IncludingScript<'a, D, S> {
+    ghost use Rattle.std.specs.Prelude.{◌≤◌, ◌<◌, take, length, true, is_some, vec_len, [], IfOk, OnOk, OnErr};
+    ghost use Rattle.std.specs.Io.KnownBytes.{Keeps, IsAtEnd, Consumes};
+    ghost use Rattle.debug_program.specs.Including.{file_given, given_none, script_left};
+    ghost use Rattle.debug_program.specs.GoingOn.{known_unless};
+    ghost use Rattle.debug_program.specs.IncludingScript.{given_left};
+
+    /// What a source gives from here on: the script of that path, or of none, which a person may type.
+    pub fn new(
+        alloc: Global,
+        files: &'a D,
+        script: &'a str,
+        inner: S,
+        is_terminal: bool,
+    ) -> IncludingScript<'a, D, S>
+        ensures { given_left D.text_of S.remaining result ≡ known_unless is_terminal
+            (script_left (file_given (D.text_of files.now) 8) script.now 0 (given_none 0) [] (S.remaining inner)) }
+    {
+        IncludingScript {
+            alloc,
+            files,
+            script,
+            inner,
+            piece: [0; PIECE],
+            length: 0,
+            taken: 0,
+            given: GivenText::new(alloc, 0),
+            pulled: 0,
+            is_terminal,
+            refusal: None,
+        }
+    }
+
+    /// Why it can't be read on, where it can't.
+    pub fn take_refusal(&mut self) -> Option<IncludeRefusal> {
+        self.refusal.take()
+    }
+
+    // Puts what is given into a buffer, as far as there is room.
+    fn put(&mut self, buffer: &mut [u8]) -> usize
+        ensures count { result ≤ length buffer.new }
+        ensures bytes { Consumes (given_left D.text_of S.remaining self.old)
+            (given_left D.text_of S.remaining self.new) (take result buffer.new) }
+        ensures some { 0 < length buffer.old → self.old.pulled < length self.old.given.text.items → 0 < result }
+        ensures refusal { self.new.refusal ≡ self.old.refusal }
+    {
+        let from = self.pulled.min(self.given.text.len());
+        let left = &self.given.text[from..];
+        let count = left.len().min(buffer.len());
+        buffer[..count].copy_from_slice(&left[..count]);
+        self.pulled = from + count;
+        count
+    }
+
+    // Reads on: gives lines, if any, or keeps why not; and whether it is at the end.
+    fn read_on(&mut self) -> Result<bool, ReadFault>
+        requires { vec_len self.old.given.text ≤ self.old.pulled }
+        ensures kept { Keeps (given_left D.text_of S.remaining self.old) (given_left D.text_of S.remaining self.new) }
+        ensures end { IfOk result (λ is_end. is_end ≡ true → IsAtEnd (given_left D.text_of S.remaining self.new)) }
+        ensures refusal { OnOk result (self.new.refusal ≡ self.old.refusal) }
+        ensures refused { OnErr result (is_some self.new.refusal ≡ true) }
+    {
+        self.given.text.clear();
+        self.pulled = 0;
+        match self.take_lines() {
+            Ok(is_end) => Ok(is_end),
+            Err(_) if !self.given.text.is_empty() => Ok(false),
+            Err(IncludeRefusal::Line(message)) if self.is_terminal => {
+                self.files.show(message.as_str());
+                self.given.line.clear();
+                Ok(false)
+            }
+            Err(refusal) => {
+                self.refusal = Some(refusal);
+                Err(ReadFault)
+            }
+        }
+    }
+
+    // Takes what was read, line by line, or reads more, and answers whether it is at the end.
+    fn take_lines(&mut self) -> Result<bool, IncludeRefusal>
+        requires { self.old.pulled ≡ 0 }
+        ensures kept { Keeps (given_left D.text_of S.remaining self.old) (given_left D.text_of S.remaining self.new) }
+        ensures end { IfOk result (λ is_end. is_end ≡ true → IsAtEnd (given_left D.text_of S.remaining self.new)) }
+        ensures same { (self.new.refusal ≡ self.old.refusal) × (self.new.is_terminal ≡ self.old.is_terminal) }
+    {
+        if self.taken >= self.length {
+            return self.read_piece();
+        }
+        while self.taken < self.length && self.given.text.len() < PIECE {
+            let Some(byte) = self.piece.get(self.taken) else {
+                break;
+            };
+            let wanted = self.given.take_byte(self.alloc, *byte)?;
+            self.given
+                .include(self.alloc, self.files, self.script, DEPTH, wanted)?;
+            self.taken += 1;
+        }
+        Ok(false)
+    }
+
+    // Reads the next piece, or takes the last line where there is none.
+    fn read_piece(&mut self) -> Result<bool, IncludeRefusal>
+        requires read { self.old.length ≤ self.old.taken }
+        requires none { self.old.pulled ≡ 0 }
+        ensures kept { Keeps (given_left D.text_of S.remaining self.old) (given_left D.text_of S.remaining self.new) }
+        ensures end { IfOk result (λ is_end. is_end ≡ true → IsAtEnd (given_left D.text_of S.remaining self.new)) }
+        ensures same { (self.new.refusal ≡ self.old.refusal) × (self.new.is_terminal ≡ self.old.is_terminal) }
+    {
+        if self.given.line.len() > MOST_BYTES {
+            return Err(IncludeRefusal::TooLong);
+        }
+        let Ok(count) = self.inner.pull(&mut self.piece) else {
+            return Err(IncludeRefusal::ReadFault);
+        };
+        self.taken = 0;
+        self.length = count;
+        if count > 0 {
+            return Ok(false);
+        }
+        let wanted = self.given.take_last(self.alloc, b"")?;
+        self.given
+            .include(self.alloc, self.files, self.script, DEPTH, wanted)?;
+        Ok(self.given.text.is_empty())
+    }
+}
+
+impl<D: ScriptFiles, S: Source> Source for IncludingScript<'_, D, S> {
+    ghost use Rattle.std.specs.Prelude.{is_some};
+    ghost use Rattle.debug_program.specs.IncludingScript.{given_left};
+
+    ghost remaining = { λ r. given_left D.text_of S.remaining r };
+
+    ghost has_failed = { λ r. is_some r.refusal };
+
+    fn pull(&mut self, buffer: &mut [u8]) -> Result<usize, ReadFault> {
+        if self.refusal.is_some() {
+            return Err(ReadFault);
+        }
+        for _pulls in 0..u64::MAX {
+            if self.pulled < self.given.text.len() {
+                return Ok(self.put(buffer));
+            }
+            if self.read_on()? {
+                return Ok(0);
+            }
+        }
+        self.refusal = Some(IncludeRefusal::TooLong);
+        Err(ReadFault)
+    }
+}
+
+/// A source that is lent.
+#[derive(Drop)]
+pub struct LentSource<'a, S> {
+    /// What gives the bytes.
+    pub inner: &'a mut S,
+}
+
+impl<S: Source> Source for LentSource<'_, S> {
+    ghost remaining = { λ l. S.remaining l.inner.now };
+
+    ghost has_failed = { λ l. S.has_failed l.inner.now };
+
+    fn pull(&mut self, buffer: &mut [u8]) -> Result<usize, ReadFault> {
+        self.inner.pull(buffer)
+    }
+}
