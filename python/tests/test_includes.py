@@ -48,8 +48,8 @@ def test_numbers_count_in_the_whole_text(tmp_path: Path) -> None:
         "> EXPECT R0 2",
         "pass",
         "1 passed, 0 failed, 1 refused",
-        "= status 5",
     ]
+    assert done.returncode == 5
 
 
 def test_paths_count_from_the_script(tmp_path: Path) -> None:
@@ -177,9 +177,6 @@ def test_a_person_types_on(tmp_path: Path) -> None:
 
 
 def test_the_library_of_riscos(tmp_path: Path) -> None:
-    script = f"INCLUDE {ROOT}/examples/riscos/convert.script\nSTUBS\n"
-    included = run(tmp_path, typed=script)
-    text = (ROOT / "examples/riscos/convert.script").read_text()
-    in_front = run(tmp_path, typed=text + "STUBS\n")
-    assert included.returncode == in_front.returncode and included.stdout == in_front.stdout
-    assert "OS_ConvertHex8" in included.stdout
+    lines = "SET PSR SVC\nSET R0 &12AB\nSET R1 &8000\nSET R2 9\nGOSUB convert:hex8\nDUMP &8000 9\n"
+    done = run(tmp_path, typed=f"INCLUDE {ROOT}/examples/riscos/convert.script\n{lines}")
+    assert "00008000: 30 30 30 30 31 32 41 42 00  000012AB." in done.stdout.splitlines() and done.stderr == ""

@@ -1,10 +1,11 @@
 -- What a script gives, byte by byte, and what of it is known.
-use Rattle.std.proofs.Common.{◌≡◌, ◌<◌, ◌≤◌, ◌+◌, ◌-◌, ℕ, zero, suc, Bool, true, false, List, [], ◌∷◌, ◌++◌, length, Option, Some, None, IfSome, append_assoc, append-nil, ap, sym, subst, refl, ◌∙◌, arith}
+use Rattle.std.proofs.Common.{◌≡◌, ◌<◌, ◌-◌, ℕ, zero, suc, Bool, true, false, List, [], ◌∷◌, ◌++◌, length, Option, Some, None, IfSome, append_assoc, append-nil, ap, sym, subst, refl, ◌∙◌, arith}
 use Rattle.std.specs.Prelude.{◌==◌, if◌then◌else◌, option_map, option_and_then}
+use Rattle.std.proofs.lemmas.Bool.Decides.{nat_tests}
 use Rattle.std.specs.Str.Lines.{strip_carriage_return}
 use Rattle.debug_lines.specs.BlockEnds.{one_line_more}
 use Rattle.debug_lines.specs.WholeDebugRequests.{is_debug_block_open_after}
-use Rattle.debug_program.specs.Including.{Given, Included, StaysKnown, file_given, given_file, given_line, given_none, include_of, is_path, note_text, path_beside, with_all, with_byte, with_bytes, with_ended, with_last, with_line, with_wanted}
+use Rattle.debug_program.specs.Including.{Given, Included, StaysKnown, file_given, given_file, given_none, include_of, is_path, note_text, path_beside, with_all, with_byte, with_bytes, with_ended, with_last, with_line, with_wanted}
 
 -- WHAT STAYS KNOWN
 
@@ -137,7 +138,7 @@ front_of_ended files script end text g =
 front_of_byte : (files : Included) (script text : List ℕ) (g : Given) (byte : ℕ)
     → with_byte files script (in_front text g) byte ≡ option_map (in_front text) (with_byte files script g byte)
 front_of_byte files script text g byte =
-    front_of_choice text (byte == 10) _ _ _ (Some (record g { line = g.line ++ byte ∷ [] })) (front_of_ended files script (10 ∷ []) text g) refl
+    front_of_choice text (byte == 10) _ _ _ (Some (record g { line = g.line ++ byte ∷ [] })) (front_of_ended files script (byte ∷ []) text g) refl
 
 front_of_then : (text : List ℕ) (v : Option Given) (f : Given → Option Given)
     → ((h : Given) → f (in_front text h) ≡ option_map (in_front text) (f h))
@@ -167,3 +168,79 @@ text_apart files script end g bytes =
     ∙ ap (option_and_then (with_last files script end)) (front_of_bytes files script g.text (record g { text = [] }) bytes)
     ∙ front_of_then g.text (with_bytes files script (record g { text = [] }) bytes) (with_last files script end)
     (λ h. front_of_last files script end g.text h)
+
+-- A SCRIPT WITHOUT FILES
+
+abbrev pub NoFiles : Included → Type 0
+NoFiles files = (path : List ℕ) (number : ℕ) → files path number ≡ None
+
+plain_found : (g : Given) (path : List ℕ) (v : Option Given) (P : Given → Type 0) → v ≡ None → IfSome (option_map (given_file g path) v) P
+plain_found g path v P none = subst (λ (w : Option Given). IfSome (option_map (given_file g path) w) P) (sym none) tt
+
+plain_wanted : (is : Bool) (v : Option Given) (P : Given → Type 0) → IfSome v P → IfSome (if is then v else None) P
+plain_wanted true v P h = h
+plain_wanted false v P h = tt
+
+plain_line : (files : Included) (script end : List ℕ) (g : Given) (wanted : Option (List ℕ)) → NoFiles files
+    → IfSome (with_line files script end g wanted) (λ h. (h.text ≡ g.text ++ (g.line ++ end)) × (h.line ≡ []))
+plain_line files script end g None none = (refl, refl)
+plain_line files script end g (Some path) none = plain_wanted (is_path path) _ _
+    (plain_found g (path_beside script path) (files (path_beside script path) (one_line_more g.number)) _
+    (none (path_beside script path) (one_line_more g.number)))
+
+if_some_map : (v : Option Given) (P Q : Given → Type 0) → ((h : Given) → P h → Q h) → IfSome v P → IfSome v Q
+if_some_map None P Q f h = tt
+if_some_map (Some g) P Q f h = f g h
+
+if_some_then : (v : Option Given) (f : Given → Option Given) (P Q : Given → Type 0) → ((h : Given) → P h → IfSome (f h) Q) → IfSome v P
+    → IfSome (option_and_then f v) Q
+if_some_then None f P Q next h = tt
+if_some_then (Some g) f P Q next h = next g h
+
+plain_ended : (files : Included) (script end : List ℕ) (g : Given) → NoFiles files
+    → IfSome (with_ended files script end g) (λ h. h.text ++ h.line ≡ (g.text ++ g.line) ++ end)
+plain_ended files script end g none =
+    if_some_map (with_ended files script end g) (λ h. (h.text ≡ g.text ++ (g.line ++ end)) × (h.line ≡ []))
+    (λ h. h.text ++ h.line ≡ (g.text ++ g.line) ++ end)
+    (λ h is. ap (λ (l : List ℕ). h.text ++ l) is.1 ∙ append-nil h.text ∙ is.0 ∙ sym (append_assoc g.text g.line end))
+    (plain_line files script end g (include_of g.is_in_block (strip_carriage_return g.line)) none)
+
+plain_choice : (is : Bool) (a b : Option Given) (P : Given → Type 0) → IfSome a P → IfSome b P → IfSome (if is then a else b) P
+plain_choice true a b P h k = h
+plain_choice false a b P h k = k
+
+plain_byte : (files : Included) (script : List ℕ) (g : Given) (byte : ℕ) → NoFiles files
+    → IfSome (with_byte files script g byte) (λ h. h.text ++ h.line ≡ (g.text ++ g.line) ++ byte ∷ [])
+plain_byte files script g byte none = plain_choice (byte == 10) (with_ended files script (byte ∷ []) g) (Some (record g { line = g.line ++ byte ∷ [] }))
+    (λ h. h.text ++ h.line ≡ (g.text ++ g.line) ++ byte ∷ [])
+    (plain_ended files script (byte ∷ []) g none) (sym (append_assoc g.text g.line (byte ∷ [])))
+
+plain_bytes : (files : Included) (script : List ℕ) (g : Given) (bytes : List ℕ) → NoFiles files
+    → IfSome (with_bytes files script g bytes) (λ h. h.text ++ h.line ≡ (g.text ++ g.line) ++ bytes)
+unfolding with_bytes
+plain_bytes files script g [] none = sym (append-nil (g.text ++ g.line))
+plain_bytes files script g (byte ∷ rest) none =
+    if_some_then (with_byte files script g byte) (λ h. with_bytes files script h rest)
+    (λ h. h.text ++ h.line ≡ (g.text ++ g.line) ++ byte ∷ []) (λ k. k.text ++ k.line ≡ (g.text ++ g.line) ++ (byte ∷ rest))
+    (λ h is. if_some_map (with_bytes files script h rest) (λ k. k.text ++ k.line ≡ (h.text ++ h.line) ++ rest)
+    (λ k. k.text ++ k.line ≡ (g.text ++ g.line) ++ (byte ∷ rest))
+    (λ k same. same ∙ ap (λ (xs : List ℕ). xs ++ rest) is ∙ append_assoc (g.text ++ g.line) (byte ∷ []) rest)
+    (plain_bytes files script h rest none))
+    (plain_byte files script g byte none)
+
+plain_last : (files : Included) (script : List ℕ) (g : Given) (line : List ℕ) → NoFiles files → g.line ≡ line
+    → IfSome (if length line == 0 then Some g else with_ended files script [] g) (λ h. h.text ≡ g.text ++ g.line)
+plain_last files script g [] none is = sym (ap (λ (l : List ℕ). g.text ++ l) is ∙ append-nil g.text)
+plain_last files script g (byte ∷ rest) none is =
+    subst (λ (b : Bool). IfSome (if b then Some g else with_ended files script [] g) (λ h. h.text ≡ g.text ++ g.line))
+    (let shut : false ≡ (length (byte ∷ rest) == 0) = grind (arith, nat_tests) in shut)
+    (if_some_map (with_ended files script [] g) (λ h. (h.text ≡ g.text ++ (g.line ++ [])) × (h.line ≡ []))
+    (λ h. h.text ≡ g.text ++ g.line) (λ h same. same.0 ∙ ap (λ (l : List ℕ). g.text ++ l) (append-nil g.line))
+    (plain_line files script [] g (include_of g.is_in_block (strip_carriage_return g.line)) none))
+
+pub plain_stays : (files : Included) → NoFiles files → (script bytes : List ℕ)
+    → IfSome (with_all files script [] (given_none 0) bytes) (λ g. g.text ≡ bytes)
+plain_stays files none script bytes =
+    if_some_then (with_bytes files script (given_none 0) bytes) (with_last files script []) (λ h. h.text ++ h.line ≡ bytes) (λ g. g.text ≡ bytes)
+    (λ h is. if_some_map (with_last files script [] h) (λ g. g.text ≡ h.text ++ h.line) (λ g. g.text ≡ bytes) (λ g same. same ∙ is)
+    (plain_last files script h h.line none refl)) (plain_bytes files script (given_none 0) bytes none)

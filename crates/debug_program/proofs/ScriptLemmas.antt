@@ -1,16 +1,14 @@
 -- What a script is still to give, as it is read and as it is pulled.
-use Rattle.std.proofs.Common.{◌≡◌, ◌<◌, ◌≤◌, ◌+◌, ◌-◌, ℕ, Bool, true, false, List, [], ◌∷◌, ◌++◌, length, get_or, take, drop, min, Option, Some, None, IfSome, IfNone, IsSome, take_at, ap, sym, subst, refl, ◌∙◌, arith}
-use Rattle.std.specs.Prelude.{option_map, option_and_then, slice_get}
+use Rattle.std.proofs.Common.{◌≡◌, ◌<◌, ◌≤◌, ◌+◌, ℕ, Bool, true, false, List, [], ◌∷◌, ◌++◌, length, get_or, take, drop, min, Option, Some, None, IfSome, IfNone, IsSome, take_at, ap, sym, subst, ◌∙◌, arith}
+use Rattle.std.specs.Prelude.{option_map, option_and_then}
 use Rattle.std.specs.Io.KnownBytes.{Consumes, IsAtEnd, Keeps}
-use Rattle.std.proofs.Math.ListN.{drop_of_length-le}
 use Rattle.std.proofs.Math.Seq.{drop-append_seam}
 use Rattle.std.proofs.lemmas.List.{drop-append-le, drop-drop, drop_more, get_or-take, length-drop, length-take, take-append-drop, take-append-le}
-use Rattle.std.proofs.lemmas.Option.{get_or_from_slice_get, slice_get_within}
 use Rattle.profile.proofs.KnownLemmas.{Keeps-self, Keeps-twice}
 use Rattle.debug_program.specs.declared.including.GivenText.{GivenText}
-use Rattle.debug_program.specs.Including.{Given, Included, StaysKnown, script_left, with_all, with_byte, with_bytes, with_last, with_wanted}
+use Rattle.debug_program.specs.Including.{Given, Included, StaysKnown, script_left, with_all, with_byte, with_last, with_wanted}
 use Rattle.debug_program.specs.GoingOn.{known_unless}
-use Rattle.debug_program.proofs.IncludingLemmas.{in_front, last_stays, stays_self, stays_then, step_stays, text_apart, with_none}
+use Rattle.debug_program.proofs.IncludingLemmas.{in_front, last_stays, stays_then, step_stays, text_apart, with_none}
 
 -- a terminal's input isn't known
 pub keeps_unless : (is_terminal : Bool) (a b : Option (List ℕ)) → Keeps a b
@@ -41,25 +39,22 @@ left_stays : (n : ℕ) (one other : List ℕ → Option Given) (known : Option (
 left_stays n one other None stays = tt
 left_stays n one other (Some bytes) stays = shown_stays n (one bytes) (other bytes) (stays bytes)
 
-byte_first : (piece : List ℕ) (taken end byte : ℕ) → slice_get piece taken ≡ Some byte → taken < end
+byte_first : (piece : List ℕ) (taken end byte : ℕ) → taken < length piece → byte ≡ get_or piece taken 0 → taken < end
     → drop taken (take end piece) ≡ byte ∷ drop (taken + 1) (take end piece)
-byte_first piece taken end byte there within =
-    let inside : taken < length piece = slice_get_within piece taken byte there in
-    let is : get_or (take end piece) taken 0 ≡ byte =
-    get_or-take end piece taken 0 within ∙ get_or_from_slice_get piece taken byte 0 there in
+byte_first piece taken end byte inside is within =
     drop_more (take end piece) taken 0 (omega (arith, inside, within, length-take end piece))
-    ∙ ap (λ (b : ℕ). b ∷ drop (taken + 1) (take end piece)) is
+    ∙ ap (λ (b : ℕ). b ∷ drop (taken + 1) (take end piece)) (get_or-take end piece taken 0 within ∙ sym is)
 
 -- a byte of the piece is taken
 pub byte_kept : (files : Included) (script : List ℕ) (g mid h : Given) (wanted : Option (List ℕ)) (piece : List ℕ) (taken end byte : ℕ)
-    (known : Option (List ℕ)) → slice_get piece taken ≡ Some byte → taken < end
+    (known : Option (List ℕ)) → taken < length piece → byte ≡ get_or piece taken 0 → taken < end
     → with_byte files script g byte ≡ with_wanted files script mid wanted
     → IfSome (with_wanted files script mid wanted) (λ k. h ≡ k)
     → Keeps (script_left files script 0 g (drop taken (take end piece)) known)
     (script_left files script 0 h (drop (taken + 1) (take end piece)) known)
-byte_kept files script g mid h wanted piece taken end byte known is within step there =
+byte_kept files script g mid h wanted piece taken end byte known inside is within step there =
     subst (λ (unread : List ℕ). Keeps (script_left files script 0 g unread known)
-    (script_left files script 0 h (drop (taken + 1) (take end piece)) known)) (sym (byte_first piece taken end byte is within))
+    (script_left files script 0 h (drop (taken + 1) (take end piece)) known)) (sym (byte_first piece taken end byte inside is within))
     (left_stays 0 (λ bytes. with_all files script [] g (byte ∷ (drop (taken + 1) (take end piece) ++ bytes)))
     (λ bytes. with_all files script [] h (drop (taken + 1) (take end piece) ++ bytes)) known
     (λ bytes. stays_then _ _ (with_last files script [])
@@ -167,7 +162,7 @@ read_refused is_terminal files script pulled g h old now a b none gone taken sam
 
 -- what is said of a value that is there
 pub there : {A : Type 0} (v : Option A) (P : Type 0) → IsSome v → IfSome v (λ _. P) → P
-there None P is h = absurd is
+there None P is h = absurd (let no : false ≡ true = is in cc)
 there (Some a) P is h = h
 
 -- a byte isn't taken, and all stays
@@ -245,15 +240,16 @@ put_so is_terminal files script g unread known pulled from count copied rest is 
 
 -- what was pulled goes
 pub clear_so : (is_terminal : Bool) (files : Included) (script : List ℕ) (g : Given) (unread : List ℕ) (known : Option (List ℕ))
-    (pulled : ℕ) (text : List ℕ) → length g.text ≤ pulled → text ≡ []
-    → KeptOver is_terminal files script pulled g unread known (record g { text = text }) unread known
-clear_so is_terminal files script g unread known pulled text all none =
+    (pulled now : ℕ) (text : List ℕ) → length g.text ≤ pulled → text ≡ []
+    → Keeps (known_unless is_terminal (script_left files script (min pulled (length g.text)) g unread known))
+    (known_unless is_terminal (script_left files script (min now (length text)) (record g { text = text }) unread known))
+clear_so is_terminal files script g unread known pulled now text all none =
     let end : min pulled (length g.text) ≡ length g.text = omega (arith, all) in
-    let start : min pulled (length text) ≡ 0 = ap (λ (xs : List ℕ). min pulled (length xs)) none ∙ omega arith in
+    let start : min now (length text) ≡ 0 = ap (λ (xs : List ℕ). min now (length xs)) none ∙ omega arith in
     keeps_unless is_terminal (script_left files script (min pulled (length g.text)) g unread known)
-    (script_left files script (min pulled (length text)) (record g { text = text }) unread known)
+    (script_left files script (min now (length text)) (record g { text = text }) unread known)
     (subst (λ (m : ℕ). Keeps (script_left files script m g unread known)
-    (script_left files script (min pulled (length text)) (record g { text = text }) unread known)) (sym end)
+    (script_left files script (min now (length text)) (record g { text = text }) unread known)) (sym end)
     (subst (λ (m : ℕ). Keeps (script_left files script (length g.text) g unread known)
     (script_left files script m (record g { text = text }) unread known)) (sym start)
     (subst (λ (xs : List ℕ). Keeps (script_left files script (length g.text) g unread known)

@@ -1,6 +1,6 @@
 -- Scripts in which lines INCLUDE name other scripts: in place of such a line stands a remark that says which lines
 -- are those of its file, and behind it these lines, each with its end. A line of a block is the block's.
-use Rattle.std.specs.Prelude.{◌≡◌, ℕ, ◌==◌, ◌&&◌, not, nat_lt, Bool, true, false, List, [], ◌∷◌, ◌++◌, length, drop, Option, Some, None, IfSome, codes, decimal, option_map, option_and_then, unwrap_or, suc, zero, if◌then◌else◌}
+use Rattle.std.specs.Prelude.{◌≡◌, ℕ, ◌==◌, ◌&&◌, not, nat_lt, Bool, false, List, [], ◌∷◌, ◌++◌, length, drop, Option, Some, None, IfSome, codes, decimal, option_map, option_and_then, unwrap_or, suc, zero, if◌then◌else◌}
 use Rattle.std.specs.List.{list_any}
 use Rattle.std.specs.Path.{path_join, path_parent}
 use Rattle.std.specs.Str.Lines.{strip_carriage_return}
@@ -82,7 +82,7 @@ with_ended files script end g =
 
 -- one byte more
 abbrev pub with_byte : Included → List ℕ → Given → ℕ → Option Given
-with_byte files script g byte = if byte == 10 then with_ended files script (10 ∷ []) g
+with_byte files script g byte = if byte == 10 then with_ended files script (byte ∷ []) g
     else Some (record g { line = g.line ++ byte ∷ [] })
 
 unfoldable pub with_bytes : Included → List ℕ → Given → List ℕ → Option Given
@@ -112,3 +112,9 @@ script_left files script shown g unread known = option_and_then
 -- what was known stays so
 abbrev pub StaysKnown : Option Given → Option Given → Type 0
 StaysKnown old new = IfSome old (λ g. new ≡ Some g)
+
+-- A script of which all is known though no file is: it has no line INCLUDE outside its blocks, and its own text is
+-- given, byte for byte.
+abbrev pub PlainTextStays : Type 0
+PlainTextStays = (files : Included) → ((path : List ℕ) (number : ℕ) → files path number ≡ None)
+    → (script bytes : List ℕ) → IfSome (with_all files script [] (given_none 0) bytes) (λ g. g.text ≡ bytes)

@@ -1,10 +1,11 @@
 //! What a script gives, byte by byte, with the lines of the files that it includes.
 
-ghost use Rattle.std.specs.Prelude.{◌≡◌, ◌++◌, ℕ, true, List, Option, option_map, IfOk, IfNone, IfSome, IsSome, OnErr, OnOk, string_bytes};
+ghost use Rattle.std.specs.Prelude.{◌≡◌, ℕ, true, List, Option, option_map, IfOk, IfNone, IfSome, IsSome, OnErr, OnOk, string_bytes};
 
 use crate::include_words::{
     include_of, is_block_open_after, is_path, note_text, path_beside, without_return,
 };
+use crate::typing::joined;
 use profile::memory_map::MOST_BYTES;
 use std::alloc::{AllocError, Global};
 
@@ -106,7 +107,7 @@ impl GivenText {
         ensures kept { OnErr result (given_of self.new ≡ given_of self.old) }
     {
         if byte == b'\n' {
-            return self.take_line(alloc, b"\n");
+            return self.take_line(alloc, &[byte]);
         }
         self.line.extend_from_slice(&[byte])?;
         Ok(None)
@@ -182,7 +183,7 @@ impl GivenText {
         let Some(wanted) = wanted else {
             return Ok(());
         };
-        let place = ScriptPlace {
+        let place = IncludingLine {
             script,
             number: self.own_number.saturating_add(1),
         };
@@ -231,12 +232,12 @@ const NO_FILE: &str = "INCLUDE wants one file";
 
 // A line of a script.
 #[derive(Clone, Copy)]
-struct ScriptPlace<'a> {
+struct IncludingLine<'a> {
     script: &'a str,
     number: usize,
 }
 
-impl ScriptPlace<'_> {
+impl IncludingLine<'_> {
     ghost use Rattle.std.specs.Prelude.{◌&&◌};
     ghost use Rattle.debug_program.specs.Including.{is_path, path_beside};
 
@@ -288,12 +289,4 @@ impl ScriptPlace<'_> {
             Err(_) => IncludeRefusal::Memory,
         }
     }
-}
-
-fn joined(alloc: Global, front: &[u8], rest: &[u8]) -> Result<Vec<u8>, AllocError>
-    ensures { IfOk result (λ all. all.items ≡ front.now ++ rest.now) }
-{
-    let mut all = Vec::from_slice(alloc, front)?;
-    all.extend_from_slice(rest)?;
-    Ok(all)
 }

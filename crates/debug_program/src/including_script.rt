@@ -34,9 +34,9 @@ pub struct IncludingScript<'a, D, S> {
 }
 
 impl<'a, D: ScriptFiles, S: Source> IncludingScript<'a, D, S> {
-    ghost use Rattle.std.specs.Prelude.{◌≤◌, ◌<◌, take, length, true, is_some, vec_len, [], IfOk, OnOk, OnErr};
+    ghost use Rattle.std.specs.Prelude.{◌≤◌, ◌<◌, ◌+◌, take, length, true, is_some, vec_len, [], IfOk, OnOk, OnErr};
     ghost use Rattle.std.specs.Io.KnownBytes.{Keeps, IsAtEnd, Consumes};
-    ghost use Rattle.debug_program.specs.Including.{file_given, given_none, script_left};
+    ghost use Rattle.debug_program.specs.Including.{PlainTextStays, file_given, given_none, script_left};
     ghost use Rattle.debug_program.specs.GoingOn.{known_unless};
     ghost use Rattle.debug_program.specs.IncludingScript.{given_left};
 
@@ -65,6 +65,12 @@ impl<'a, D: ScriptFiles, S: Source> IncludingScript<'a, D, S> {
             refusal: None,
         }
     }
+
+    /// A script without lines INCLUDE gives its own text: where all of it is known though no file's bytes
+    /// are, these are its bytes.
+    pub fn plain_text_stays()
+        ensures { PlainTextStays }
+    {}
 
     /// Why it can't be read on, where it can't.
     pub fn take_refusal(&mut self) -> Option<IncludeRefusal> {
@@ -112,7 +118,7 @@ impl<'a, D: ScriptFiles, S: Source> IncludingScript<'a, D, S> {
         }
     }
 
-    // Takes what was read, line by line, or reads more, and answers whether it is at the end.
+    // Takes what was read, as far as there is room for it, or reads more, and answers whether it is at the end.
     fn take_lines(&mut self) -> Result<bool, IncludeRefusal>
         requires { self.old.pulled ≡ 0 }
         ensures kept { Keeps (given_left D.text_of S.remaining self.old) (given_left D.text_of S.remaining self.new) }
@@ -123,15 +129,29 @@ impl<'a, D: ScriptFiles, S: Source> IncludingScript<'a, D, S> {
             return self.read_piece();
         }
         while self.taken < self.length && self.given.text.len() < PIECE {
-            let Some(byte) = self.piece.get(self.taken) else {
-                break;
-            };
-            let wanted = self.given.take_byte(self.alloc, *byte)?;
-            self.given
-                .include(self.alloc, self.files, self.script, DEPTH, wanted)?;
-            self.taken += 1;
+            self.take_next()?;
         }
         Ok(false)
+    }
+
+    // Takes the next byte of what was read, and where a line INCLUDE ends there its file.
+    fn take_next(&mut self) -> Result<(), IncludeRefusal>
+        requires none { self.old.pulled ≡ 0 }
+        requires some { self.old.taken < self.old.length }
+        ensures kept { Keeps (given_left D.text_of S.remaining self.old) (given_left D.text_of S.remaining self.new) }
+        ensures none { self.new.pulled ≡ 0 }
+        ensures same { (self.new.refusal ≡ self.old.refusal) × (self.new.is_terminal ≡ self.old.is_terminal) }
+        ensures next { OnOk result
+            ((self.new.taken ≡ self.old.taken + 1) × (self.new.length ≡ self.old.length)) }
+    {
+        let Some(byte) = self.piece.get(self.taken) else {
+            return Err(IncludeRefusal::ReadFault);
+        };
+        let wanted = self.given.take_byte(self.alloc, *byte)?;
+        self.given
+            .include(self.alloc, self.files, self.script, DEPTH, wanted)?;
+        self.taken += 1;
+        Ok(())
     }
 
     // Reads the next piece, or takes the last line where there is none.
@@ -176,7 +196,10 @@ impl<D: ScriptFiles, S: Source> Source for IncludingScript<'_, D, S> {
             if self.pulled < self.given.text.len() {
                 return Ok(self.put(buffer));
             }
-            if self.read_on()? {
+            let Ok(is_end) = self.read_on() else {
+                return Err(ReadFault);
+            };
+            if is_end {
                 return Ok(0);
             }
         }

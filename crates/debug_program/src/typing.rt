@@ -246,7 +246,8 @@ impl DebugTyping {
     {}
 }
 
-fn joined(alloc: Global, front: &[u8], rest: &[u8]) -> Result<Vec<u8>, AllocError>
+// Two texts, one behind the other.
+pub(crate) fn joined(alloc: Global, front: &[u8], rest: &[u8]) -> Result<Vec<u8>, AllocError>
     ensures { IfOk result (λ all. all.items ≡ front.now ++ rest.now) }
 {
     let mut all = Vec::from_slice(alloc, front)?;

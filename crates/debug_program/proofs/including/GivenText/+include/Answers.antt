@@ -1,10 +1,10 @@
 -- By the lemmas of IncludingLemmas.
-use Rattle.std.proofs.Common.{◌≡◌, ◌-◌, ◌+◌, ◌∷◌, [], ℕ, true, List, Option, Vec, Global, IfSome, string_bytes, subst, sym, ap, ◌∙◌, get_or, drop, arith}
+use Rattle.std.proofs.Common.{◌≡◌, ◌-◌, ◌+◌, ℕ, true, List, Option, Vec, Global, IfSome, string_bytes, subst, sym, ap, ◌∙◌, get_or, drop, arith}
 use Rattle.std.specs.Prelude.{option_map}
 use Rattle.std.proofs.Math.ListN.{drop_of_length-le}
 use Rattle.std.proofs.lemmas.List.{drop_more}
 use Rattle.debug_lines.specs.BlockEnds.{one_line_more}
-use Rattle.debug_program.specs.Including.{Given, Included, StaysKnown, file_given, given_file, given_none, is_path, path_beside, with_bytes, with_wanted}
+use Rattle.debug_program.specs.Including.{Given, StaysKnown, file_given, given_file, given_none, is_path, path_beside, with_bytes, with_wanted}
 use Rattle.debug_program.specs.GivenText.{given_of}
 use Rattle.debug_program.proofs.IncludingLemmas.{file_stays, stays_self, stays_trans, step_stays, wanted_taken}
 use Rattle.debug_program.proofs.including.GivenText.+include.Goals as goal

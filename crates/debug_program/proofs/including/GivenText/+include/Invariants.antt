@@ -1,5 +1,5 @@
 -- What is known of a file's text stays so, byte by byte.
-use Rattle.std.proofs.Common.{◌-◌, drop, string_bytes, Some}
+use Rattle.std.proofs.Common.{◌-◌, drop, string_bytes}
 use Rattle.debug_lines.specs.BlockEnds.{one_line_more}
 use Rattle.debug_program.specs.Including.{StaysKnown, file_given, given_none, with_bytes}
 use Rattle.debug_program.specs.GivenText.{given_of}

@@ -1,5 +1,5 @@
 -- By the lemmas of ScriptLemmas.
-use Rattle.std.proofs.Common.{◌≡◌, ◌+◌, ◌-◌, ◌≤◌, ◌∙◌, ℕ, List, length, drop, take, min, ap, sym, arith, take_all}
+use Rattle.std.proofs.Common.{◌≡◌, ◌-◌, ◌∙◌, ℕ, List, length, drop, take, min, ap, sym, arith, take_all}
 use Rattle.std.proofs.lemmas.List.{length-drop}
 use Rattle.debug_program.specs.Including.{file_given}
 use Rattle.debug_program.specs.GivenText.{given_of}

@@ -1,5 +1,5 @@
 -- By the lemmas of ScriptLemmas.
-use Rattle.std.proofs.Common.{◌≡◌, ◌<◌, ◌∙◌, [], ap, length, drop, take, vec_len, arith, sym, true}
+use Rattle.std.proofs.Common.{◌≡◌, ◌∙◌, ap, drop, take, vec_len, arith, sym}
 use Rattle.std.proofs.Math.ListN.{drop_of_length-le}
 use Rattle.std.proofs.lemmas.List.{length-take, nil_from_length}
 use Rattle.std.proofs.lemmas.Bool.Decides.{nat_tests}

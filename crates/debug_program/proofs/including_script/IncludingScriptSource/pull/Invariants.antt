@@ -4,8 +4,8 @@ use Rattle.std.specs.Io.KnownBytes.{Keeps}
 use Rattle.debug_program.specs.IncludingScript.{given_left}
 use Rattle.debug_program.proofs.including_script.IncludingScriptSource.pull.Given as goal
 
-abbrev pub invariant-loop-_pulls : goal.invariant-loop-_pulls
-invariant-loop-_pulls g l = record {
+abbrev pub invariant-loop-pulls : goal.invariant-loop-pulls
+invariant-loop-pulls g l = record {
   kept : Keeps (given_left g.D.ScriptFiles.text_of g.S.Source.remaining l.fn.self)
       (given_left g.D.ScriptFiles.text_of g.S.Source.remaining l.self);
   refusal : is_some l.self.refusal ≡ false;
