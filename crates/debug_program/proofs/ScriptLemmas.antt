@@ -6,9 +6,9 @@ use Rattle.std.proofs.Math.Seq.{drop-append_seam}
 use Rattle.std.proofs.lemmas.List.{drop-append-le, drop-drop, drop_more, get_or-take, length-drop, length-take, take-append-drop, take-append-le}
 use Rattle.profile.proofs.KnownLemmas.{Keeps-self, Keeps-twice}
 use Rattle.debug_program.specs.declared.including.GivenText.{GivenText}
-use Rattle.debug_program.specs.Including.{Given, Included, StaysKnown, script_left, with_all, with_byte, with_last, with_wanted}
+use Rattle.debug_program.specs.Including.{GivenSoFar, Included, StaysKnown, script_left, given_all, given_byte, given_last, given_wanted}
 use Rattle.debug_program.specs.GoingOn.{known_unless}
-use Rattle.debug_program.proofs.IncludingLemmas.{in_front, last_stays, stays_then, step_stays, text_apart, with_none}
+use Rattle.debug_program.proofs.IncludingLemmas.{in_front, last_stays, stays_then, step_stays, text_apart, given_nothing}
 
 -- a terminal's input isn't known
 pub keeps_unless : (is_terminal : Bool) (a b : Option (List ℕ)) → Keeps a b
@@ -27,13 +27,13 @@ end_unless false a end = end
 
 -- READING
 
-shown_stays : (n : ℕ) (a b : Option Given) → StaysKnown a b
+shown_stays : (n : ℕ) (a b : Option GivenSoFar) → StaysKnown a b
     → Keeps (option_map (λ h. drop n h.text) a) (option_map (λ h. drop n h.text) b)
 shown_stays n None b stays = tt
-shown_stays n (Some h) b stays = subst (λ (v : Option Given). Keeps (Some (drop n h.text)) (option_map (λ k. drop n k.text) v)) (sym stays)
+shown_stays n (Some h) b stays = subst (λ (v : Option GivenSoFar). Keeps (Some (drop n h.text)) (option_map (λ k. drop n k.text) v)) (sym stays)
     (Keeps-self (Some (drop n h.text)))
 
-left_stays : (n : ℕ) (one other : List ℕ → Option Given) (known : Option (List ℕ)) → ((bytes : List ℕ) → StaysKnown (one bytes) (other bytes))
+left_stays : (n : ℕ) (one other : List ℕ → Option GivenSoFar) (known : Option (List ℕ)) → ((bytes : List ℕ) → StaysKnown (one bytes) (other bytes))
     → Keeps (option_and_then (λ bytes. option_map (λ h. drop n h.text) (one bytes)) known)
     (option_and_then (λ bytes. option_map (λ h. drop n h.text) (other bytes)) known)
 left_stays n one other None stays = tt
@@ -46,68 +46,68 @@ byte_first piece taken end byte inside is within =
     ∙ ap (λ (b : ℕ). b ∷ drop (taken + 1) (take end piece)) (get_or-take end piece taken 0 within ∙ sym is)
 
 -- a byte of the piece is taken
-pub byte_kept : (files : Included) (script : List ℕ) (g mid h : Given) (wanted : Option (List ℕ)) (piece : List ℕ) (taken end byte : ℕ)
+pub byte_kept : (files : Included) (script : List ℕ) (g mid h : GivenSoFar) (wanted : Option (List ℕ)) (piece : List ℕ) (taken end byte : ℕ)
     (known : Option (List ℕ)) → taken < length piece → byte ≡ get_or piece taken 0 → taken < end
-    → with_byte files script g byte ≡ with_wanted files script mid wanted
-    → IfSome (with_wanted files script mid wanted) (λ k. h ≡ k)
+    → given_byte files script g byte ≡ given_wanted files script mid wanted
+    → IfSome (given_wanted files script mid wanted) (λ k. h ≡ k)
     → Keeps (script_left files script 0 g (drop taken (take end piece)) known)
     (script_left files script 0 h (drop (taken + 1) (take end piece)) known)
 byte_kept files script g mid h wanted piece taken end byte known inside is within step there =
     subst (λ (unread : List ℕ). Keeps (script_left files script 0 g unread known)
     (script_left files script 0 h (drop (taken + 1) (take end piece)) known)) (sym (byte_first piece taken end byte inside is within))
-    (left_stays 0 (λ bytes. with_all files script [] g (byte ∷ (drop (taken + 1) (take end piece) ++ bytes)))
-    (λ bytes. with_all files script [] h (drop (taken + 1) (take end piece) ++ bytes)) known
-    (λ bytes. stays_then _ _ (with_last files script [])
+    (left_stays 0 (λ bytes. given_all files script [] g (byte ∷ (drop (taken + 1) (take end piece) ++ bytes)))
+    (λ bytes. given_all files script [] h (drop (taken + 1) (take end piece) ++ bytes)) known
+    (λ bytes. stays_then _ _ (given_last files script [])
     (step_stays files script g mid h wanted byte (drop (taken + 1) (take end piece) ++ bytes) step there)))
 
 -- the next piece is there, all of the one before it was taken
-pub piece_kept : (files : Included) (script : List ℕ) (g : Given) (old now : List ℕ) (a b : Option (List ℕ)) → old ≡ [] → Consumes a b now
+pub piece_kept : (files : Included) (script : List ℕ) (g : GivenSoFar) (old now : List ℕ) (a b : Option (List ℕ)) → old ≡ [] → Consumes a b now
     → Keeps (script_left files script 0 g old a) (script_left files script 0 g now b)
 piece_kept files script g old now None b none taken = tt
 piece_kept files script g old now (Some xs) None none taken = absurd taken
 piece_kept files script g old now (Some xs) (Some ys) none taken =
-    subst (λ (bytes : List ℕ). Keeps (option_map (λ h. drop 0 h.text) (with_all files script [] g bytes))
-    (option_map (λ h. drop 0 h.text) (with_all files script [] g (now ++ ys))))
+    subst (λ (bytes : List ℕ). Keeps (option_map (λ h. drop 0 h.text) (given_all files script [] g bytes))
+    (option_map (λ h. drop 0 h.text) (given_all files script [] g (now ++ ys))))
     (sym (ap (λ (u : List ℕ). u ++ xs) none ∙ taken))
-    (Keeps-self (option_map (λ h. drop 0 h.text) (with_all files script [] g (now ++ ys))))
+    (Keeps-self (option_map (λ h. drop 0 h.text) (given_all files script [] g (now ++ ys))))
 
 -- it can't be had
-pub fault_kept : (files : Included) (script : List ℕ) (g : Given) (old now : List ℕ) (a b : Option (List ℕ)) → old ≡ [] → now ≡ [] → Keeps a b
+pub fault_kept : (files : Included) (script : List ℕ) (g : GivenSoFar) (old now : List ℕ) (a b : Option (List ℕ)) → old ≡ [] → now ≡ [] → Keeps a b
     → Keeps (script_left files script 0 g old a) (script_left files script 0 g now b)
 fault_kept files script g old now None b none still kept = tt
 fault_kept files script g old now (Some xs) None none still kept = absurd kept
 fault_kept files script g old now (Some xs) (Some ys) none still kept =
     piece_kept files script g old now (Some xs) (Some ys) none (sym kept ∙ ap (λ (u : List ℕ). u ++ ys) (sym still))
 
-ended_all : (files : Included) (script : List ℕ) (h : Given) → h.line ≡ [] → with_all files script [] h [] ≡ Some h
+ended_all : (files : Included) (script : List ℕ) (h : GivenSoFar) → h.line ≡ [] → given_all files script [] h [] ≡ Some h
 ended_all files script h whole =
-    ap (option_and_then (with_last files script [])) (with_none files script h)
-    ∙ ap (λ (line : List ℕ). with_last files script [] (record h { line = line })) whole
-    ∙ ap (λ (line : List ℕ). let k : Given = record h { line = line } in Some k) (sym whole)
+    ap (option_and_then (given_last files script [])) (given_nothing files script h)
+    ∙ ap (λ (line : List ℕ). given_last files script [] (record h { line = line })) whole
+    ∙ ap (λ (line : List ℕ). let k : GivenSoFar = record h { line = line } in Some k) (sym whole)
 
 -- the last line is taken
-pub last_kept : (files : Included) (script : List ℕ) (g mid h : Given) (wanted : Option (List ℕ)) (known : Option (List ℕ))
+pub last_kept : (files : Included) (script : List ℕ) (g mid h : GivenSoFar) (wanted : Option (List ℕ)) (known : Option (List ℕ))
     → IsAtEnd known → h.line ≡ []
-    → with_last files script [] g ≡ with_wanted files script mid wanted
-    → IfSome (with_wanted files script mid wanted) (λ k. h ≡ k)
+    → given_last files script [] g ≡ given_wanted files script mid wanted
+    → IfSome (given_wanted files script mid wanted) (λ k. h ≡ k)
     → Keeps (script_left files script 0 g [] known) (script_left files script 0 h [] known)
 last_kept files script g mid h wanted None end whole last there = tt
 last_kept files script g mid h wanted (Some bytes) end whole last there =
-    subst (λ (xs : List ℕ). Keeps (option_map (λ k. drop 0 k.text) (with_all files script [] g xs))
-    (option_map (λ k. drop 0 k.text) (with_all files script [] h xs))) (sym end)
-    (shown_stays 0 (with_all files script [] g []) (with_all files script [] h [])
-    (subst (λ (v : Option Given). StaysKnown (option_and_then (with_last files script []) v) (with_all files script [] h []))
-    (sym (with_none files script g))
-    (subst (λ (v : Option Given). StaysKnown (with_last files script [] g) v) (sym (ended_all files script h whole))
+    subst (λ (xs : List ℕ). Keeps (option_map (λ k. drop 0 k.text) (given_all files script [] g xs))
+    (option_map (λ k. drop 0 k.text) (given_all files script [] h xs))) (sym end)
+    (shown_stays 0 (given_all files script [] g []) (given_all files script [] h [])
+    (subst (λ (v : Option GivenSoFar). StaysKnown (option_and_then (given_last files script []) v) (given_all files script [] h []))
+    (sym (given_nothing files script g))
+    (subst (λ (v : Option GivenSoFar). StaysKnown (given_last files script [] g) v) (sym (ended_all files script h whole))
     (last_stays files script [] g mid h wanted last there))))
 
 -- all is given
-pub at_end : (is_terminal : Bool) (files : Included) (script : List ℕ) (h : Given) (known : Option (List ℕ))
+pub at_end : (is_terminal : Bool) (files : Included) (script : List ℕ) (h : GivenSoFar) (known : Option (List ℕ))
     → IsAtEnd known → h.line ≡ [] → h.text ≡ [] → IsAtEnd (known_unless is_terminal (script_left files script 0 h [] known))
 at_end is_terminal files script h None end whole none = end_unless is_terminal None tt
 at_end is_terminal files script h (Some bytes) end whole none =
-    subst (λ (xs : List ℕ). IsAtEnd (known_unless is_terminal (option_map (λ k. drop 0 k.text) (with_all files script [] h xs)))) (sym end)
-    (subst (λ (v : Option Given). IsAtEnd (known_unless is_terminal (option_map (λ k. drop 0 k.text) v))) (sym (ended_all files script h whole))
+    subst (λ (xs : List ℕ). IsAtEnd (known_unless is_terminal (option_map (λ k. drop 0 k.text) (given_all files script [] h xs)))) (sym end)
+    (subst (λ (v : Option GivenSoFar). IsAtEnd (known_unless is_terminal (option_map (λ k. drop 0 k.text) v))) (sym (ended_all files script h whole))
     (end_unless is_terminal (Some h.text) none))
 
 -- READING A PIECE, WHERE NOTHING IS PULLED YET
@@ -122,13 +122,13 @@ line_gone None now mid there same gone = ap (λ (g : GivenText). g.line.items) s
 line_gone (Some w) now mid there same gone = there
 
 -- a state that a piece left at its end, where nothing was pulled before it and nothing was left of the piece before
-abbrev pub KeptOver : Bool → Included → List ℕ → ℕ → Given → List ℕ → Option (List ℕ) → Given → List ℕ → Option (List ℕ) → Type 0
+abbrev pub KeptOver : Bool → Included → List ℕ → ℕ → GivenSoFar → List ℕ → Option (List ℕ) → GivenSoFar → List ℕ → Option (List ℕ) → Type 0
 KeptOver is_terminal files script pulled g old a h now b =
     Keeps (known_unless is_terminal (script_left files script (min pulled (length g.text)) g old a))
     (known_unless is_terminal (script_left files script (min pulled (length h.text)) h now b))
 
-pub kept_over : (is_terminal : Bool) (files : Included) (script : List ℕ) (pulled : ℕ) (g : Given) (old : List ℕ) (a : Option (List ℕ))
-    (h : Given) (now : List ℕ) (b : Option (List ℕ)) → pulled ≡ 0
+pub kept_over : (is_terminal : Bool) (files : Included) (script : List ℕ) (pulled : ℕ) (g : GivenSoFar) (old : List ℕ) (a : Option (List ℕ))
+    (h : GivenSoFar) (now : List ℕ) (b : Option (List ℕ)) → pulled ≡ 0
     → Keeps (script_left files script 0 g old a) (script_left files script 0 h now b)
     → KeptOver is_terminal files script pulled g old a h now b
 kept_over is_terminal files script pulled g old a h now b none kept =
@@ -140,10 +140,10 @@ kept_over is_terminal files script pulled g old a h now b none kept =
     (sym (none_pulled pulled (length h.text) none)) kept))
 
 -- the last line is taken
-pub read_last : (is_terminal : Bool) (files : Included) (script : List ℕ) (pulled : ℕ) (g mid h : Given) (wanted : Option (List ℕ))
+pub read_last : (is_terminal : Bool) (files : Included) (script : List ℕ) (pulled : ℕ) (g mid h : GivenSoFar) (wanted : Option (List ℕ))
     (old now : List ℕ) (a b : Option (List ℕ)) → pulled ≡ 0 → old ≡ [] → now ≡ [] → Consumes a b now → IsAtEnd b → h.line ≡ []
-    → with_last files script [] g ≡ with_wanted files script mid wanted
-    → IfSome (with_wanted files script mid wanted) (λ k. h ≡ k)
+    → given_last files script [] g ≡ given_wanted files script mid wanted
+    → IfSome (given_wanted files script mid wanted) (λ k. h ≡ k)
     → KeptOver is_terminal files script pulled g old a h now b
 read_last is_terminal files script pulled g mid h wanted old now a b none gone empty taken end whole last there =
     kept_over is_terminal files script pulled g old a h now b none
@@ -153,11 +153,11 @@ read_last is_terminal files script pulled g mid h wanted old now a b none gone e
     (last_kept files script g mid h wanted b end whole last there)))
 
 -- it isn't, and all stays
-pub read_refused : (is_terminal : Bool) (files : Included) (script : List ℕ) (pulled : ℕ) (g h : Given)
+pub read_refused : (is_terminal : Bool) (files : Included) (script : List ℕ) (pulled : ℕ) (g h : GivenSoFar)
     (old now : List ℕ) (a b : Option (List ℕ)) → pulled ≡ 0 → old ≡ [] → Consumes a b now → h ≡ g
     → KeptOver is_terminal files script pulled g old a h now b
 read_refused is_terminal files script pulled g h old now a b none gone taken same =
-    subst (λ (k : Given). KeptOver is_terminal files script pulled g old a k now b) (sym same)
+    subst (λ (k : GivenSoFar). KeptOver is_terminal files script pulled g old a k now b) (sym same)
     (kept_over is_terminal files script pulled g old a g now b none (piece_kept files script g old now a b gone taken))
 
 -- what is said of a value that is there
@@ -166,15 +166,15 @@ there None P is h = absurd (let no : false ≡ true = is in cc)
 there (Some a) P is h = h
 
 -- a byte isn't taken, and all stays
-pub byte_refused : (is_terminal : Bool) (files : Included) (script : List ℕ) (pulled : ℕ) (g h : Given)
+pub byte_refused : (is_terminal : Bool) (files : Included) (script : List ℕ) (pulled : ℕ) (g h : GivenSoFar)
     (unread : List ℕ) (known : Option (List ℕ)) → h ≡ g
     → KeptOver is_terminal files script pulled g unread known h unread known
 byte_refused is_terminal files script pulled g h unread known same =
-    subst (λ (k : Given). KeptOver is_terminal files script pulled g unread known k unread known) (sym same)
+    subst (λ (k : GivenSoFar). KeptOver is_terminal files script pulled g unread known k unread known) (sym same)
     (Keeps-self (known_unless is_terminal (script_left files script (min pulled (length g.text)) g unread known)))
 
 -- all is given
-pub read_end : (is_terminal : Bool) (files : Included) (script : List ℕ) (pulled : ℕ) (h : Given) (now : List ℕ) (b : Option (List ℕ))
+pub read_end : (is_terminal : Bool) (files : Included) (script : List ℕ) (pulled : ℕ) (h : GivenSoFar) (now : List ℕ) (b : Option (List ℕ))
     → pulled ≡ 0 → now ≡ [] → IsAtEnd b → h.line ≡ [] → h.text ≡ []
     → IsAtEnd (known_unless is_terminal (script_left files script (min pulled (length h.text)) h now b))
 read_end is_terminal files script pulled h now b none empty end whole nothing =
@@ -185,7 +185,7 @@ read_end is_terminal files script pulled h now b none empty end whole nothing =
 -- PULLING
 
 -- what is given begins with what was given
-pulled_left : (files : Included) (script : List ℕ) (g : Given) (m n : ℕ) (v : Option Given) → m + n ≤ length g.text
+pulled_left : (files : Included) (script : List ℕ) (g : GivenSoFar) (m n : ℕ) (v : Option GivenSoFar) → m + n ≤ length g.text
     → Consumes (option_map (λ h. drop m h.text) (option_map (in_front g.text) v))
     (option_map (λ h. drop (m + n) h.text) (option_map (in_front g.text) v)) (take n (drop m g.text))
 pulled_left files script g m n None within = tt
@@ -197,31 +197,31 @@ pulled_left files script g m n (Some k) within =
     sym (take-append-drop n (drop m all)) ∙ ap (λ (u : List ℕ). u ++ drop n (drop m all)) first
     ∙ ap (λ (u : List ℕ). take n (drop m g.text) ++ u) (drop-drop n m all)
 
-pub put_consumes : (files : Included) (script : List ℕ) (g : Given) (unread : List ℕ) (m n : ℕ) (known : Option (List ℕ))
+pub put_consumes : (files : Included) (script : List ℕ) (g : GivenSoFar) (unread : List ℕ) (m n : ℕ) (known : Option (List ℕ))
     → m + n ≤ length g.text
     → Consumes (script_left files script m g unread known) (script_left files script (m + n) g unread known) (take n (drop m g.text))
 put_consumes files script g unread m n None within = tt
 put_consumes files script g unread m n (Some bytes) within =
-    subst (λ (v : Option Given). Consumes (option_map (λ h. drop m h.text) v) (option_map (λ h. drop (m + n) h.text) v) (take n (drop m g.text)))
+    subst (λ (v : Option GivenSoFar). Consumes (option_map (λ h. drop m h.text) v) (option_map (λ h. drop (m + n) h.text) v) (take n (drop m g.text)))
     (sym (text_apart files script [] g (unread ++ bytes)))
-    (pulled_left files script g m n (with_all files script [] (record g { text = [] }) (unread ++ bytes)) within)
+    (pulled_left files script g m n (given_all files script [] (record g { text = [] }) (unread ++ bytes)) within)
 
 -- all that was given is pulled, and goes
-cleared_left : (g : Given) (v : Option Given)
+cleared_left : (g : GivenSoFar) (v : Option GivenSoFar)
     → Keeps (option_map (λ h. drop (length g.text) h.text) (option_map (in_front g.text) v)) (option_map (λ h. drop 0 h.text) v)
 cleared_left g None = tt
 cleared_left g (Some k) = sym (drop-append_seam g.text k.text)
 
-pub clear_kept : (files : Included) (script : List ℕ) (g : Given) (unread : List ℕ) (known : Option (List ℕ))
+pub clear_kept : (files : Included) (script : List ℕ) (g : GivenSoFar) (unread : List ℕ) (known : Option (List ℕ))
     → Keeps (script_left files script (length g.text) g unread known) (script_left files script 0 (record g { text = [] }) unread known)
 clear_kept files script g unread None = tt
 clear_kept files script g unread (Some bytes) =
-    subst (λ (v : Option Given). Keeps (option_map (λ h. drop (length g.text) h.text) v)
-    (option_map (λ h. drop 0 h.text) (with_all files script [] (record g { text = [] }) (unread ++ bytes))))
+    subst (λ (v : Option GivenSoFar). Keeps (option_map (λ h. drop (length g.text) h.text) v)
+    (option_map (λ h. drop 0 h.text) (given_all files script [] (record g { text = [] }) (unread ++ bytes))))
     (sym (text_apart files script [] g (unread ++ bytes)))
-    (cleared_left g (with_all files script [] (record g { text = [] }) (unread ++ bytes)))
+    (cleared_left g (given_all files script [] (record g { text = [] }) (unread ++ bytes)))
 
-pub put_so : (is_terminal : Bool) (files : Included) (script : List ℕ) (g : Given) (unread : List ℕ) (known : Option (List ℕ))
+pub put_so : (is_terminal : Bool) (files : Included) (script : List ℕ) (g : GivenSoFar) (unread : List ℕ) (known : Option (List ℕ))
     (pulled from count : ℕ) (copied rest : List ℕ) → from ≡ min pulled (length g.text) → from + count ≤ length g.text
     → copied ≡ take count (drop from g.text)
     → Consumes (known_unless is_terminal (script_left files script (min pulled (length g.text)) g unread known))
@@ -239,7 +239,7 @@ put_so is_terminal files script g unread known pulled from count copied rest is 
     (put_consumes files script g unread from count known within))))
 
 -- what was pulled goes
-pub clear_so : (is_terminal : Bool) (files : Included) (script : List ℕ) (g : Given) (unread : List ℕ) (known : Option (List ℕ))
+pub clear_so : (is_terminal : Bool) (files : Included) (script : List ℕ) (g : GivenSoFar) (unread : List ℕ) (known : Option (List ℕ))
     (pulled now : ℕ) (text : List ℕ) → length g.text ≤ pulled → text ≡ []
     → Keeps (known_unless is_terminal (script_left files script (min pulled (length g.text)) g unread known))
     (known_unless is_terminal (script_left files script (min now (length text)) (record g { text = text }) unread known))

@@ -33,22 +33,22 @@ note_text path first last = if nat_lt last first then codes "; INCLUDE " ++ path
 
 -- The text that a script has given, and where its reading stands: the bytes of the line that has no end yet, whether
 -- a block is open before it, and how many lines were given.
-pub record Given : Type 0 where
+pub record GivenSoFar : Type 0 where
   pub text : List ℕ
   pub line : List ℕ
   pub is_in_block : Bool
   pub number : ℕ
 
 -- before the first line of a file, where so many lines were given before it
-abbrev pub given_none : ℕ → Given
+abbrev pub given_none : ℕ → GivenSoFar
 given_none number = record { text = []; line = []; is_in_block = false; number = number }
 
 -- what the file of a path gives, where so many lines were given before it
 abbrev pub Included : Type 0
-Included = List ℕ → ℕ → Option Given
+Included = List ℕ → ℕ → Option GivenSoFar
 
 -- a line stands as it is
-abbrev pub given_line : Given → List ℕ → Given
+abbrev pub given_line : GivenSoFar → List ℕ → GivenSoFar
 given_line g end = record {
   text = g.text ++ (g.line ++ end);
   line = [];
@@ -57,7 +57,7 @@ given_line g end = record {
 }
 
 -- a file's lines stand in place of a line
-abbrev pub given_file : Given → List ℕ → Given → Given
+abbrev pub given_file : GivenSoFar → List ℕ → GivenSoFar → GivenSoFar
 given_file g path h = record {
   text = g.text ++ (note_text path (one_line_more (one_line_more g.number)) h.number ++ h.text);
   line = [];
@@ -66,55 +66,55 @@ given_file g path h = record {
 }
 
 -- the file that a script names, if one is named, in place of its line
-abbrev pub with_wanted : Included → List ℕ → Given → Option (List ℕ) → Option Given
-with_wanted files script g None = Some g
-with_wanted files script g (Some path) = if is_path path then option_map (given_file g (path_beside script path))
+abbrev pub given_wanted : Included → List ℕ → GivenSoFar → Option (List ℕ) → Option GivenSoFar
+given_wanted files script g None = Some g
+given_wanted files script g (Some path) = if is_path path then option_map (given_file g (path_beside script path))
     (files (path_beside script path) (one_line_more g.number)) else None
 
-abbrev pub with_line : Included → List ℕ → List ℕ → Given → Option (List ℕ) → Option Given
-with_line files script end g None = Some (given_line g end)
-with_line files script end g (Some path) = with_wanted files script g (Some path)
+abbrev pub given_read : Included → List ℕ → List ℕ → GivenSoFar → Option (List ℕ) → Option GivenSoFar
+given_read files script end g None = Some (given_line g end)
+given_read files script end g (Some path) = given_wanted files script g (Some path)
 
 -- the line that ends here
-abbrev pub with_ended : Included → List ℕ → List ℕ → Given → Option Given
-with_ended files script end g =
-    with_line files script end g (include_of g.is_in_block (strip_carriage_return g.line))
+abbrev pub given_ended : Included → List ℕ → List ℕ → GivenSoFar → Option GivenSoFar
+given_ended files script end g =
+    given_read files script end g (include_of g.is_in_block (strip_carriage_return g.line))
 
 -- one byte more
-abbrev pub with_byte : Included → List ℕ → Given → ℕ → Option Given
-with_byte files script g byte = if byte == 10 then with_ended files script (byte ∷ []) g
+abbrev pub given_byte : Included → List ℕ → GivenSoFar → ℕ → Option GivenSoFar
+given_byte files script g byte = if byte == 10 then given_ended files script (byte ∷ []) g
     else Some (record g { line = g.line ++ byte ∷ [] })
 
-unfoldable pub with_bytes : Included → List ℕ → Given → List ℕ → Option Given
-with_bytes files script g [] = Some g
-with_bytes files script g (byte ∷ rest) =
-    option_and_then (λ h. with_bytes files script h rest) (with_byte files script g byte)
+unfoldable pub given_bytes : Included → List ℕ → GivenSoFar → List ℕ → Option GivenSoFar
+given_bytes files script g [] = Some g
+given_bytes files script g (byte ∷ rest) =
+    option_and_then (λ h. given_bytes files script h rest) (given_byte files script g byte)
 
 -- nothing follows: a line without its end is one, too
-abbrev pub with_last : Included → List ℕ → List ℕ → Given → Option Given
-with_last files script end g = if length g.line == 0 then Some g else with_ended files script end g
+abbrev pub given_last : Included → List ℕ → List ℕ → GivenSoFar → Option GivenSoFar
+given_last files script end g = if length g.line == 0 then Some g else given_ended files script end g
 
-abbrev pub with_all : Included → List ℕ → List ℕ → Given → List ℕ → Option Given
-with_all files script end g bytes =
-    option_and_then (with_last files script end) (with_bytes files script g bytes)
+abbrev pub given_all : Included → List ℕ → List ℕ → GivenSoFar → List ℕ → Option GivenSoFar
+given_all files script end g bytes =
+    option_and_then (given_last files script end) (given_bytes files script g bytes)
 
 -- what a file gives, where files include one another so many deep at most, by what is known of the files' bytes
 unfoldable pub file_given : (List ℕ → Option (List ℕ)) → ℕ → Included
 file_given text_of zero path number = None
 file_given text_of (suc depth) path number = option_and_then
-    (with_all (file_given text_of depth) path (10 ∷ []) (given_none number)) (text_of path)
+    (given_all (file_given text_of depth) path (10 ∷ []) (given_none number)) (text_of path)
 
 -- what is left to give of a script of which some bytes are still to be read, as far as these are known
-abbrev pub script_left : Included → List ℕ → ℕ → Given → List ℕ → Option (List ℕ) → Option (List ℕ)
+abbrev pub script_left : Included → List ℕ → ℕ → GivenSoFar → List ℕ → Option (List ℕ) → Option (List ℕ)
 script_left files script shown g unread known = option_and_then
-    (λ bytes. option_map (λ h. drop shown h.text) (with_all files script [] g (unread ++ bytes))) known
+    (λ bytes. option_map (λ h. drop shown h.text) (given_all files script [] g (unread ++ bytes))) known
 
 -- what was known stays so
-abbrev pub StaysKnown : Option Given → Option Given → Type 0
+abbrev pub StaysKnown : Option GivenSoFar → Option GivenSoFar → Type 0
 StaysKnown old new = IfSome old (λ g. new ≡ Some g)
 
 -- A script of which all is known though no file is: it has no line INCLUDE outside its blocks, and its own text is
 -- given, byte for byte.
 abbrev pub PlainTextStays : Type 0
 PlainTextStays = (files : Included) → ((path : List ℕ) (number : ℕ) → files path number ≡ None)
-    → (script bytes : List ℕ) → IfSome (with_all files script [] (given_none 0) bytes) (λ g. g.text ≡ bytes)
+    → (script bytes : List ℕ) → IfSome (given_all files script [] (given_none 0) bytes) (λ g. g.text ≡ bytes)

@@ -22,7 +22,8 @@ pub(crate) fn include_of(
     is_in_block: bool,
     line: &[u8],
 ) -> Result<Option<Vec<u8>>, AllocError>
-    ensures { IfOk result (λ wanted. option_map (λ text. text.items) wanted ≡ include_of is_in_block line.now) }
+    ensures { IfOk result
+        (λ wanted. option_map (λ text. text.items) wanted ≡ include_of is_in_block line.now) }
 {
     if is_in_block {
         return Ok(None);

@@ -73,7 +73,7 @@ pub(crate) struct GivenText {
 
 impl GivenText {
     ghost use Rattle.std.specs.Prelude.{◌∷◌, [], length};
-    ghost use Rattle.debug_program.specs.Including.{Given, Included, file_given, given_file, given_line, given_none, with_byte, with_ended, with_last, with_wanted};
+    ghost use Rattle.debug_program.specs.Including.{GivenSoFar, Included, file_given, given_file, given_line, given_none, given_byte, given_ended, given_last, given_wanted};
     ghost use Rattle.debug_program.specs.GivenText.{given_of};
 
     /// Before the first line of a script, where so many lines were given before it.
@@ -101,8 +101,8 @@ impl GivenText {
         byte: u8,
     ) -> Result<Option<Vec<u8>>, AllocError>
         ensures taken { IfOk result (λ wanted. (files : Included) (script : List ℕ)
-            → with_byte files script (given_of self.old) byte
-            ≡ with_wanted files script (given_of self.new) (option_map (λ path. path.items) wanted)) }
+            → given_byte files script (given_of self.old) byte
+            ≡ given_wanted files script (given_of self.new) (option_map (λ path. path.items) wanted)) }
         ensures waits { IfOk result (λ wanted. IfSome wanted (λ _. self.new ≡ self.old)) }
         ensures kept { OnErr result (given_of self.new ≡ given_of self.old) }
     {
@@ -124,8 +124,8 @@ impl GivenText {
         end: &[u8],
     ) -> Result<Option<Vec<u8>>, AllocError>
         ensures taken { IfOk result (λ wanted. (files : Included) (script : List ℕ)
-            → with_last files script end.now (given_of self.old)
-            ≡ with_wanted files script (given_of self.new) (option_map (λ path. path.items) wanted)) }
+            → given_last files script end.now (given_of self.old)
+            ≡ given_wanted files script (given_of self.new) (option_map (λ path. path.items) wanted)) }
         ensures line { IfOk result (λ wanted. IfNone wanted (self.new.line.items ≡ [])) }
         ensures waits { IfOk result (λ wanted. IfSome wanted (λ _. self.new ≡ self.old)) }
         ensures kept { OnErr result (given_of self.new ≡ given_of self.old) }
@@ -139,8 +139,8 @@ impl GivenText {
     // Takes a line that ends here.
     fn take_line(&mut self, alloc: Global, end: &[u8]) -> Result<Option<Vec<u8>>, AllocError>
         ensures taken { IfOk result (λ wanted. (files : Included) (script : List ℕ)
-            → with_ended files script end.now (given_of self.old)
-            ≡ with_wanted files script (given_of self.new) (option_map (λ path. path.items) wanted)) }
+            → given_ended files script end.now (given_of self.old)
+            ≡ given_wanted files script (given_of self.new) (option_map (λ path. path.items) wanted)) }
         ensures line { IfOk result (λ wanted. IfNone wanted (self.new.line.items ≡ [])) }
         ensures waits { IfOk result (λ wanted. IfSome wanted (λ _. self.new ≡ self.old)) }
         ensures kept { OnErr result (given_of self.new ≡ given_of self.old) }
@@ -173,7 +173,7 @@ impl GivenText {
         depth: usize,
         wanted: Option<Vec<u8>>,
     ) -> Result<(), IncludeRefusal>
-        ensures taken { OnOk result (IfSome (with_wanted (file_given (D.text_of files.now) depth) script.now
+        ensures taken { OnOk result (IfSome (given_wanted (file_given (D.text_of files.now) depth) script.now
             (given_of self.old) (option_map (λ path. path.items) wanted)) (λ g. given_of self.new ≡ g)) }
         ensures line { OnOk result (IfSome wanted (λ _. self.new.line.items ≡ [])) }
         ensures none { IfNone wanted (self.new ≡ self.old) }

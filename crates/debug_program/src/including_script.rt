@@ -49,7 +49,8 @@ impl<'a, D: ScriptFiles, S: Source> IncludingScript<'a, D, S> {
         is_terminal: bool,
     ) -> IncludingScript<'a, D, S>
         ensures { given_left D.text_of S.remaining result ≡ known_unless is_terminal
-            (script_left (file_given (D.text_of files.now) 8) script.now 0 (given_none 0) [] (S.remaining inner)) }
+            (script_left (file_given (D.text_of files.now) 8) script.now 0 (given_none 0) []
+            (S.remaining inner)) }
     {
         IncludingScript {
             alloc,
@@ -82,7 +83,8 @@ impl<'a, D: ScriptFiles, S: Source> IncludingScript<'a, D, S> {
         ensures count { result ≤ length buffer.new }
         ensures bytes { Consumes (given_left D.text_of S.remaining self.old)
             (given_left D.text_of S.remaining self.new) (take result buffer.new) }
-        ensures some { 0 < length buffer.old → self.old.pulled < length self.old.given.text.items → 0 < result }
+        ensures some { 0 < length buffer.old → self.old.pulled < length self.old.given.text.items
+            → 0 < result }
         ensures refusal { self.new.refusal ≡ self.old.refusal }
     {
         let from = self.pulled.min(self.given.text.len());
@@ -96,8 +98,10 @@ impl<'a, D: ScriptFiles, S: Source> IncludingScript<'a, D, S> {
     // Reads on: gives lines, if any, or keeps why not; and whether it is at the end.
     fn read_on(&mut self) -> Result<bool, ReadFault>
         requires { vec_len self.old.given.text ≤ self.old.pulled }
-        ensures kept { Keeps (given_left D.text_of S.remaining self.old) (given_left D.text_of S.remaining self.new) }
-        ensures end { IfOk result (λ is_end. is_end ≡ true → IsAtEnd (given_left D.text_of S.remaining self.new)) }
+        ensures kept { Keeps (given_left D.text_of S.remaining self.old)
+            (given_left D.text_of S.remaining self.new) }
+        ensures end { IfOk result (λ is_end. is_end ≡ true
+            → IsAtEnd (given_left D.text_of S.remaining self.new)) }
         ensures refusal { OnOk result (self.new.refusal ≡ self.old.refusal) }
         ensures refused { OnErr result (is_some self.new.refusal ≡ true) }
     {
@@ -118,11 +122,14 @@ impl<'a, D: ScriptFiles, S: Source> IncludingScript<'a, D, S> {
         }
     }
 
-    // Takes what was read, as far as there is room for it, or reads more, and answers whether it is at the end.
+    // Takes what was read, as far as there is room for it, or reads more, and answers whether it is at the
+    // end.
     fn take_lines(&mut self) -> Result<bool, IncludeRefusal>
         requires { self.old.pulled ≡ 0 }
-        ensures kept { Keeps (given_left D.text_of S.remaining self.old) (given_left D.text_of S.remaining self.new) }
-        ensures end { IfOk result (λ is_end. is_end ≡ true → IsAtEnd (given_left D.text_of S.remaining self.new)) }
+        ensures kept { Keeps (given_left D.text_of S.remaining self.old)
+            (given_left D.text_of S.remaining self.new) }
+        ensures end { IfOk result (λ is_end. is_end ≡ true
+            → IsAtEnd (given_left D.text_of S.remaining self.new)) }
         ensures same { (self.new.refusal ≡ self.old.refusal) × (self.new.is_terminal ≡ self.old.is_terminal) }
     {
         if self.taken >= self.length {
@@ -138,7 +145,8 @@ impl<'a, D: ScriptFiles, S: Source> IncludingScript<'a, D, S> {
     fn take_next(&mut self) -> Result<(), IncludeRefusal>
         requires none { self.old.pulled ≡ 0 }
         requires some { self.old.taken < self.old.length }
-        ensures kept { Keeps (given_left D.text_of S.remaining self.old) (given_left D.text_of S.remaining self.new) }
+        ensures kept { Keeps (given_left D.text_of S.remaining self.old)
+            (given_left D.text_of S.remaining self.new) }
         ensures none { self.new.pulled ≡ 0 }
         ensures same { (self.new.refusal ≡ self.old.refusal) × (self.new.is_terminal ≡ self.old.is_terminal) }
         ensures next { OnOk result
@@ -158,8 +166,10 @@ impl<'a, D: ScriptFiles, S: Source> IncludingScript<'a, D, S> {
     fn read_piece(&mut self) -> Result<bool, IncludeRefusal>
         requires read { self.old.length ≤ self.old.taken }
         requires none { self.old.pulled ≡ 0 }
-        ensures kept { Keeps (given_left D.text_of S.remaining self.old) (given_left D.text_of S.remaining self.new) }
-        ensures end { IfOk result (λ is_end. is_end ≡ true → IsAtEnd (given_left D.text_of S.remaining self.new)) }
+        ensures kept { Keeps (given_left D.text_of S.remaining self.old)
+            (given_left D.text_of S.remaining self.new) }
+        ensures end { IfOk result (λ is_end. is_end ≡ true
+            → IsAtEnd (given_left D.text_of S.remaining self.new)) }
         ensures same { (self.new.refusal ≡ self.old.refusal) × (self.new.is_terminal ≡ self.old.is_terminal) }
     {
         if self.given.line.len() > MOST_BYTES {

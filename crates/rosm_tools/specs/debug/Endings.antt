@@ -28,6 +28,6 @@ include_refusal include.TooLong = refusal.Script run.ScriptTooLong
 include_refusal (include.Line reason) = refusal.Include reason
 
 -- the ending of a script whose reader says why it can't be read on
-abbrev pub ending_of : Result ℕ DebugRefusal → Option IncludeRefusal → Result ℕ DebugRefusal
-ending_of (Err (refusal.Script run.ReadFault)) (Some why) = Err (include_refusal why)
-ending_of ending why = ending
+abbrev pub ending_by_reader : Result ℕ DebugRefusal → Option IncludeRefusal → Result ℕ DebugRefusal
+ending_by_reader (Err (refusal.Script run.ReadFault)) (Some why) = Err (include_refusal why)
+ending_by_reader ending why = ending

@@ -9,7 +9,7 @@ ghost use Rattle.debug_program.specs.Talking.{IsStatusOfScript};
 
 use crate::debug::options::WantedForm;
 use crate::debug::refusal::DebugRefusal;
-use crate::debug::scripts::{HostScripts, ending_of};
+use crate::debug::scripts::{HostScripts, ending_by_reader};
 use crate::debug::words::{WantedSession, read_words};
 use command_shell_lines::read_script;
 use debug_program::talk::{hand_on, talk};
@@ -132,7 +132,7 @@ where
     let files = HostScripts { rt };
     let mut reader = IncludingScript::new(rt.alloc(), &files, script, input, is_terminal);
     let ending = answer_in_form(rt, wanted, images, &mut reader, errors, is_terminal, meter);
-    ending_of(ending, reader.take_refusal())
+    ending_by_reader(ending, reader.take_refusal())
 }
 
 // The same, without such files.
@@ -230,7 +230,7 @@ where
         errors,
         is_terminal,
     );
-    ending_of(ending, script.take_refusal().or(input.take_refusal()))
+    ending_by_reader(ending, script.take_refusal().or(input.take_refusal()))
 }
 
 // Answers the lines of a script and those that are typed behind it, on a fresh machine.

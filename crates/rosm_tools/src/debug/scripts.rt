@@ -1,7 +1,7 @@
 //! The files that scripts include, as the host has them.
 
 ghost use Rattle.std.specs.Prelude.{◌≡◌, None};
-ghost use Rattle.rosm_tools.specs.debug.Endings.{ending_of};
+ghost use Rattle.rosm_tools.specs.debug.Endings.{ending_by_reader};
 
 use crate::debug::refusal::DebugRefusal;
 use debug_program::{IncludeRefusal, ScriptFiles, TextFault};
@@ -60,11 +60,11 @@ fn fault_of(alloc: Global, reason: &str) -> TextFault {
 }
 
 /// The ending of a script whose reader may say why it can't be read on.
-pub fn ending_of<'a>(
+pub fn ending_by_reader<'a>(
     ending: Result<u8, DebugRefusal<'a>>,
     why: Option<IncludeRefusal>,
 ) -> Result<u8, DebugRefusal<'a>>
-    ensures { result ≡ ending_of ending.entry why }
+    ensures { result ≡ ending_by_reader ending.entry why }
 {
     match (ending, why) {
         (Err(DebugRefusal::Script(RunError::ReadFault)), Some(why)) => Err(DebugRefusal::from(why)),
