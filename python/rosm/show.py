@@ -91,8 +91,9 @@ def debugger_of(words: argparse.Namespace) -> Debugger:
 def print_text(debugger: Debugger, width: int) -> int:
     """Prints a page as the records come. The status is that of the program that answers."""
     transcript = None
-    # a trace stands in the transcript alone
-    if b"TRACE" in debugger.script_text().upper():
+    # a trace stands in the transcript alone, and an included file may have one
+    text = debugger.script_text().upper()
+    if b"TRACE" in text or b"INCLUDE" in text:
         transcript = debugger.output("transcript").stdout.decode("ascii").splitlines()
     with debugger.start("json") as answering:
         assert answering.stdout
