@@ -9,6 +9,15 @@ use crate::typing::joined;
 use profile::memory_map::MOST_BYTES;
 use std::alloc::{AllocError, Global};
 
+/// How deeply files may include one another.
+pub(crate) const DEPTH: usize = 8;
+
+const TOO_DEEP: &str = "files include one another more than 8 deep";
+
+const TOO_MUCH: &str = "more than 1048576 bytes with what it includes";
+
+const NO_FILE: &str = "INCLUDE wants one file";
+
 /// Why the bytes of a file that a script includes aren't had.
 #[derive(Debug, PartialEq, Eq, Drop)]
 pub enum TextFault {
@@ -202,6 +211,9 @@ impl GivenText {
         }
         let inner = file.take_last(alloc, b"\n")?;
         file.include(alloc, files, path.as_str(), depth - 1, inner)?;
+        if file.text.len() > MOST_BYTES {
+            return Err(place.refused(alloc, path.as_str(), TOO_MUCH));
+        }
         self.take_file(alloc, path.as_str(), file)?;
         Ok(())
     }
@@ -223,12 +235,6 @@ impl GivenText {
         Ok(())
     }
 }
-
-const TOO_DEEP: &str = "files include one another more than 8 deep";
-
-const TOO_MUCH: &str = "more than 1048576 bytes with what it includes";
-
-const NO_FILE: &str = "INCLUDE wants one file";
 
 // A line of a script.
 #[derive(Clone, Copy)]

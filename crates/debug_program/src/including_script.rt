@@ -2,16 +2,13 @@
 
 ghost use Rattle.std.specs.Prelude.{◌≡◌};
 
-use crate::including::{GivenText, IncludeRefusal, ScriptFiles};
+use crate::including::{DEPTH, GivenText, IncludeRefusal, ScriptFiles};
 use profile::memory_map::MOST_BYTES;
 use profile::{ReadFault, Source};
 use std::alloc::Global;
 
 // The most bytes that are read at once.
 const PIECE: usize = 4096;
-
-// How deeply files may include one another.
-const DEPTH: usize = 8;
 
 /// A script with the lines of the files that it includes.
 #[derive(Drop)]
@@ -109,7 +106,7 @@ impl<'a, D: ScriptFiles, S: Source> IncludingScript<'a, D, S> {
         self.pulled = 0;
         match self.take_lines() {
             Ok(is_end) => Ok(is_end),
-            Err(_) if !self.given.text.is_empty() => Ok(false),
+            Err(IncludeRefusal::Line(_)) if !self.given.text.is_empty() => Ok(false),
             Err(IncludeRefusal::Line(message)) if self.is_terminal => {
                 self.files.show(message.as_str());
                 self.given.line.clear();

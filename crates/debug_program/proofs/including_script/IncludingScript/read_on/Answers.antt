@@ -26,8 +26,8 @@ returns-in-Err-clause-kept g c =
     (omega (arith, all, c.requires)) c.clear.ensures.items)
     c.take_lines.ensures.kept
 
-pub returns-in-Err-2-clause-kept : goal.returns-in-Err-2-clause-kept
-returns-in-Err-2-clause-kept g c =
+pub returns-in-Err-Line-clause-kept : goal.returns-in-Err-Line-clause-kept
+returns-in-Err-Line-clause-kept g c =
     let s = c.args.self.now in
     let all : length s.given.text.items ≡ s.given.text.len = omega (arith, s.given.text.ok.0) in
     Keeps-twice _ _ _
