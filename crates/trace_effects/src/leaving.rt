@@ -1,7 +1,7 @@
 //! Which store calls leave the machine's store as it is.
 
-ghost use Rattle.std.specs.Prelude.{◌≡◌, Some};
-ghost use Rattle.trace_effects.specs.Leaving.{area_asks, call_leaves, heap_asks, module_asks, named_call_leaves};
+ghost use Rattle.std.specs.Prelude.{◌≡◌};
+ghost use Rattle.trace_effects.specs.Leaving.{area_asks, call_leaves, heap_asks, module_asks};
 
 use profile::{AreaReason, HeapReason, ModuleReason, SwiName};
 
@@ -11,63 +11,44 @@ pub fn call_leaves(r0: u32, number: u32) -> bool
     ensures value { result ≡ call_leaves r0 number }
 {
     match SwiName::of(number) {
-        None => true,
-        Some(name) => named_call_leaves(r0, name),
-    }
-}
-
-fn named_call_leaves(r0: u32, name: SwiName) -> bool
-    ensures { result ≡ named_call_leaves r0 (Some name) }
-{
-    match name {
-        SwiName::Heap => heap_asks(HeapReason::of(r0)),
-        SwiName::DynamicArea => area_asks(AreaReason::of(r0)),
-        SwiName::Module => module_asks(ModuleReason::of(r0)),
-        SwiName::WriteC
-        | SwiName::WriteS
-        | SwiName::Write0
-        | SwiName::NewLine
-        | SwiName::WriteI
-        | SwiName::Exit
-        | SwiName::EnterOs
-        | SwiName::GenerateError
-        | SwiName::ReadDynamicArea
-        | SwiName::FlexSize => true,
-        SwiName::ChangeDynamicArea
-        | SwiName::FlexInit
-        | SwiName::FlexAlloc
-        | SwiName::FlexFree
-        | SwiName::FlexExtend
-        | SwiName::FlexMidExtend => false,
+        Some(SwiName::Heap) => heap_asks(HeapReason::of(r0)),
+        Some(SwiName::DynamicArea) => area_asks(AreaReason::of(r0)),
+        Some(SwiName::Module) => module_asks(ModuleReason::of(r0)),
+        None
+        | Some(SwiName::WriteC)
+        | Some(SwiName::WriteS)
+        | Some(SwiName::Write0)
+        | Some(SwiName::NewLine)
+        | Some(SwiName::WriteI)
+        | Some(SwiName::Exit)
+        | Some(SwiName::EnterOs)
+        | Some(SwiName::GenerateError)
+        | Some(SwiName::ReadDynamicArea)
+        | Some(SwiName::FlexSize) => true,
+        Some(_) => false,
     }
 }
 
 fn heap_asks(reason: Option<HeapReason>) -> bool
     ensures { result ≡ heap_asks reason }
 {
-    match reason {
-        None | Some(HeapReason::Describe) | Some(HeapReason::BlockSize) => true,
-        Some(_) => false,
-    }
+    matches!(
+        reason,
+        None | Some(HeapReason::Describe | HeapReason::BlockSize)
+    )
 }
 
 fn area_asks(reason: Option<AreaReason>) -> bool
     ensures { result ≡ area_asks reason }
 {
-    match reason {
-        Some(AreaReason::Create) | Some(AreaReason::Remove) => false,
-        _ => true,
-    }
+    !matches!(reason, Some(AreaReason::Create | AreaReason::Remove))
 }
 
 fn module_asks(reason: Option<ModuleReason>) -> bool
     ensures { result ≡ module_asks reason }
 {
-    match reason {
-        None
-        | Some(ModuleReason::DescribeArea)
-        | Some(ModuleReason::Info)
-        | Some(ModuleReason::Lookup) => true,
-        Some(_) => false,
-    }
+    matches!(
+        reason,
+        None | Some(ModuleReason::DescribeArea | ModuleReason::Info | ModuleReason::Lookup)
+    )
 }

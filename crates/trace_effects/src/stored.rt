@@ -3,7 +3,7 @@
 ghost use Rattle.std.specs.Prelude.{◌≡◌, ◌≤◌};
 ghost use Rattle.arm_step.specs.Blocks.{block_start, lowest};
 ghost use Rattle.arm_step.specs.Transfers.{moved_base, offset_amount, transfer_address};
-ghost use Rattle.trace_effects.specs.Stored.{block_words, no_words, stored_words, transfer_words, words_of_action, words_of_block, words_of_transfer};
+ghost use Rattle.trace_effects.specs.Stored.{block_words, no_words, stored_words, transfer_words, words_of_action};
 
 use crate::cause::Cause;
 use arm_core::Cpu;
@@ -45,20 +45,10 @@ pub(crate) fn words_of_action(cpu: &Cpu, action: Action) -> StoredWords
     ensures few { result.count ≤ 16 }
 {
     match action {
-        Action::Transfer(transfer) => words_of_transfer(cpu, &transfer),
-        Action::BlockTransfer(block) => words_of_block(cpu, &block),
+        Action::Transfer(transfer) if !transfer.loads => transfer_words(cpu, &transfer),
+        Action::BlockTransfer(block) if !block.loads => block_words(cpu, &block),
         _ => no_words(),
     }
-}
-
-fn words_of_transfer(cpu: &Cpu, transfer: &Transfer) -> StoredWords
-    ensures value { result ≡ words_of_transfer cpu.now transfer.now }
-    ensures few { result.count ≤ 16 }
-{
-    if transfer.loads {
-        return no_words();
-    }
-    transfer_words(cpu, transfer)
 }
 
 /// The word that a transfer moves, or of which it moves a byte.
@@ -71,16 +61,6 @@ pub(crate) fn transfer_words(cpu: &Cpu, transfer: &Transfer) -> StoredWords
         at: at - at % 4,
         count: 1,
     }
-}
-
-fn words_of_block(cpu: &Cpu, block: &BlockTransfer) -> StoredWords
-    ensures value { result ≡ words_of_block cpu.now block.now }
-    ensures few { result.count ≤ 16 }
-{
-    if block.loads {
-        return no_words();
-    }
-    block_words(cpu, block)
 }
 
 /// The words that a block transfer moves.

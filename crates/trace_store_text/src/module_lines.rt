@@ -21,6 +21,24 @@ pub fn push_modules<W: Sink>(
     ensures writes { Writes W.contents W.has_failed sink.old sink.new result
         (module_lines before.now after.now) }
 {
+    if before.count() == 0 && after.count() == 0 {
+        return Ok(());
+    }
+    push_instances(sink, before, after)
+}
+
+// The lines of instances, where there are any. Not a part of `push_modules`, which then would pay for
+// large locals where there are none.
+#[inline(never)]
+#[tactic(auto, unfolding(crate::specs::ModuleLines::module_lines))]
+fn push_instances<W: Sink>(
+    sink: &mut W,
+    before: &Instances,
+    after: &Instances,
+) -> Result<(), WriteFault>
+    ensures { Writes W.contents W.has_failed sink.old sink.new result
+        (module_lines before.now after.now) }
+{
     let olds = marks_of(before);
     let news = marks_of(after);
     push_gone_instances(sink, olds.as_slice(), news.as_slice())?;

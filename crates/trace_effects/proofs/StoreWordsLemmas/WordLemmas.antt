@@ -1,5 +1,5 @@
 -- The words of a memory, and pages of two memories whose words are alike.
-use Rattle.std.proofs.Common.{◌≡◌, ℕ, ◌+◌, ◌*◌, ◌%◌, ◌^◌, ◌<◌, ◌≤◌, ◌&&◌, Bool, true, false, nat_le, List, slice_index, Option, Some, None, is_some, Ok, Err, refl, sym, ap, ◌∙◌, arith, cond, inl, inr}
+use Rattle.std.proofs.Common.{◌≡◌, ℕ, ◌+◌, ◌*◌, ◌/◌, ◌%◌, ◌^◌, ◌<◌, ◌≤◌, ◌&&◌, Bool, true, false, nat_le, List, Option, Some, None, is_some, Ok, Err, refl, sym, ap, ◌∙◌, arith, cond, inl, inr}
 use Rattle.std.proofs.lemmas.Bool.{cases_Bool, eq-eqb}
 use Rattle.std.proofs.lemmas.Bool.Decides.{nat_tests}
 use Rattle.profile.specs.declared.fault.Fault.{Fault}
@@ -87,3 +87,11 @@ same_in_lane b b' page lane j xs ys old new few same inside =
     let b2 = ap b.at p2 ∙ (byte (k + 2) (omega arith) (omega (arith, inside)) ∙ ap b'.at (sym p2)) in
     let b3 = ap b.at p3 ∙ (byte (k + 3) (omega arith) (omega (arith, inside)) ∙ ap b'.at (sym p3)) in
     ap (has_word_changed b b') p0 ∙ same_word b b' (4096 * page + k) (rw (b0, b1, b2, b3) refl)
+
+-- and one of a page
+pub same_in_page : (b b' : Bytes) (page : ℕ) (xs ys : List ℕ) → IsLent b (4096 * page) 4096 xs → IsLent b' (4096 * page) 4096 ys
+    → AreSameBytes xs ys 0 4096 → (j : ℕ) → j < 1024 → has_word_changed b b' (4 * (1024 * page + j)) ≡ false
+same_in_page b b' page xs ys old new same j inside =
+    let e : 4 * (1024 * page + j) ≡ 4 * (1024 * page + 16 * (j / 16) + j % 16) = omega arith in
+    ap (has_word_changed b b') e
+    ∙ same_in_lane b b' page (j / 16) (j % 16) xs ys old new (omega (arith, inside)) (λ k from to. same k (omega arith) (omega (arith, to, inside))) (omega arith)

@@ -1,8 +1,10 @@
 -- The parts of a machine that are kept of it, and what they stand for: its store, its modules, and where
 -- its flex store is.
-use Rattle.std.specs.Prelude.{List}
+use Rattle.std.specs.Prelude.{◌≡◌, ℕ, List}
+use Rattle.address_map.specs.Memory.{is_mapped, regions}
 use Rattle.address_map.specs.declared.map.AddressMap.{AddressMap}
 use Rattle.os_heap.specs.Store.{Store, store_of}
+use Rattle.flex_store.specs.State.{IsNoFlex}
 use Rattle.flex_store.specs.declared.flex.Flex.{Flex}
 use Rattle.instances_table.specs.Modules.{Module}
 use Rattle.swi_dispatch.specs.MachineState.{MachineState}
@@ -22,3 +24,10 @@ kept_in copy = record { store = store_of copy.map; modules = copy.modules; flex 
 
 abbrev pub kept_of : MachineState → KeptStore
 kept_of s = record { store = s.store; modules = s.tables.modules; flex = s.tables.flex }
+
+-- of two memories the same pages are mapped, and the same ranges recorded; neither has a flex store
+pub record IsLaidAlike (m n : AddressMap) : Type 0 where
+  pub mapped : (a : ℕ) → is_mapped m a ≡ is_mapped n a
+  pub regions : regions m ≡ regions n
+  pub first : IsNoFlex m
+  pub second : IsNoFlex n

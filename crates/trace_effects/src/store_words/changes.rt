@@ -7,7 +7,8 @@ ghost use Rattle.address_map.specs.Memory.{byte_at, bytes_of};
 ghost use Rattle.swi_dispatch.specs.GuestState.{state_of};
 ghost use Rattle.trace_effects.specs.store_words.Words.{IsSummary, all_changes, word_changes_below, is_shown_elsewhere};
 
-use crate::store_words::lanes::{LANE_WORDS, PAGE_WORDS, has_same_lane};
+use crate::shown_words::word_in;
+use crate::store_words::lanes::{LANE_WORDS, PAGE_WORDS, has_same_lane, has_same_page};
 use crate::store_words::pages::{PAGES, past_unmapped};
 use address_map::AddressMap;
 use arrayvec::ArrayVec;
@@ -42,7 +43,10 @@ pub fn changed_words(before: &AddressMap, machine: &Machine, has_error: bool) ->
         (bytes_of before.now) (state_of machine.now.guest).store.bytes) }
 {
     let after = machine.memory();
-    let mut changes = WordChanges::none();
+    let mut changes = WordChanges {
+        first: ArrayVec::new(),
+        count: 0,
+    };
     let mut page = 0;
     while page < PAGES {
         changes.add_page(before, after, has_error, page);
@@ -52,15 +56,6 @@ pub fn changed_words(before: &AddressMap, machine: &Machine, has_error: bool) ->
 }
 
 impl WordChanges {
-    fn none() -> WordChanges
-        ensures { IsSummary result [] }
-    {
-        WordChanges {
-            first: ArrayVec::new(),
-            count: 0,
-        }
-    }
-
     // The words of one page more.
     fn add_page(&mut self, before: &AddressMap, after: &AddressMap, has_error: bool, page: u32)
         requires page { page < 16384 }
@@ -79,7 +74,8 @@ impl WordChanges {
         }
     }
 
-    // The words of one page more, of which these bytes were and are: those of each lane that differs.
+    // The words of one page more, of which these bytes were and are: those of each lane that differs,
+    // and mostly none does.
     fn add_lanes(
         &mut self,
         before: &AddressMap,
@@ -97,6 +93,9 @@ impl WordChanges {
         ensures { IsSummary self.new (word_changes_below (is_shown_elsewhere has_error)
             (bytes_of before.now) (bytes_of after.now) (1024 * (page + 1))) }
     {
+        if has_same_page(old, new) {
+            return;
+        }
         for lane in 0..PAGE_WORDS / LANE_WORDS {
             if !has_same_lane(old, new, lane) {
                 let first = PAGE_WORDS * page + LANE_WORDS * lane;
@@ -149,17 +148,6 @@ impl WordChanges {
             self.first.push(change);
         }
         self.count += 1;
-    }
-}
-
-// The word at an address, 0 where no memory is mapped.
-fn word_in(memory: &AddressMap, at: u32) -> u32
-    requires { at % 4 ≡ 0 }
-    ensures { result ≡ word_at (byte_at memory.now) at }
-{
-    match memory.load_word(at) {
-        Ok(word) => word,
-        Err(_) => 0,
     }
 }
 

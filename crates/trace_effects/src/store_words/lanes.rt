@@ -12,7 +12,26 @@ pub(crate) const PAGE_WORDS: u32 = PAGE_SIZE / 4;
 /// How many words a lane has.
 pub(crate) const LANE_WORDS: u32 = 16;
 
+/// Whether two pages have the same bytes: most have, so all their lanes are looked at before any
+/// is asked for by itself, four of them in a row.
+pub(crate) fn has_same_page(old: &[u8], new: &[u8]) -> bool
+    requires old { length old.now ≡ 4096 }
+    requires new { length new.now ≡ 4096 }
+    ensures { result ≡ true → AreSameBytes old.now new.now 0 4096 }
+{
+    for row in 0..16 {
+        let lane = 4 * row;
+        let first = has_same_lane(old, new, lane) & has_same_lane(old, new, lane + 1);
+        let last = has_same_lane(old, new, lane + 2) & has_same_lane(old, new, lane + 3);
+        if !(first & last) {
+            return false;
+        }
+    }
+    true
+}
+
 /// Whether a lane of two pages has the same bytes, by its number.
+#[inline(always)]
 pub(crate) fn has_same_lane(old: &[u8], new: &[u8], lane: u32) -> bool
     requires old { length old.now ≡ 4096 }
     requires new { length new.now ≡ 4096 }

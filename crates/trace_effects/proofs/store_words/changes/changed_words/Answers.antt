@@ -1,4 +1,4 @@
-use Rattle.std.proofs.Common.{◌≡◌, ℕ, ◌+◌, ◌*◌, [], sym, subst, ap, ◌∙◌, arith}
+use Rattle.std.proofs.Common.{◌≡◌, ℕ, ◌+◌, ◌*◌, [], refl, sym, subst, arith}
 use Rattle.address_map.specs.Bytes.{Bytes}
 use Rattle.address_map.specs.Memory.{bytes_of}
 use Rattle.address_map.specs.declared.map.AddressMap.{AddressMap}
@@ -11,8 +11,9 @@ use Rattle.trace_effects.proofs.store_words.changes.changed_words.Goals as goal
 pub loop-page-init : goal.loop-page-init
 loop-page-init c = record {
   limit = omega arith;
-  summary = same_summary c.none-changes.result [] (word_changes_below (is_shown_elsewhere c.args.has_error) (bytes_of c.args.before.now) (bytes_of c.memory-after.result.now) 0)
-      (none_yet (is_shown_elsewhere c.args.has_error) (bytes_of c.args.before.now) (bytes_of c.memory-after.result.now)) c.none-changes.ensures;
+  summary = same_summary _ [] (word_changes_below (is_shown_elsewhere c.args.has_error) (bytes_of c.args.before.now) (bytes_of c.memory-after.result.now) 0)
+      (none_yet (is_shown_elsewhere c.args.has_error) (bytes_of c.args.before.now) (bytes_of c.memory-after.result.now))
+      (record { first = c.new.ensures; count = refl });
 }
 
 pub loop-page-preserved : goal.loop-page-preserved

@@ -1,9 +1,8 @@
-use Rattle.std.proofs.Common.{◌≡◌, ℕ, ◌+◌, ◌*◌, sym, ap, ◌∙◌, arith}
+use Rattle.std.proofs.Common.{◌≡◌, ℕ, ◌+◌, ◌*◌, ap, arith}
 use Rattle.address_map.specs.Memory.{bytes_of}
-use Rattle.trace_effects.specs.declared.store_words.changes.WordChanges.{WordChanges}
-use Rattle.trace_effects.specs.store_words.Words.{IsSummary, word_changes_below, is_shown_elsewhere}
-use Rattle.trace_effects.proofs.StoreWordsLemmas.ChangeLemmas.{kept_on, same_summary, unchanged_ahead}
-use Rattle.trace_effects.proofs.StoreWordsLemmas.WordLemmas.{same_in_lane}
+use Rattle.trace_effects.specs.store_words.Words.{word_changes_below, is_shown_elsewhere}
+use Rattle.trace_effects.proofs.StoreWordsLemmas.ChangeLemmas.{kept_on, page_passed, same_summary, unchanged_ahead}
+use Rattle.trace_effects.proofs.StoreWordsLemmas.WordLemmas.{same_in_lane, same_in_page}
 use Rattle.trace_effects.proofs.store_words.changes.WordChanges.add_lanes.Goals as goal
 use Rattle.trace_effects.proofs.store_words.changes.WordChanges.add_lanes.Goals.{then-not-has_same_lane, else-not-has_same_lane}
 
@@ -46,3 +45,12 @@ returns c =
     let e : 1024 * (c.args.page + 1) ≡ 1024 * c.args.page + 16 * c.loop-lane.lane = omega (arith, past, up) in
     same_summary c.loop-lane.self (word_changes_below reported old new (1024 * c.args.page + 16 * c.loop-lane.lane))
     (word_changes_below reported old new (1024 * (c.args.page + 1))) (ap (word_changes_below reported old new) e) c.loop-lane.invariant
+
+pub returns-then-has_same_page : goal.returns-then-has_same_page
+returns-then-has_same_page c =
+    let reported = is_shown_elsewhere c.args.has_error in
+    let old = bytes_of c.args.before.now in
+    let new = bytes_of c.args.after.now in
+    same_summary c.args.self.now (word_changes_below reported old new (1024 * c.args.page)) (word_changes_below reported old new (1024 * (c.args.page + 1)))
+    (page_passed reported old new c.args.page (same_in_page old new c.args.page c.args.old.now c.args.new.now c.requires.old c.requires.new
+    (c.has_same_page.ensures c.if-has_same_page.true))) c.requires.summary
