@@ -64,6 +64,8 @@ EDITOR = (
     ("-data-evaluate-expression list->next->value", ('value="42"',)),
     ("-break-delete 1", ("^done",)),
     ("-exec-continue", ('reason="exited-normally"',)),
+    # the end is an end: no thread begins anew
+    ("-thread-info", ("^done,threads=[]",)),
 )
 
 
@@ -281,7 +283,7 @@ def try_editor(room: str, program: str) -> bool:
     with listening(room, f"{program} {made}.bin") as port:
         client = Client(room, "--interpreter=mi3", f"{made}.elf")
         good = True
-        for line, wanted in ((f"-target-select remote {port.address}", ('func="_start"',)), *EDITOR):
+        for line, wanted in ((f"-target-select extended-remote {port.address}", ('func="_start"',)), *EDITOR):
             client.send(line)
             text = client.until(*(it.encode() for it in wanted), seconds=30)
             if not all(it in text for it in wanted):

@@ -47,10 +47,11 @@ PROGRAMS = {
     "stay": ("list", ["O0", "O1"]),
     "sums": ("sums", ["O0"]),
     "watch": ("list", ["O0"]),
+    "watch-lean": ("list", ["O1"]),
     "writes": ("list", ["O0"]),
 }
 # the sessions in which the program can be run again, and those in whose folder another build of it lies
-EXTENDED = ("again", "load-alone", "loaded", "rebuilt", "script-again")
+EXTENDED = ("again", "load-alone", "loaded", "rebuilt", "script-again", "signalled")
 REBUILT = ("loaded", "rebuilt")
 OTHER = ("other", ("300", "302"))
 # the blocks of a session's script whose labels and lines GDB gets, the first from the start
@@ -61,7 +62,7 @@ WORDS = {"slow": " --budget 1000000000", "stay": " --stay"}
 COUNTER = ("counter.s", "Counter.elf")
 LIBRARIES = {"back-modules": COUNTER, "libraries": COUNTER, "loads": COUNTER, "tidied": COUNTER}
 # the sessions on the machine of another one's script
-SCRIPTS = {"back-modules": "loads"}
+SCRIPTS = {"back-modules": "loads", "signalled": "halted"}
 # lines that are left out: with no program GDB warns that it has none, and of a module that it has no symbols
 UNTOLD = ("warning: No exec", "determining exec", "Transfer rate: ", "warning: remote target does not support file")
 UNTOLD += ("warning: Could not load shared library", 'Do you need "set solib-search-path"')

@@ -6,5 +6,7 @@ info sharedlibrary
 continue
 info sharedlibrary
 x/2i $pc
+monitor WHERE
+print $r0
 delete
 continue
