@@ -11,7 +11,7 @@ import signal
 import socket
 import subprocess
 import time
-from collections.abc import Iterator
+from collections.abc import Iterator, Sequence
 from contextlib import contextmanager
 from dataclasses import dataclass
 
@@ -113,8 +113,8 @@ def read(path: str) -> str:
 class Client:
     """A GDB that takes lines one by one, and stays while others come and go."""
 
-    def __init__(self, room: str, *words: str) -> None:
-        command = [GDB, "-q", *SETTINGS, *words]
+    def __init__(self, room: str, *words: str, command: Sequence[str] = ()) -> None:
+        command = command or [GDB, "-q", *SETTINGS, *words]
         self.process = subprocess.Popen(
             command, cwd=room, stdin=subprocess.PIPE, stdout=subprocess.PIPE, stderr=subprocess.STDOUT, bufsize=0
         )

@@ -19,6 +19,7 @@ PACKAGES = {
     GDB: "gdb-multiarch",
     "arm-none-eabi-gcc": "gcc-arm-none-eabi",
     "arm-none-eabi-as": "binutils-arm-none-eabi",
+    "make": "make",
     "socat": "socat",
     "tmux": "tmux",
 }
