@@ -2,9 +2,9 @@
 `(gdb) ..` must be among what GDB prints to it, in its order, blanks as one. The settings for an editor are tried by the
 machine interface. tools/try_gdb calls it.
 
-A block of a page is a number of lines that stand indented. Where it has no line for GDB its lines are the shell's. Where
-it has some, those before them are the shell's, but for the one that starts GDB. GDB goes on up to the next one that is
-started, and to the section's end."""
+A block of a page is a number of lines that stand indented. Where it has no line for GDB its lines are the shell's.
+Where it has some, those before them are the shell's, but for the one that starts GDB. GDB goes on up to the next one
+that is started, and to the section's end."""
 from __future__ import annotations
 
 import json

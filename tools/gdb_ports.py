@@ -192,10 +192,10 @@ def logged(room: str, wanted: list[str]) -> bool:
     return log == wanted
 
 
-def write_logger(room: str, program: str) -> str:
-    """A command that runs the program on SCRIPT, and writes to a file when it begins and ends."""
+def write_logger(room: str, program: str, text: str = SCRIPT) -> str:
+    """A command that runs the program on a script, and writes to a file when it begins and ends."""
     with open(f"{room}/port.script", "w", encoding="utf-8") as script:
-        script.write(SCRIPT)
+        script.write(text)
     with open(f"{room}/logged", "w", encoding="utf-8") as command:
         command.write(f"#!/bin/sh\necho begun >>machines\n{program} --script port.script\necho ended $? >>machines\n")
     os.chmod(f"{room}/logged", 0o755)
@@ -258,11 +258,29 @@ def try_same_port(room: str, program: str) -> bool:
     return True
 
 
+def try_leaving(room: str, program: str) -> bool:
+    """A machine ends where its client goes away without a word: while the program runs or is stepped, and in the midst
+    of a packet. Its last stop was a step, or none, so its status is 3."""
+    with listening(room, write_logger(room, program, ENDLESS), ",fork") as port:
+        ended: list[str] = []
+        for line in ("continue", "while 1\nstepi\nend"):
+            client = Client(room, "-ex", f"target remote {port.address}")
+            client.until(b"0x00008000 in ?? ()")
+            client.send(line)
+            time.sleep(1)
+            client.end()
+            ended += ["begun", "ended 3"]
+            if not logged(room, ended):
+                return False
+        with socket.create_connection(("127.0.0.1", port.number)) as silent:
+            silent.sendall(b"$vCont;c")
+            time.sleep(0.2)
+        return logged(room, [*ended, "begun", "ended 3"])
+
+
 def try_interrupt(room: str, program: str) -> bool:
     """An endless loop, stopped by SIGINT to a GDB that reads no terminal, as an editor's button does."""
-    with open(f"{room}/endless.script", "w", encoding="utf-8") as script:
-        script.write(ENDLESS)
-    with listening(room, f"{program} --script endless.script") as port:
+    with listening(room, write_logger(room, program, ENDLESS)) as port:
         client = Client(room, "-ex", f"target remote {port.address}")
         client.send("continue")
         client.until(b"Continuing.")
@@ -300,7 +318,7 @@ def try_ports(room: str, program: str) -> tuple[int, int]:
         return 0, 0
     held = [(name, level) for name, level in OVER_PORTS if not lacking(*needed(name))]
     results = [try_session(room, name, level, program) for name, level in held]
-    results += [it(room, program) for it in (try_machines, try_same_port, try_interrupt)]
+    results += [it(room, program) for it in (try_machines, try_same_port, try_leaving, try_interrupt)]
     if len(held) < len(OVER_PORTS):
         others = {word for name, _ in OVER_PORTS for word in needed(name)}
         say_left_out(f"{len(OVER_PORTS) - len(held)} of the sessions over a port", *others)

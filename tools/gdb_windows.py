@@ -45,7 +45,7 @@ class Look:
     gone: tuple[str, ...] = ()
 
 
-# of SCRIPT: its second line is the first instruction, at &8000, and `again`, a place within `start`, the sixth, at &8014
+# of SCRIPT: its second line is the first instruction, at &8000; `again`, a place within `start`, is the sixth, at &8014
 AGAIN = "7 again MOV R0,#2 ; claims 20 bytes"
 SUBTRACTION, BRANCH = "0x8020 <start+32> subs r4, r4, #1", "0x8024 <start+36> bne 0x8014 <start+20>"
 OF_SCRIPT = (
@@ -61,7 +61,7 @@ OF_SCRIPT = (
     Look("layout regs", ("Register", "> 10 SUBS R4,R4,#1", "L10 PC: 0x8020")),
     Look(
         "stepi",
-        ("r0 0x2 2", "r1 0x9000 36864", "r2 0x9014 36884", "r3 0x14 20", "r4 0x2 2", "> 11 BNE again", "L11 PC: 0x8024"),
+        ("r0 0x2 2", "r1 0x9000 36864", "r2 0x9014 36884", "r3 0x14 20", "r4 0x2 2", "> 11 BNE again", "PC: 0x8024"),
     ),
     Look("reverse-stepi", ("r4 0x3 3", "> 10 SUBS R4,R4,#1", "L10 PC: 0x8020")),
     Look("layout asm", (f"> {SUBTRACTION}", BRANCH, "In: start L10 PC: 0x8020")),
@@ -82,7 +82,7 @@ OF_LIST = (
     Look("continue", ("31 static void insert(", f"B+> {INSERTION}", "In: insert L33 PC: 0x81a8")),
     Look(
         "monitor HEAP &8390",
-        (f"B+> {INSERTION}", "heap 00008390 base 64 end 512", "live 000083A0 16", "live 000083B0 16", "live 000083C0 16"),
+        (f"B+> {INSERTION}", "heap 00008390 base 64 end 512", *(f"live 000083{it}0 16" for it in "ABC")),
     ),
     Look("layout regs", ("Register", f"B+> {INSERTION}")),
     Look("next", ("> 34 place = &(*place)->next;", "In: insert L34 PC:")),

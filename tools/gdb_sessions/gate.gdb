@@ -14,4 +14,7 @@ print $sp
 delete
 next
 bt
+finish
+next
+print $r0
 continue
