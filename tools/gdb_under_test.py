@@ -65,8 +65,14 @@ LIBRARIES = {"back-modules": COUNTER, "libraries": COUNTER, "loads": COUNTER, "t
 # the sessions on the machine of another one's script
 SCRIPTS = {"back-modules": "loads", "signalled": "halted"}
 # lines that are left out: with no program GDB warns that it has none, and of a module that it has no symbols
-UNTOLD = ("warning: No exec", "determining exec", "Transfer rate: ", "warning: remote target does not support file")
-UNTOLD += ("warning: Could not load shared library", 'Do you need "set solib-search-path"')
+UNTOLD = (
+    "warning: No exec",
+    "determining exec",
+    "Transfer rate: ",
+    "warning: remote target does not support file",
+    "warning: Could not load shared library",
+    'Do you need "set solib-search-path"',
+)
 
 
 @dataclass(frozen=True)
@@ -160,8 +166,9 @@ def tidied(text: str) -> str:
 def said(room: str, connection: str, script: str, elf: tuple[str, ...] = ()) -> str:
     """What GDB prints in a session: how it is connected is what stands behind its word `target`."""
     command = [GDB, *SETTINGS, "-batch", "-ex", f"target {connection}", "-x", script, *elf]
-    pipes = {"stdin": subprocess.DEVNULL, "stdout": subprocess.PIPE, "stderr": subprocess.STDOUT}
-    return tidied(subprocess.run(command, cwd=room, errors="replace", timeout=300, check=False, **pipes).stdout)
+    out, both = subprocess.PIPE, subprocess.STDOUT
+    ran = subprocess.run(command, cwd=room, stdin=subprocess.DEVNULL, stdout=out, stderr=both, timeout=300, check=False)
+    return tidied(ran.stdout.decode(errors="replace"))
 
 
 def kept_file(name: str, level: str | None) -> pathlib.Path:
