@@ -64,8 +64,11 @@ EDITOR = (
     ("-data-evaluate-expression list->next->value", ('value="42"',)),
     ("-break-delete 1", ("^done",)),
     ("-exec-continue", ('reason="exited-normally"',)),
-    # the end is an end: no thread begins anew
+    # the end is an end: no thread begins anew, until the program is run again, whose first value is 42
     ("-thread-info", ("^done,threads=[]",)),
+    ("-break-insert insert", ('number="2"',)),
+    ("-exec-run", ('reason="breakpoint-hit"', 'func="insert"', '{name="value",value="42"}')),
+    ("-exec-step-instruction --reverse", ('reason="end-stepping-range"', 'func="insert"')),
 )
 
 
@@ -295,6 +298,22 @@ def try_interrupt(room: str, program: str) -> bool:
     return good
 
 
+def try_button(room: str, program: str) -> bool:
+    """The same loop, stopped by a command of the machine interface."""
+    with listening(room, write_logger(room, program, ENDLESS)) as port:
+        client = Client(room, "--interpreter=mi3", "-ex", "set mi-async on", "-ex", f"target remote {port.address}")
+        client.send("-exec-continue")
+        client.until(b"*running")
+        time.sleep(1)
+        client.send("-exec-interrupt")
+        text = client.until(b"*stopped", b'signal-name="SIGINT"', seconds=30)
+        client.end()
+    good = 'signal-name="SIGINT"' in text
+    if not good:
+        print(f"try_gdb: -exec-interrupt didn't stop a loop over a port; GDB said\n{text}")
+    return good
+
+
 def try_editor(room: str, program: str) -> bool:
     """The machine interface over a port, as an editor speaks it."""
     made = compiled(room, "list", "O0")
@@ -318,7 +337,7 @@ def try_ports(room: str, program: str) -> tuple[int, int]:
         return 0, 0
     held = [(name, level) for name, level in OVER_PORTS if not lacking(*needed(name))]
     results = [try_session(room, name, level, program) for name, level in held]
-    results += [it(room, program) for it in (try_machines, try_same_port, try_leaving, try_interrupt)]
+    results += [it(room, program) for it in (try_machines, try_same_port, try_leaving, try_interrupt, try_button)]
     if len(held) < len(OVER_PORTS):
         others = {word for name, _ in OVER_PORTS for word in needed(name)}
         say_left_out(f"{len(OVER_PORTS) - len(held)} of the sessions over a port", *others)
