@@ -45,6 +45,7 @@ PROGRAMS = {
     "refused": ("list", ["O0"]),
     "refused-place": ("list", ["O0"]),
     "refused-read": ("list", ["O0"]),
+    "returned": ("sums", ["O0"]),
     "stay": ("list", ["O0", "O1"]),
     "sums": ("sums", ["O0"]),
     "watch": ("list", ["O0"]),
@@ -63,7 +64,7 @@ WORDS = {"slow": " --budget 1000000000", "stay": " --stay"}
 COUNTER = ("counter.s", "Counter.elf")
 LIBRARIES = {"back-modules": COUNTER, "libraries": COUNTER, "loads": COUNTER, "tidied": COUNTER}
 # the sessions on the machine of another one's script
-SCRIPTS = {"back-modules": "loads", "signalled": "halted"}
+SCRIPTS = {"back-modules": "loads", "jumped": "halted", "signalled": "halted"}
 # lines that are left out: with no program GDB warns that it has none, and of a module that it has no symbols
 UNTOLD = (
     "warning: No exec",

@@ -1,0 +1,2 @@
+continue
+jump *0x8008

@@ -1,0 +1,9 @@
+break twice
+continue
+return 100
+frame
+next
+print total
+delete
+call twice(3)
+continue
