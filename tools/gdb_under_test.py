@@ -63,8 +63,10 @@ WORDS = {"slow": " --budget 1000000000", "stay": " --stay"}
 # the sessions that have a module's symbols: the source for GNU as, and the file in which GDB looks for them
 COUNTER = ("counter.s", "Counter.elf")
 LIBRARIES = {"back-modules": COUNTER, "libraries": COUNTER, "loads": COUNTER, "tidied": COUNTER}
+# a session that has the symbols of a module's block in that file
+TITLED = {"titled": ("counter", "Counter.elf")}
 # the sessions on the machine of another one's script
-SCRIPTS = {"back-modules": "loads", "jumped": "halted", "signalled": "halted"}
+SCRIPTS = {"back-modules": "loads", "jumped": "halted", "signalled": "halted", "titled": "libraries"}
 # lines that are left out: with no program GDB warns that it has none, and of a module that it has no symbols
 UNTOLD = (
     "warning: No exec",
@@ -116,9 +118,9 @@ def compiled(room: str, name: str, level: str) -> str:
     return made
 
 
-def write_symbols(room: str, script: str, block: str) -> None:
+def write_symbols(room: str, script: str, block: str, made: str = "") -> None:
     """Writes the ELF file of a block of a script, by the launcher of this folder."""
-    with open(f"{room}/{block}.elf", "wb") as elf:
+    with open(f"{room}/{made or f'{block}.elf'}", "wb") as elf:
         subprocess.run([f"{ROOT}/rosm_symbols", script, block], cwd=room, stdout=elf, check=True)
 
 
@@ -145,6 +147,8 @@ def prepared(room: str, name: str, level: str | None, program: str) -> Prepared:
         write_symbols(room, f"{name}.script", block)
     if name in LIBRARIES:
         assembled(room, *LIBRARIES[name])
+    if name in TITLED:
+        write_symbols(room, f"{name}.script", *TITLED[name])
     if name == "gate" and not os.path.islink(f"{room}/gdb_frames.py"):
         os.symlink(f"{ROOT}/python/gdb_frames.py", f"{room}/gdb_frames.py")
     command = f"{program}{WORDS.get(name, '')} --script {name}.script"
@@ -153,8 +157,9 @@ def prepared(room: str, name: str, level: str | None, program: str) -> Prepared:
 
 def cleared(room: str, name: str) -> None:
     """Takes away the file of a session that another one would find."""
-    if name in LIBRARIES:
-        os.remove(f"{room}/{LIBRARIES[name][1]}")
+    for it in (LIBRARIES, TITLED):
+        if name in it:
+            os.remove(f"{room}/{it[name][1]}")
 
 
 def tidied(text: str) -> str:
