@@ -6,10 +6,10 @@ use Rattle.profile.specs.declared.fault.Fault.{Fault}
 use Rattle.profile.specs.declared.stop.Stop.{Stop}
 use Rattle.profile.specs.declared.stop.Stop.TheVariants as stop
 
--- `halted at &8004 by DataUnmapped; RESET wakes it`
+-- `halted at &8004 by DataUnmapped; RESET or BACK wakes it`
 abbrev pub halted_by_text : ℕ → List ℕ → List ℕ
 halted_by_text pc name =
-    codes "halted at &" ++ (hex_number pc ++ (codes " by " ++ (name ++ codes "; RESET wakes it\n")))
+    codes "halted at &" ++ (hex_number pc ++ (codes " by " ++ (name ++ codes "; RESET or BACK wakes it\n")))
 
 abbrev pub halted_at_text : Fault → ℕ → List ℕ
 halted_at_text fault pc = halted_by_text pc (fault_name fault)

@@ -16,7 +16,7 @@ pub fn halting_fault(stop: Option<Stop>) -> Option<Fault>
     }
 }
 
-/// Writes `halted at &8004 by DataUnmapped; RESET wakes it`.
+/// Writes `halted at &8004 by DataUnmapped; RESET or BACK wakes it`.
 pub fn push_halted<W: Sink>(sink: &mut W, fault: Fault, address: u32) -> Result<(), WriteFault>
     ensures { Writes W.contents W.has_failed sink.old sink.new result (halted_at_text fault address) }
 {
@@ -34,7 +34,7 @@ fn push_halted_by<W: Sink>(sink: &mut W, address: u32, name: &[u8]) -> Result<()
             HexText::number(address).as_slice(),
             b" by ".as_slice(),
             name,
-            b"; RESET wakes it\n".as_slice(),
+            b"; RESET or BACK wakes it\n".as_slice(),
         ],
     )
 }

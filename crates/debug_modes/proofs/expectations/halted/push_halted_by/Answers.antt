@@ -16,7 +16,7 @@ returns g c =
     let is : c.as_slice.result.now ++ (c.as_slice-2.result.now ++ (c.as_slice-3.result.now ++ (c.args.name.now ++ (c.as_slice-4.result.now ++ []))))
     ≡ halted_by_text c.args.address c.args.name.now =
     five_parts c.as_slice.result.now c.as_slice-2.result.now c.as_slice-3.result.now c.args.name.now c.as_slice-4.result.now
-    (codes "halted at &") (hex_number c.args.address) (codes " by ") (codes "; RESET wakes it\n")
+    (codes "halted at &") (hex_number c.args.address) (codes " by ") (codes "; RESET or BACK wakes it\n")
     c.as_slice.ensures (c.as_slice-2.ensures ∙ c.number.ensures) c.as_slice-3.ensures c.as_slice-4.ensures in
     record {
       text = subst (λ (t : List ℕ). OnOk c.push_parts.result (Appends (g.W.Sink.contents c.args.sink.now) (g.W.Sink.contents c.push_parts.new.sink) t)) is
