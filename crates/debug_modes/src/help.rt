@@ -27,6 +27,7 @@ lines of a debugging script:
   STEP                                       STEP 1
   TRACE LAST n                               RUN, of which the last n steps are shown
   FINISH, GOSUB a                            until a frame has gone back; a routine called
+  COMMAND name tail, SERVICE n Title         code of loaded modules is entered
   PUT name a                                 an image's bytes to an address
   STUB n R0 v .., UNSTUB n                   a SWI that the machine doesn't have
   WATCH a, UNWATCH a                         a run ends where the word changes
