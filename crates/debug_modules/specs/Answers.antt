@@ -1,0 +1,121 @@
+-- What lines are answered that enter the code of modules, and what they leave.
+use Rattle.std.specs.Prelude.{◌≡◌, ℕ, ◌&&◌, ◌++◌, List, Option, Some, None, Result, Ok, Err, if◌then◌else◌}
+use Rattle.std.specs.Option.{option_map}
+use Rattle.profile.specs.FaultNames.{fault_name}
+use Rattle.profile.specs.declared.fault.Fault.{Fault}
+use Rattle.command_shell.specs.Answers.{refused_text}
+use Rattle.command_shell.specs.Memory.{script_with_budget}
+use Rattle.command_shell.specs.State.{ScriptState}
+use Rattle.debug_history.specs.Noted.{has_returned, past_with_deed}
+use Rattle.debug_history.specs.Past.{PastState}
+use Rattle.debug_history.specs.declared.act.PastDeed.TheVariants.{Bytes}
+use Rattle.debug_labels.specs.Labels.{ImageLabels}
+use Rattle.debug_modes.specs.declared.modes.DebugModes.{DebugModes}
+use Rattle.debug_modes.specs.expectations.Why.{why_text}
+use Rattle.debug_tables.specs.byte_writes.Put.{script_after_put}
+use Rattle.debug_modules.specs.Entering.{code_entered}
+use Rattle.debug_modules.specs.Plans.{command_plan, tail_address, tail_bytes}
+use Rattle.debug_modules.specs.Requests.{Command, ModuleAsked, module_request}
+use Rattle.debug_modules.specs.Taking.{StepsTaken}
+use Rattle.debug_modules.specs.declared.answering.ModuleAnswer.{ModuleAnswer}
+use Rattle.debug_modules.specs.declared.answering.ModuleAnswer.TheVariants.{Shown, Entered}
+use Rattle.debug_modules.specs.declared.entering.ModuleEntry.{ModuleEntry}
+
+-- what is shown: a text where nothing was done, or of steps what they left, what the guest printed, and the
+-- line's usual ending
+pub data ModuleShown : Type 0 where
+  Text : List ℕ → ModuleShown
+  Steps : List ℕ → List ℕ → List ℕ → ModuleShown
+
+abbrev pub shown_of : ModuleAnswer → ModuleShown
+shown_of (Shown text) = Text text.items
+shown_of (Entered a) = Steps a.text.items a.printed.items a.ending.items
+
+pub record ModuleAnswered : Type 0 where
+  pub script : ScriptState
+  pub modes : DebugModes
+  pub past : PastState
+  pub shown : ModuleShown
+
+-- a line that does nothing
+abbrev pub only_shown : DebugModes → ScriptState → PastState → List ℕ → ModuleAnswered
+only_shown m s p text = record { script = s; modes = m; past = p; shown = Text text }
+
+-- a line that took steps
+abbrev pub entered_so : StepsTaken → ModuleAnswered
+entered_so t = record {
+  script = t.script;
+  modes = t.modes;
+  past = t.past;
+  shown = Steps t.text t.printed t.ending;
+}
+
+-- COMMAND
+
+-- the error of code that has gone back with V set, as WHY shows it
+abbrev pub error_below : StepsTaken → StepsTaken
+error_below t =
+    if t.script.machine.cpu.psr.overflow && has_returned t.ending
+    then record t { ending = t.ending ++ why_text t.script.machine.cpu t.script.machine.store.bytes } else t
+
+-- its code is entered, with the whole budget
+abbrev pub command_called : DebugModes → List ImageLabels → ℕ → ScriptState → PastState → ℕ → ModuleEntry
+    → StepsTaken
+command_called m labels budget s p number e =
+    error_below (code_entered m labels (script_with_budget s budget) p number e)
+
+-- the tail is written to memory before that
+abbrev pub command_put_by : DebugModes → List ImageLabels → ℕ → ScriptState → PastState → ℕ → ModuleEntry
+    → List ℕ → Result ScriptState Fault → ModuleAnswered
+command_put_by m labels budget s p number e bytes (Ok now) =
+    entered_so (command_called m labels budget now (past_with_deed p number (Bytes tail_address bytes)) number e)
+command_put_by m labels budget s p number e bytes (Err fault) = only_shown m s p (refused_text (fault_name fault))
+
+abbrev pub command_put : DebugModes → List ImageLabels → ℕ → ScriptState → PastState → ℕ → ModuleEntry → List ℕ
+    → ModuleAnswered
+command_put m labels budget s p number e bytes =
+    command_put_by m labels budget s p number e bytes (script_after_put s tail_address bytes)
+
+abbrev pub command_by : DebugModes → List ImageLabels → ℕ → ScriptState → PastState → ℕ → List ℕ
+    → Result ModuleEntry (List ℕ) → ModuleAnswered
+command_by m labels budget s p number tail (Ok e) = command_put m labels budget s p number e (tail_bytes tail)
+command_by m labels budget s p number tail (Err text) = only_shown m s p text
+
+abbrev pub command_answered : DebugModes → List ImageLabels → ℕ → ScriptState → PastState → ℕ → List ℕ → List ℕ
+    → ModuleAnswered
+command_answered m labels budget s p number name tail =
+    command_by m labels budget s p number tail (command_plan s.machine name tail)
+
+-- ALL LINES
+
+abbrev pub module_answered : DebugModes → List ImageLabels → ℕ → ScriptState → PastState → ℕ → ModuleAsked
+    → ModuleAnswered
+module_answered m labels budget s p number (Command name tail) =
+    command_answered m labels budget s p number name tail
+
+-- what such a line is answered, and nothing of any other
+abbrev pub module_line_answered : DebugModes → List ImageLabels → ℕ → ScriptState → PastState → ℕ → List ℕ
+    → Option ModuleAnswered
+module_line_answered m labels budget s p number line =
+    option_map (module_answered m labels budget s p number) (module_request line)
+
+-- what a line leaves that may be such a line
+abbrev pub script_after_modules : ScriptState → Option ModuleAnswered → ScriptState
+script_after_modules s (Some a) = a.script
+script_after_modules s None = s
+
+abbrev pub modes_after_modules : DebugModes → Option ModuleAnswered → DebugModes
+modes_after_modules m (Some a) = a.modes
+modes_after_modules m None = m
+
+abbrev pub past_after_modules : PastState → Option ModuleAnswered → PastState
+past_after_modules p (Some a) = a.past
+past_after_modules p None = p
+
+-- a line left this
+pub record IsModuleAnswered (a : ModuleAnswered) (now : ScriptState) (modes : DebugModes) (past : PastState)
+    (shown : ModuleShown) : Type 0 where
+  pub script : now ≡ a.script
+  pub modes : modes ≡ a.modes
+  pub past : past ≡ a.past
+  pub shown : shown ≡ a.shown

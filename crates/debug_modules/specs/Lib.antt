@@ -1,0 +1,8 @@
+-- Lines that enter the code of loaded modules. Begin with Answers, over Tables, Commands and Entering.
+pub mod Answers
+pub mod Commands
+pub mod Entering
+pub mod Plans
+pub mod Requests
+pub mod Tables
+pub mod Taking

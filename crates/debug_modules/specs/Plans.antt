@@ -1,0 +1,92 @@
+-- What a line COMMAND is to do, before anything is done: the code of the command is to be entered, or there is a
+-- reason why not (RISC OS 3 Programmer's Reference Manual, volume 1, "*Commands and the CLI" and "Modules", "Help
+-- and command keyword table": byte 0 of the word behind the code is how many words there must be at least, and
+-- byte 2 how many there may be; error 220 has the table's text on the syntax). The names of the other reasons
+-- are this project's own.
+use Rattle.std.specs.Prelude.{ℕ, Bool, true, false, not, ◌+◌, ◌%◌, ◌/◌, ◌^◌, ◌==◌, ◌&&◌, ◌||◌, is_some, nat_lt, List, [], ◌∷◌, ◌++◌, length, map, codes, Option, Some, None, Result, Ok, Err, unwrap_or, if◌then◌else◌}
+use Rattle.std.specs.Int.{is_in_range}
+use Rattle.profile.specs.Sums.{address_further}
+use Rattle.address_map.specs.Bytes.{Bytes}
+use Rattle.command_shell.specs.Answers.{refused_text}
+use Rattle.command_shell.specs.MachineState.{MachineState}
+use Rattle.swi_dispatch_answers.specs.Strings.{ends, text_at}
+use Rattle.swi_dispatch_answers.specs.declared.strings.TextEnd.TheVariants as end
+use Rattle.debug_modules.specs.Commands.{command_found}
+use Rattle.debug_modules.specs.declared.commands.CommandSearch.{CommandSearch}
+use Rattle.debug_modules.specs.declared.commands.CommandSearch.TheVariants.{Outside, Found}
+use Rattle.debug_modules.specs.declared.commands.FoundCommand.{FoundCommand}
+use Rattle.debug_modules.specs.declared.entering.ModuleEntry.{ModuleEntry}
+use Rattle.debug_modules.specs.declared.plans.CommandPlan.{CommandPlan}
+use Rattle.debug_modules.specs.declared.plans.CommandPlan.TheVariants.{Refused, Ready}
+
+-- where a tail stands, and how it ends
+abbrev pub tail_address : ℕ
+tail_address = 0x01C02300
+
+abbrev pub tail_bytes : List ℕ → List ℕ
+tail_bytes tail = tail ++ 13 ∷ []
+
+-- How many words begin in a text, where its front is in a word or not, and between double quotes (34) or not. A
+-- space (32) ends a word, but for one between quotes.
+abbrev pub parts_words : Bool → ℕ → Bool
+parts_words in_quotes byte = byte == 32 && not in_quotes
+
+abbrev pub quotes_behind : Bool → ℕ → Bool
+quotes_behind in_quotes byte = if byte == 34 then not in_quotes else in_quotes
+
+unfoldable pub words_in : Bool → Bool → List ℕ → ℕ
+words_in in_word in_quotes [] = 0
+words_in in_word in_quotes (byte ∷ rest) =
+    if parts_words in_quotes byte then words_in false in_quotes rest
+    else (if in_word then 0 else 1) + words_in true (quotes_behind in_quotes byte) rest
+
+-- where code at an offset of an image can be entered
+abbrev pub code_at : ℕ → ℕ → ℕ → Option ℕ
+code_at image len offset = let at = address_further image offset in
+    if nat_lt 0 offset && (nat_lt offset len && (at % 4 == 0 && nat_lt at (2 ^ 26))) then Some at else None
+
+-- the text on a command's syntax, empty where the table has none
+abbrev pub syntax_text : Bytes → FoundCommand → List ℕ
+syntax_text b f =
+    if f.entry.syntax == 0 || not (nat_lt f.entry.syntax f.len) then []
+    else unwrap_or (text_at (ends end.Zero) 255 b (address_further f.image f.entry.syntax)) []
+
+-- from a space (32) to `~` (126), else `.` (46)
+abbrev pub shown_character : ℕ → ℕ
+shown_character byte = if is_in_range 32 126 byte then byte else 46
+
+-- `error 220 &DC Syntax: *PotSet <pot> <seeds>`
+abbrev pub syntax_line : Bytes → FoundCommand → List ℕ
+syntax_line b f = codes "error 220 &DC " ++ (map shown_character (syntax_text b f) ++ codes "\n")
+
+-- R0: the tail; R1: how many words it has; R12: the private word
+abbrev pub entry_of_command : FoundCommand → ℕ → Option ℕ → Result ModuleEntry (List ℕ)
+entry_of_command f count (Some code) = Ok (record { code = code; r0 = tail_address; r1 = count; r12 = f.word })
+entry_of_command f count None = Err (refused_text (codes "BadTable"))
+
+abbrev pub is_outside : ℕ → ℕ → Bool
+is_outside limits count = nat_lt count (limits % 256) || nat_lt (limits / 65536 % 256) count
+
+abbrev pub plan_of_count : Bytes → FoundCommand → ℕ → Result ModuleEntry (List ℕ)
+plan_of_count b f count =
+    if is_outside f.entry.limits count then Err (syntax_line b f)
+    else entry_of_command f count (code_at f.image f.len f.entry.code)
+
+abbrev pub found_plan : Bytes → FoundCommand → List ℕ → Result ModuleEntry (List ℕ)
+found_plan b f tail = plan_of_count b f (words_in false false tail)
+
+abbrev pub plan_by : Bytes → List ℕ → Option CommandSearch → Result ModuleEntry (List ℕ)
+plan_by b tail (Some (Found f)) = found_plan b f tail
+plan_by b tail (Some Outside) = Err (refused_text (codes "BadTable"))
+plan_by b tail None = Err (refused_text (codes "NoCommand"))
+
+abbrev pub command_plan : MachineState → List ℕ → List ℕ → Result ModuleEntry (List ℕ)
+command_plan s name tail =
+    if is_some s.halt then Err (refused_text (codes "Halted")) else (
+    if nat_lt 255 (length tail) then Err (refused_text (codes "TailTooLong")) else
+    plan_by s.store.bytes tail (command_found s.store.bytes s.tables.modules name))
+
+-- a plan as the code has it
+abbrev pub plan_of : CommandPlan → Result ModuleEntry (List ℕ)
+plan_of (Refused text) = Err text.items
+plan_of (Ready e) = Ok e

@@ -1,0 +1,34 @@
+-- The lines that have to do with the code of modules.
+use Rattle.std.specs.Prelude.{ℕ, ◌+◌, ◌==◌, List, [], drop, codes, Option, Some, None}
+use Rattle.std.specs.Option.{option_map}
+use Rattle.std.specs.List.{position}
+use Rattle.command_shell_lines.specs.debug_words.Texts.{front_before, text_behind}
+use Rattle.debug_modules.specs.declared.requests.ModuleRequest.{ModuleRequest}
+use Rattle.debug_modules.specs.declared.requests.ModuleRequest.TheVariants as line
+
+pub data ModuleAsked : Type 0 where
+  -- a command's name, and what stands behind it
+  Command : List ℕ → List ℕ → ModuleAsked
+
+-- the lines that the code tells apart, as what they ask for
+abbrev pub module_request_of : ModuleRequest → ModuleAsked
+module_request_of (line.Command name tail) = Command name.now tail.now
+
+-- the word before the first space (32), and what stands behind that
+abbrev pub behind_place : Option ℕ → List ℕ → List ℕ
+behind_place (Some place) text = drop (place + 1) text
+behind_place None text = []
+
+abbrev pub word_in_front : List ℕ → List ℕ
+word_in_front text = front_before (position (λ b. b == 32) text) text
+
+abbrev pub word_behind : List ℕ → List ℕ
+word_behind text = behind_place (position (λ b. b == 32) text) text
+
+-- `COMMAND name tail`
+abbrev pub command_request : List ℕ → ModuleAsked
+command_request text = Command (word_in_front text) (word_behind text)
+
+-- what a tidy line asks for, if it has to do with the code of modules
+abbrev pub module_request : List ℕ → Option ModuleAsked
+module_request line = option_map command_request (text_behind (codes "COMMAND ") line)

@@ -1,0 +1,161 @@
+//! Lines that enter the code of modules are answered.
+
+ghost use Rattle.std.specs.Prelude.{◌≡◌, List, option_map, IfOk, OnOk};
+ghost use Rattle.command_shell.specs.Session.{script_state};
+ghost use Rattle.debug_modules.specs.Answers.{IsModuleAnswered, command_answered, command_called, command_put, error_below, module_line_answered, modes_after_modules, past_after_modules, script_after_modules, shown_of};
+ghost use Rattle.debug_modules.specs.Taking.{IsTaken};
+
+use crate::entering::{ModuleEntry, enter_code};
+use crate::plans::{CommandPlan, TAIL, command_plan, tail_bytes};
+use crate::requests::{ModuleRequest, module_request};
+use debug_history::{KeptText, Past, PastDeed, PastSetting, has_returned};
+use debug_labels::LabelTable;
+use debug_lines::DebugView;
+use debug_modes::{DebugModes, refused_line, view_text};
+use debug_runs::LineAnswer;
+use debug_tables::byte_writes::put_bytes;
+use debug_tables::run_meter::Session;
+use image_loader::Images;
+use std::alloc::AllocError;
+
+/// What such a line is answered.
+#[derive(Drop)]
+pub enum ModuleAnswer {
+    /// A text, where nothing was done.
+    Shown(Vec<u8>),
+    /// Of code that was entered, what its steps left.
+    Entered(LineAnswer),
+}
+
+/// Answers a tidy line where it enters the code of modules; any other is left.
+///
+/// # Errors
+///
+/// Where memory ran out; steps may have been taken then.
+pub fn answer_module_line(
+    setting: PastSetting,
+    session: &mut Session,
+    modes: &mut DebugModes,
+    past: &mut Past,
+    images: &Images,
+    labels: &LabelTable,
+    number: u64,
+    line: &[u8],
+) -> Result<Option<ModuleAnswer>, AllocError>
+    ensures script { let s = script_state session.old images.now in
+        OnOk result (script_state session.new images.now ≡ script_after_modules s
+        (module_line_answered modes.old labels.now setting.budget s past.old number line.now)) }
+    ensures modes { let s = script_state session.old images.now in
+        OnOk result (modes.new ≡ modes_after_modules modes.old
+        (module_line_answered modes.old labels.now setting.budget s past.old number line.now)) }
+    ensures past { let s = script_state session.old images.now in
+        OnOk result (past.new ≡ past_after_modules past.old
+        (module_line_answered modes.old labels.now setting.budget s past.old number line.now)) }
+    ensures shown { let s = script_state session.old images.now in
+        IfOk result (λ answer. option_map shown_of answer ≡ option_map (λ a. a.shown)
+        (module_line_answered modes.old labels.now setting.budget s past.old number line.now)) }
+{
+    match module_request(line) {
+        Some(ModuleRequest::Command(name, tail)) => {
+            let answer = answer_command(
+                setting, session, modes, past, images, labels, number, name, tail,
+            )?;
+            Ok(Some(answer))
+        }
+        None => Ok(None),
+    }
+}
+
+// COMMAND.
+fn answer_command(
+    setting: PastSetting,
+    session: &mut Session,
+    modes: &mut DebugModes,
+    past: &mut Past,
+    images: &Images,
+    labels: &LabelTable,
+    number: u64,
+    name: &[u8],
+    tail: &[u8],
+) -> Result<ModuleAnswer, AllocError>
+    ensures { let s = script_state session.old images.now in IfOk result (λ answer. IsModuleAnswered
+        (command_answered modes.old labels.now setting.budget s past.old number name.now tail.now)
+        (script_state session.new images.now) modes.new past.new (shown_of answer)) }
+{
+    match command_plan(setting.alloc, session.machine(), name, tail)? {
+        CommandPlan::Refused(text) => Ok(ModuleAnswer::Shown(text)),
+        CommandPlan::Ready(entry) => {
+            let bytes = tail_bytes(setting.alloc, tail)?;
+            put_tail(
+                setting,
+                session,
+                modes,
+                past,
+                images,
+                labels,
+                number,
+                entry,
+                bytes.as_slice(),
+            )
+        }
+    }
+}
+
+// Puts the tail where the code finds it, and enters that.
+fn put_tail(
+    setting: PastSetting,
+    session: &mut Session,
+    modes: &mut DebugModes,
+    past: &mut Past,
+    images: &Images,
+    labels: &LabelTable,
+    number: u64,
+    entry: ModuleEntry,
+    bytes: &[u8],
+) -> Result<ModuleAnswer, AllocError>
+    ensures { let s = script_state session.old images.now in IfOk result (λ answer. IsModuleAnswered
+        (command_put modes.old labels.now setting.budget s past.old number entry bytes.now)
+        (script_state session.new images.now) modes.new past.new (shown_of answer)) }
+{
+    let kept = KeptText::of(setting.alloc, bytes)?;
+    match put_bytes(session, TAIL, bytes) {
+        Ok(()) => {
+            past.put(number, PastDeed::Bytes(TAIL, kept))?;
+            let answer = call_command(
+                setting, session, modes, past, images, labels, number, entry,
+            )?;
+            Ok(ModuleAnswer::Entered(answer))
+        }
+        Err(fault) => {
+            let text = refused_line(setting.alloc, fault.name().as_bytes())?;
+            Ok(ModuleAnswer::Shown(text))
+        }
+    }
+}
+
+// Enters a command, with the whole budget; where its code has gone back with an error, that stands below.
+fn call_command(
+    setting: PastSetting,
+    session: &mut Session,
+    modes: &mut DebugModes,
+    past: &mut Past,
+    images: &Images,
+    labels: &LabelTable,
+    number: u64,
+    entry: ModuleEntry,
+) -> Result<LineAnswer, AllocError>
+    ensures { let s = script_state session.old images.now in IfOk result (λ answer. IsTaken
+        (command_called modes.old labels.now setting.budget s past.old number entry)
+        (script_state session.new images.now) modes.new past.new
+        answer.text.items answer.printed.items answer.ending.items) }
+{
+    let alloc = setting.alloc;
+    session.set_budget(setting.budget);
+    let mut answer = enter_code(alloc, session, modes, past, images, labels, number, entry)?;
+    let machine = session.machine();
+    if machine.cpu().psr().overflow && has_returned(answer.ending.as_slice()) {
+        let error = view_text(alloc, labels, machine, DebugView::Why)?;
+        answer.ending.extend_from_slice(error.as_slice())?;
+    }
+    Ok(answer)
+}

@@ -1,0 +1,55 @@
+//! The lines that have to do with the code of modules.
+
+ghost use Rattle.std.specs.Prelude.{◌≡◌, ◌==◌};
+ghost use Rattle.std.specs.List.{position};
+ghost use Rattle.std.specs.Option.{option_map};
+ghost use Rattle.debug_modules.specs.Requests.{command_request, module_request, module_request_of, word_behind, word_in_front};
+
+use command_shell_lines::debug_words::text_behind;
+
+/// What a line asks for that has to do with the code of modules.
+#[derive(Clone, Copy, Debug)]
+pub enum ModuleRequest<'a> {
+    /// `COMMAND name tail`: the command of that name, with what stands behind it.
+    Command(&'a [u8], &'a [u8]),
+}
+
+/// What a tidy line asks for, if it has to do with the code of modules.
+pub fn module_request(line: &[u8]) -> Option<ModuleRequest<'_>>
+    ensures { option_map module_request_of result ≡ module_request line.now }
+{
+    let text = text_behind(b"COMMAND ", line)?;
+    Some(command_request(text))
+}
+
+fn command_request(text: &[u8]) -> ModuleRequest<'_>
+    ensures { module_request_of result ≡ command_request text.now }
+{
+    ModuleRequest::Command(word_in_front(text), word_behind(text))
+}
+
+// The bytes before the first space.
+fn word_in_front(text: &[u8]) -> &[u8]
+    ensures { result.now ≡ word_in_front text.now }
+{
+    match space_in(text) {
+        Some(place) => &text[..place],
+        None => text,
+    }
+}
+
+// The bytes behind the first space.
+fn word_behind(text: &[u8]) -> &[u8]
+    ensures { result.now ≡ word_behind text.now }
+{
+    match space_in(text) {
+        Some(place) => &text[place + 1..],
+        None => &[],
+    }
+}
+
+fn space_in(text: &[u8]) -> Option<usize>
+    ensures { result ≡ position (λ b. b == 32) text.now }
+{
+    text.iter().position(|byte| *byte == b' ')
+}
