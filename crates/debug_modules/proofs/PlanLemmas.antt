@@ -1,11 +1,11 @@
 -- How the bytes of a text go on.
-use Rattle.std.proofs.Common.{◌≡◌, ℕ, ◌+◌, ◌<◌, ◌≤◌, Bool, true, false, List, [], ◌∷◌, ◌++◌, length, drop, get_or, refl, ap, ◌∙◌, arith, map, if◌then◌else◌}
+use Rattle.std.proofs.Common.{◌≡◌, ℕ, ◌+◌, ◌<◌, ◌≤◌, Bool, List, [], ◌∷◌, ◌++◌, length, drop, get_or, refl, ap, ◌∙◌, sym, append_assoc, map}
+use Rattle.std.specs.Prelude.{not}
 use Rattle.std.proofs.lemmas.List.{drop_more, drop_all}
-use Rattle.debug_modules.specs.Plans.{parts_words, quotes_behind, words_in}
+use Rattle.debug_modules.specs.Plans.{parts_words, quotes_behind, words_begun, words_in}
 
 words_cons : (in_word in_quotes : Bool) (byte : ℕ) (rest : List ℕ) → words_in in_word in_quotes (byte ∷ rest)
-    ≡ (if parts_words in_quotes byte then words_in false in_quotes rest
-    else (if in_word then 0 else 1) + words_in true (quotes_behind in_quotes byte) rest)
+    ≡ words_begun in_word in_quotes byte + words_in (not (parts_words in_quotes byte)) (quotes_behind in_quotes byte) rest
 unfolding words_in
 words_cons in_word in_quotes byte rest = refl
 
@@ -15,14 +15,26 @@ no_words in_word in_quotes = refl
 
 -- from a byte on
 pub words_next : (in_word in_quotes : Bool) (tail : List ℕ) (i : ℕ) → i < length tail → words_in in_word in_quotes (drop i tail)
-    ≡ (if parts_words in_quotes (get_or tail i 0) then words_in false in_quotes (drop (i + 1) tail)
-    else (if in_word then 0 else 1) + words_in true (quotes_behind in_quotes (get_or tail i 0)) (drop (i + 1) tail))
+    ≡ words_begun in_word in_quotes (get_or tail i 0)
+    + words_in (not (parts_words in_quotes (get_or tail i 0))) (quotes_behind in_quotes (get_or tail i 0)) (drop (i + 1) tail)
 words_next in_word in_quotes tail i below =
     ap (λ (xs : List ℕ). words_in in_word in_quotes xs) (drop_more tail i 0 below)
     ∙ words_cons in_word in_quotes (get_or tail i 0) (drop (i + 1) tail)
 
 pub words_past : (in_word in_quotes : Bool) (tail : List ℕ) (i : ℕ) → length tail ≤ i → words_in in_word in_quotes (drop i tail) ≡ 0
 words_past in_word in_quotes tail i all =
-    ap (λ (xs : List ℕ). words_in in_word in_quotes xs) (drop_all tail i all) ∙ no_words in_word in_quotes
+    ap (λ (xs : List ℕ). words_in in_word in_quotes xs) (drop_all i tail all) ∙ no_words in_word in_quotes
 
 pub ruleset word_steps = (words_next, words_past)
+
+-- a text that is shown byte by byte
+pub shown_next : (f : ℕ → ℕ) (line all : List ℕ) (text : List ℕ) (i : ℕ) → i < length text
+    → line ++ map f (drop i text) ≡ all → (line ++ f (get_or text i 0) ∷ []) ++ map f (drop (i + 1) text) ≡ all
+shown_next f line all text i below before =
+    append_assoc line (f (get_or text i 0) ∷ []) (map f (drop (i + 1) text))
+    ∙ sym (ap (λ (xs : List ℕ). line ++ map f xs) (drop_more text i 0 below)) ∙ before
+
+pub shown_whole : (f : ℕ → ℕ) (line all : List ℕ) (text : List ℕ) (i : ℕ) → length text ≤ i
+    → line ++ map f (drop i text) ≡ all → line ++ [] ≡ all
+shown_whole f line all text i past before =
+    sym (ap (λ (xs : List ℕ). line ++ map f xs) (drop_all i text past)) ∙ before

@@ -26,19 +26,22 @@ tail_address = 0x01C02300
 abbrev pub tail_bytes : List ℕ → List ℕ
 tail_bytes tail = tail ++ 13 ∷ []
 
--- How many words begin in a text, where its front is in a word or not, and between double quotes (34) or not. A
--- space (32) ends a word, but for one between quotes.
+-- Words behind a command's name: a space (32) parts them, but for one between double quotes (34).
 abbrev pub parts_words : Bool → ℕ → Bool
 parts_words in_quotes byte = byte == 32 && not in_quotes
 
 abbrev pub quotes_behind : Bool → ℕ → Bool
 quotes_behind in_quotes byte = if byte == 34 then not in_quotes else in_quotes
 
+-- 1 where a word begins at a byte
+abbrev pub words_begun : Bool → Bool → ℕ → ℕ
+words_begun in_word in_quotes byte = if in_word || parts_words in_quotes byte then 0 else 1
+
+-- how many begin in a text that goes on within a word or not, and between quotes or not
 unfoldable pub words_in : Bool → Bool → List ℕ → ℕ
 words_in in_word in_quotes [] = 0
-words_in in_word in_quotes (byte ∷ rest) =
-    if parts_words in_quotes byte then words_in false in_quotes rest
-    else (if in_word then 0 else 1) + words_in true (quotes_behind in_quotes byte) rest
+words_in in_word in_quotes (byte ∷ rest) = words_begun in_word in_quotes byte
+    + words_in (not (parts_words in_quotes byte)) (quotes_behind in_quotes byte) rest
 
 -- where code at an offset of an image can be entered
 abbrev pub code_at : ℕ → ℕ → ℕ → Option ℕ

@@ -8,7 +8,7 @@ ghost use Rattle.debug_modules.specs.Taking.{IsTaken};
 use crate::entering::{ModuleEntry, enter_code};
 use crate::plans::{CommandPlan, TAIL, command_plan, tail_bytes};
 use crate::requests::{ModuleRequest, module_request};
-use debug_history::{KeptText, Past, PastDeed, PastSetting, has_returned};
+use debug_history::{KeptText, Past, PastDeed, has_returned};
 use debug_labels::LabelTable;
 use debug_lines::DebugView;
 use debug_modes::{DebugModes, refused_line, view_text};
@@ -16,7 +16,7 @@ use debug_runs::LineAnswer;
 use debug_tables::byte_writes::put_bytes;
 use debug_tables::run_meter::Session;
 use image_loader::Images;
-use std::alloc::AllocError;
+use std::alloc::{AllocError, Global};
 
 /// What such a line is answered.
 #[derive(Drop)]
@@ -33,7 +33,8 @@ pub enum ModuleAnswer {
 ///
 /// Where memory ran out; steps may have been taken then.
 pub fn answer_module_line(
-    setting: PastSetting,
+    alloc: Global,
+    budget: u64,
     session: &mut Session,
     modes: &mut DebugModes,
     past: &mut Past,
@@ -44,21 +45,21 @@ pub fn answer_module_line(
 ) -> Result<Option<ModuleAnswer>, AllocError>
     ensures script { let s = script_state session.old images.now in
         OnOk result (script_state session.new images.now ≡ script_after_modules s
-        (module_line_answered modes.old labels.now setting.budget s past.old number line.now)) }
+        (module_line_answered modes.old labels.now budget s past.old number line.now)) }
     ensures modes { let s = script_state session.old images.now in
         OnOk result (modes.new ≡ modes_after_modules modes.old
-        (module_line_answered modes.old labels.now setting.budget s past.old number line.now)) }
+        (module_line_answered modes.old labels.now budget s past.old number line.now)) }
     ensures past { let s = script_state session.old images.now in
         OnOk result (past.new ≡ past_after_modules past.old
-        (module_line_answered modes.old labels.now setting.budget s past.old number line.now)) }
+        (module_line_answered modes.old labels.now budget s past.old number line.now)) }
     ensures shown { let s = script_state session.old images.now in
         IfOk result (λ answer. option_map shown_of answer ≡ option_map (λ a. a.shown)
-        (module_line_answered modes.old labels.now setting.budget s past.old number line.now)) }
+        (module_line_answered modes.old labels.now budget s past.old number line.now)) }
 {
     match module_request(line) {
         Some(ModuleRequest::Command(name, tail)) => {
             let answer = answer_command(
-                setting, session, modes, past, images, labels, number, name, tail,
+                alloc, budget, session, modes, past, images, labels, number, name, tail,
             )?;
             Ok(Some(answer))
         }
@@ -68,7 +69,8 @@ pub fn answer_module_line(
 
 // COMMAND.
 fn answer_command(
-    setting: PastSetting,
+    alloc: Global,
+    budget: u64,
     session: &mut Session,
     modes: &mut DebugModes,
     past: &mut Past,
@@ -79,15 +81,16 @@ fn answer_command(
     tail: &[u8],
 ) -> Result<ModuleAnswer, AllocError>
     ensures { let s = script_state session.old images.now in IfOk result (λ answer. IsModuleAnswered
-        (command_answered modes.old labels.now setting.budget s past.old number name.now tail.now)
+        (command_answered modes.old labels.now budget s past.old number name.now tail.now)
         (script_state session.new images.now) modes.new past.new (shown_of answer)) }
 {
-    match command_plan(setting.alloc, session.machine(), name, tail)? {
+    match command_plan(alloc, session.machine(), name, tail)? {
         CommandPlan::Refused(text) => Ok(ModuleAnswer::Shown(text)),
         CommandPlan::Ready(entry) => {
-            let bytes = tail_bytes(setting.alloc, tail)?;
+            let bytes = tail_bytes(alloc, tail)?;
             put_tail(
-                setting,
+                alloc,
+                budget,
                 session,
                 modes,
                 past,
@@ -103,7 +106,8 @@ fn answer_command(
 
 // Puts the tail where the code finds it, and enters that.
 fn put_tail(
-    setting: PastSetting,
+    alloc: Global,
+    budget: u64,
     session: &mut Session,
     modes: &mut DebugModes,
     past: &mut Past,
@@ -114,20 +118,20 @@ fn put_tail(
     bytes: &[u8],
 ) -> Result<ModuleAnswer, AllocError>
     ensures { let s = script_state session.old images.now in IfOk result (λ answer. IsModuleAnswered
-        (command_put modes.old labels.now setting.budget s past.old number entry bytes.now)
+        (command_put modes.old labels.now budget s past.old number entry bytes.now)
         (script_state session.new images.now) modes.new past.new (shown_of answer)) }
 {
-    let kept = KeptText::of(setting.alloc, bytes)?;
+    let kept = KeptText::of(alloc, bytes)?;
     match put_bytes(session, TAIL, bytes) {
         Ok(()) => {
             past.put(number, PastDeed::Bytes(TAIL, kept))?;
             let answer = call_command(
-                setting, session, modes, past, images, labels, number, entry,
+                alloc, budget, session, modes, past, images, labels, number, entry,
             )?;
             Ok(ModuleAnswer::Entered(answer))
         }
         Err(fault) => {
-            let text = refused_line(setting.alloc, fault.name().as_bytes())?;
+            let text = refused_line(alloc, fault.name().as_bytes())?;
             Ok(ModuleAnswer::Shown(text))
         }
     }
@@ -135,7 +139,8 @@ fn put_tail(
 
 // Enters a command, with the whole budget; where its code has gone back with an error, that stands below.
 fn call_command(
-    setting: PastSetting,
+    alloc: Global,
+    budget: u64,
     session: &mut Session,
     modes: &mut DebugModes,
     past: &mut Past,
@@ -145,12 +150,11 @@ fn call_command(
     entry: ModuleEntry,
 ) -> Result<LineAnswer, AllocError>
     ensures { let s = script_state session.old images.now in IfOk result (λ answer. IsTaken
-        (command_called modes.old labels.now setting.budget s past.old number entry)
+        (command_called modes.old labels.now budget s past.old number entry)
         (script_state session.new images.now) modes.new past.new
         answer.text.items answer.printed.items answer.ending.items) }
 {
-    let alloc = setting.alloc;
-    session.set_budget(setting.budget);
+    session.set_budget(budget);
     let mut answer = enter_code(alloc, session, modes, past, images, labels, number, entry)?;
     let machine = session.machine();
     if machine.cpu().psr().overflow && has_returned(answer.ending.as_slice()) {

@@ -4,7 +4,7 @@ ghost use Rattle.std.specs.Prelude.{◌≡◌, ◌++◌, ◌≤◌, codes, lengt
 ghost use Rattle.address_map.specs.Memory.{bytes_of};
 ghost use Rattle.command_shell.specs.Answers.{refused_text};
 ghost use Rattle.command_shell.specs.GuestState.{state_of};
-ghost use Rattle.debug_modules.specs.Plans.{code_at, command_plan, found_plan, plan_of, shown_character, syntax_line, syntax_text, tail_bytes, words_in};
+ghost use Rattle.debug_modules.specs.Plans.{code_at, command_plan, found_plan, plan_of, shown_character, syntax_line, syntax_text, tail_bytes, words_begun, words_in, parts_words, quotes_behind};
 
 use crate::commands::{CommandSearch, FoundCommand, command_found};
 use crate::entering::ModuleEntry;
@@ -104,15 +104,24 @@ fn word_count(tail: &[u8]) -> u32
     let mut in_word = false;
     let mut in_quotes = false;
     for byte in tail {
-        if *byte == b' ' && !in_quotes {
-            in_word = false;
-        } else {
-            count += u32::from(!in_word);
-            in_word = true;
-            in_quotes = quotes_behind(in_quotes, *byte);
-        }
+        count += words_begun(in_word, in_quotes, *byte);
+        in_word = !parts_words(in_quotes, *byte);
+        in_quotes = quotes_behind(in_quotes, *byte);
     }
     count
+}
+
+// 1 where a word begins at a byte.
+fn words_begun(in_word: bool, in_quotes: bool, byte: u8) -> u32
+    ensures { result ≡ words_begun in_word in_quotes byte }
+{
+    if in_word || parts_words(in_quotes, byte) { 0 } else { 1 }
+}
+
+fn parts_words(in_quotes: bool, byte: u8) -> bool
+    ensures { result ≡ parts_words in_quotes byte }
+{
+    byte == b' ' && !in_quotes
 }
 
 // Whether double quotes are open behind a byte.

@@ -90,7 +90,6 @@ fn table_place(memory: &AddressMap, module: &ModuleInfo) -> u32
 }
 
 // The table at an address, of an image that ends at another.
-#[tactic(auto, using(crate::proofs::TableLemmas::table_steps))]
 fn table_from(
     alloc: Global,
     memory: &AddressMap,

@@ -39,6 +39,7 @@ use Rattle.debug_session.specs.DebugScript.{answer_or_refused, checked_answer, p
 use Rattle.debug_session.specs.DebugState.{DebugAnswered, DebugState}
 use Rattle.debug_session.specs.History.{HistoryChangesNoAnswer, IsSameButPast, IsUnhaltedWhereFresh, PastIsOfTheMachine}
 use Rattle.debug_session.specs.declared.session.DebugSettings.{DebugSettings}
+use Rattle.debug_session.proofs.ModuleLineLemmas.{module_line_kept, module_line_same}
 use Rattle.debug_session.proofs.SteppingPastLemmas.{steps_kept}
 use Rattle.debug_tables.specs.byte_writes.Put.{script_after_put}
 
@@ -193,7 +194,7 @@ command_kept labels c s p (past.Last x) was = was
 
 past_kept : (c : DebugSettings) (d : DebugState) (number : ℕ) (words : List ℕ) (o : Option PastCommand) → IsKept d
     → IsKept (past_line_by c d number words (option_map (past_answered d.labels c.config c.budget d.script d.past) o)).state
-past_kept c d number words None was = was
+past_kept c d number words None was = module_line_kept c d number words was
 past_kept c d number words (Some command) was =
     if_kept d.past.is_kept (past_asked d.labels c.config c.budget d.script d.past command)
     (past_shown d.script d.past no_history_text) (command_kept d.labels c d.script d.past command was) was
@@ -291,7 +292,7 @@ checked_same c d p number words (Some reason) = record { text = refl; state = re
 unknown_same : (c : DebugSettings) (d : DebugState) (p : PastState) (number : ℕ) (words : List ℕ) (o : Option PastCommand) → o ≡ None
     → Same p (past_line_by c (record d { past = p }) number words (option_map (past_answered d.labels c.config c.budget d.script p) o))
     (past_line_by c d number words (option_map (past_answered d.labels c.config c.budget d.script d.past) o))
-unknown_same c d p number words None none = record { text = refl; state = refl }
+unknown_same c d p number words None none = module_line_same c d p number words
 unknown_same c d p number words (Some command) none = absurd (cc)
 
 looked_same : (c : DebugSettings) (d : DebugState) (p : PastState) (number : ℕ) (words : List ℕ) (o : Option ℕ) → o ≡ None

@@ -7,6 +7,7 @@ pub mod HistoryLemmas
 pub mod JoinLemmas
 pub mod LastStepsLemmas
 pub mod LineLemmas
+pub mod ModuleLineLemmas
 pub mod NamingLemmas
 pub mod OwnLemmas
 pub mod PastLineLemmas

@@ -5,7 +5,7 @@ use Rattle.std.specs.Option.{option_map}
 use Rattle.debug_tables.specs.run_meter.State.{ScriptState}
 use Rattle.debug_history.specs.Answers.{PastAnswered, past_after_past, past_line_answered, script_after_past}
 use Rattle.debug_history.specs.Past.{PastState}
-use Rattle.debug_session.specs.DebugScript.{past_line_by, past_line_or_steps, unknown_answer, view_answer}
+use Rattle.debug_session.specs.DebugScript.{module_line_answer, past_line_by, past_line_or_steps, view_answer}
 use Rattle.debug_session.specs.LastSteps.{last_steps_answer}
 use Rattle.debug_session.specs.DebugState.{DebugAnswered, DebugState, IsDebugged}
 use Rattle.debug_session.specs.declared.session.DebugSettings.{DebugSettings}
@@ -31,8 +31,8 @@ past_shown before after c d mid now number line bytes (Some a) is same shown =
 
 pub past_refused : (c : DebugSettings) (d mid : DebugState) (number : ℕ) (line : List ℕ) (o : Option PastAnswered)
     → option_map (λ a. a.text) o ≡ None → mid ≡ moved d o
-    → unknown_answer c mid number line ≡ past_line_by c d number line o
-past_refused c d mid number line None is same = ap (λ (x : DebugState). unknown_answer c x number line) same
+    → module_line_answer c mid number line ≡ past_line_by c d number line o
+past_refused c d mid number line None is same = ap (λ (x : DebugState). module_line_answer c x number line) same
 past_refused c d mid number line (Some a) is same = absurd (cc)
 
 -- LAST STEPS, where it is asked for

@@ -39,7 +39,7 @@ use Rattle.debug_history.proofs.LineNotedLemmas.{is_call, is_load, most_left}
 use Rattle.debug_history.proofs.NotedLemmas.{deed_noted}
 use Rattle.debug_modes.specs.declared.modes.DebugModes.{DebugModes}
 use Rattle.debug_session.specs.History.{IsUnhaltedWhereFresh}
-use Rattle.debug_session.specs.Stepping.{note_of}
+use Rattle.debug_modules.specs.Taking.{note_of}
 use Rattle.debug_session.proofs.RunPastLemmas.{IsNoted, busy, enough_after, halted_end, left_by, run_called, run_noted, steps_are_run, steps_like_calls, steps_some, stopped_noted, unless_called, unless_noted}
 
 abbrev pub note_on : ScriptState → ScriptState → List ℕ → SteppingNote

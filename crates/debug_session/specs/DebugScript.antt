@@ -27,7 +27,8 @@ use Rattle.debug_modes.specs.Counting.{counts_text}
 use Rattle.command_shell_lines.specs.FailedBlocks.{FailedBlockPlace, block_reason, failed_after}
 use Rattle.debug_modes.specs.Modes.{takes_over}
 use Rattle.debug_modes.specs.ViewTexts.{view_text}
-use Rattle.debug_session.specs.Stepping.{modes_after, note_of, stepping_in_modes}
+use Rattle.debug_modules.specs.Answers.{ModuleAnswered, ModuleShown, Text, Steps, module_line_answered}
+use Rattle.debug_modules.specs.Taking.{modes_after, note_of, stepping_in_modes}
 use Rattle.debug_lines.specs.Tidy.{tidied_line}
 use Rattle.debug_history.specs.Answers.{PastAnswered, past_line_answered}
 use Rattle.debug_history.specs.Lines.{last_steps_asked}
@@ -276,11 +277,26 @@ unknown_answer c d number line = debug_answer
     (record d { answer = unknown_text number; tally = with_refusal d.tally })
     (report_of_refusal c.form d.tally number (reasoned_text number (refusal_reason (naming_of d) line)))
 
--- A line that goes back or looks into the past is a view of what it leaves; any other means nothing.
+-- A line that enters the code of modules is a view where nothing was done, and else takes steps; any other line
+-- means nothing.
+abbrev pub module_line_shown : DebugSettings → DebugState → ScriptState → ModuleShown → DebugAnswered
+module_line_shown c d now (Text text) = view_answer c (record d { script = now }) text
+module_line_shown c d now (Steps text printed ending) = stepping_answer_by c d now text printed ending
+
+abbrev pub module_line_by : DebugSettings → DebugState → ℕ → List ℕ → Option ModuleAnswered → DebugAnswered
+module_line_by c d number line (Some a) =
+    module_line_shown c (record d { modes = a.modes; past = a.past }) a.script a.shown
+module_line_by c d number line None = unknown_answer c d number line
+
+abbrev pub module_line_answer : DebugSettings → DebugState → ℕ → List ℕ → DebugAnswered
+module_line_answer c d number line = module_line_by c d number line
+    (module_line_answered d.modes d.labels c.budget d.script d.past number line)
+
+-- A line that goes back or looks into the past is a view of what it leaves; any other may be about modules.
 abbrev pub past_line_by : DebugSettings → DebugState → ℕ → List ℕ → Option PastAnswered → DebugAnswered
 past_line_by c d number line (Some a) =
     view_answer c (record d { script = a.script; past = a.past }) a.text
-past_line_by c d number line None = unknown_answer c d number line
+past_line_by c d number line None = module_line_answer c d number line
 
 -- `LAST STEPS n` is a view, too.
 abbrev pub past_line_or_steps : DebugSettings → DebugState → ℕ → List ℕ → Option ℕ → DebugAnswered

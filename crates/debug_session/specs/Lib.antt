@@ -26,4 +26,3 @@ pub mod Looking
 pub mod Naming
 pub mod Refusals
 pub mod Session
-pub mod Stepping

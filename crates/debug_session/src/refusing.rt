@@ -1,5 +1,5 @@
-//! Lines that go back or look into the past, and those that are none of the language: what a script
-//! answers, and why.
+//! Lines that go back or look into the past, those that enter the code of modules, and those that are none of
+//! the language: what a script answers, and why.
 
 ghost use Rattle.std.specs.Prelude.{◌≡◌, List, IfOk, OnOk};
 ghost use Rattle.debug_session.specs.Failing.{EndsAtOnce};
@@ -9,6 +9,7 @@ use debug_history::{PastSetting, last_steps_asked};
 use debug_labels::place_views::{line_on, names_on};
 use debug_modes::expectations::reports::push_refusal;
 use debug_modes::{refusal_line, unknown_line};
+use debug_modules::{ModuleAnswer, answer_module_line};
 use debug_tables::run_meter::RunError;
 use image_loader::Images;
 use profile::Sink;
@@ -17,13 +18,13 @@ use std::alloc::AllocError;
 
 impl DebugSession {
     ghost use Rattle.image_loader.specs.Entries.{Entry};
-    ghost use Rattle.debug_session.specs.DebugScript.{past_line_answer, unknown_answer};
+    ghost use Rattle.debug_session.specs.DebugScript.{module_line_answer, past_line_answer, unknown_answer};
     ghost use Rattle.debug_session.specs.DebugState.{IsDebugged};
     ghost use Rattle.debug_session.specs.Naming.{naming_of};
     ghost use Rattle.debug_labels.specs.Reasons.{refusal_reason};
     ghost use Rattle.debug_session.specs.Session.{debug_state};
 
-    /// Answers a tidy line that goes back or looks into the past, or says that it is none of the language.
+    /// Answers a tidy line that goes back or looks into the past; any other may be about modules.
     pub(crate) fn past_line<W: Sink>(
         &mut self,
         images: &mut Images,
@@ -54,6 +55,39 @@ impl DebugSession {
             .answer_line(setting, &mut self.session, images, labels, words)?
         {
             Some(text) => Ok(self.view(sink, text)?),
+            None => self.module_line(images, sink, words, number),
+        }
+    }
+
+    // Answers a tidy line that enters the code of modules, or says that it is none of the language.
+    fn module_line<W: Sink>(
+        &mut self,
+        images: &Images,
+        sink: &mut W,
+        words: &[u8],
+        number: usize,
+    ) -> Result<(), RunError>
+        ensures reported { OnOk result (IsDebugged (W.contents sink.old) (W.contents sink.new)
+            (debug_state self.new images.now)
+            (module_line_answer self.old.setting (debug_state self.old images.now) number words.now)) }
+        ensures setting { self.new.setting ≡ self.old.setting }
+        ensures ends { EndsAtOnce W.has_failed sink.old sink.new result }
+    {
+        match answer_module_line(
+            self.alloc,
+            self.setting.budget,
+            &mut self.session,
+            &mut self.modes,
+            &mut self.past,
+            images,
+            &self.labels,
+            number as u64,
+            words,
+        )? {
+            Some(ModuleAnswer::Shown(text)) => Ok(self.view(sink, text)?),
+            Some(ModuleAnswer::Entered(taken)) => {
+                Ok(self.print_steps(sink, taken.text, taken.printed, taken.ending)?)
+            }
             None => self.refuse(sink, words, number),
         }
     }

@@ -1,9 +1,7 @@
 //! Lines that take steps in the modes that are set, and lines that change these.
 
-ghost use Rattle.std.specs.Prelude.{◌≡◌, ◌+◌, ◌-◌, true, List, option_map, OnOk, OnErr};
-ghost use Rattle.debug_history.specs.Noted.{past_after_stepping};
+ghost use Rattle.std.specs.Prelude.{◌≡◌, ◌+◌, true, List, option_map, OnOk, OnErr};
 ghost use Rattle.debug_session.specs.Failing.{EndsAtOnce};
-ghost use Rattle.debug_session.specs.Stepping.{note_of};
 ghost use Rattle.command_shell_lines.specs.Blocks.{block_lines, lines_after, lines_taken};
 ghost use Rattle.command_shell_lines.specs.Requests.{opens_block, request_of_command};
 ghost use Rattle.debug_lines.specs.ModeRequests.{mode_request_of};
@@ -11,10 +9,9 @@ ghost use Rattle.debug_lines.specs.SteppingRequests.{stepping_request_of};
 
 use crate::session::DebugSession;
 use command_shell_lines::ScriptCommand;
-use debug_history::{SteppingNote, StepsBefore, has_returned, is_faulted};
 use debug_lines::{ModeCommand, SteppingCommand, stepping_in};
 use debug_modes::expectations::reports::push_answer;
-use debug_runs::answer_stepping;
+use debug_modules::take_steps;
 use debug_tables::block_errors::errors_of_block;
 use debug_tables::run_meter::RunError;
 use image_loader::Images;
@@ -23,7 +20,6 @@ use profile::{Sink, WriteFault};
 use std::alloc::AllocError;
 
 impl DebugSession {
-    ghost use Rattle.debug_tables.specs.run_meter.Session.{script_state};
     ghost use Rattle.image_loader.specs.Entries.{Entry};
     ghost use Rattle.debug_session.specs.DebugScript.{counts_answer, line_in_modes_answer, mode_line_answer, script_line_answer, with_block_noted, stepping_line_answer, stepping_now, stepping_answer_by};
     ghost use Rattle.debug_session.specs.DebugState.{IsDebugged};
@@ -128,55 +124,23 @@ impl DebugSession {
         ensures ends { EndsAtOnce W.has_failed sink.old sink.new result }
     {
         self.session.set_budget(self.setting.budget);
-        let before = StepsBefore::of(&self.session);
-        let shown = self.modes.reported(is_traced);
-        let reported = answer_stepping(
+        let taken = take_steps(
             self.alloc,
             &mut self.session,
+            &mut self.modes,
+            &mut self.past,
             images,
-            &self.modes.steps,
-            &mut self.modes.counts,
             &self.labels,
+            number as u64,
+            is_traced,
             command,
-            shown,
         )?;
-        let ending = reported.ending.as_slice();
-        self.note_stepping(number, command, before, ending)?;
-        Ok(self.print_steps(sink, reported.text, reported.printed, reported.ending)?)
+        Ok(self.print_steps(sink, taken.text, taken.printed, taken.ending)?)
     }
 
-    // Keeps what a line did to the machine that took steps, which ended so.
-    fn note_stepping(
-        &mut self,
-        number: usize,
-        command: &SteppingCommand<'_>,
-        before: StepsBefore,
-        ending: &[u8],
-    ) -> Result<(), AllocError>
-        ensures past { (images : List Entry) → OnOk result (self.new.past ≡ past_after_stepping self.old.past
-            number self.old.modes.steps.stubs
-            (note_of before (self.old.setting.budget - self.old.session.left)
-            (script_state self.old.session images).machine ending.now) (stepping_request_of command.now)) }
-        ensures rest { OnOk result (self.new ≡ record self.old { past = self.new.past }) }
-        ensures setting { self.new.setting ≡ self.old.setting }
-    {
-        let taken = self.steps_taken();
-        let has_faulted = is_faulted(&self.session);
-        let is_back = has_returned(ending);
-        let note = SteppingNote {
-            before,
-            taken,
-            has_faulted,
-            has_returned: is_back,
-        };
-        let stubs = &self.modes.steps.stubs;
-        self.past
-            .note_stepping(self.alloc, number as u64, command, stubs, note)
-    }
-
-    // Writes what a line that took steps left to write, and keeps it for the lines that expect
-    // something.
-    fn print_steps<W: Sink>(
+    /// Writes what a line that took steps left to write, and keeps it for the lines that expect
+    /// something.
+    pub(crate) fn print_steps<W: Sink>(
         &mut self,
         sink: &mut W,
         text: Vec<u8>,

@@ -42,11 +42,11 @@ returns-in-None-clause-reported g c =
     let d = debug_state old c.args.images.now in
     let o = past_line_answered d.labels old.setting.config old.setting.budget d.script d.past c.args.words.now in
     let none = sym c.last_steps_asked.ensures ∙ c.in_default.is in
-    subst (λ (x : Option ℕ). OnOk c.refuse.result (IsDebugged (g.W.Sink.contents c.args.sink.now)
-    (g.W.Sink.contents c.refuse.new.sink) (debug_state c.refuse.new.self c.answer_line.new.images)
+    subst (λ (x : Option ℕ). OnOk c.module_line.result (IsDebugged (g.W.Sink.contents c.args.sink.now)
+    (g.W.Sink.contents c.module_line.new.sink) (debug_state c.module_line.new.self c.answer_line.new.images)
     (past_line_or_steps old.setting d c.args.number c.args.words.now x))) (sym none)
-    (subst (λ (x : DebugAnswered). OnOk c.refuse.result (IsDebugged (g.W.Sink.contents c.args.sink.now)
-    (g.W.Sink.contents c.refuse.new.sink) (debug_state c.refuse.new.self c.answer_line.new.images) x))
+    (subst (λ (x : DebugAnswered). OnOk c.module_line.result (IsDebugged (g.W.Sink.contents c.args.sink.now)
+    (g.W.Sink.contents c.module_line.new.sink) (debug_state c.module_line.new.self c.answer_line.new.images) x))
     (past_refused old.setting d _ c.args.number c.args.words.now o (sym (rw c.in-None.is at c.in_ok-text.ensures.text))
     (past_moved d _ _ o c.in_ok-text.ensures.script c.in_ok-text.ensures.past))
-    (c.refuse.ensures.reported c.answer_line.new.images))
+    (c.module_line.ensures.reported c.answer_line.new.images))

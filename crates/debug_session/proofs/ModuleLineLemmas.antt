@@ -1,0 +1,251 @@
+-- A line that enters the code of modules, and what is kept of it.
+use Rattle.std.proofs.Common.{◌≡◌, ℕ, Bool, true, false, List, [], ◌∷◌, Option, Some, None, Result, Ok, Err, ap, refl, subst, sym, ◌∙◌, if◌then◌else◌}
+use Rattle.std.specs.Prelude.{unwrap_or, ◌&&◌, ◌++◌}
+use Rattle.std.specs.Option.{option_map}
+use Rattle.profile.specs.Outcome.{Leaves}
+use Rattle.profile.specs.declared.fault.Fault.{Fault}
+use Rattle.arm_core.specs.declared.psr.Psr.{Psr}
+use Rattle.debug_history.proofs.AgainLemmas.{beside_at, moment_at, put_at}
+use Rattle.debug_history.proofs.NotedLemmas.{deed_noted}
+use Rattle.debug_history.specs.Laws.{IsPastOf}
+use Rattle.debug_history.specs.Noted.{has_returned, past_with_deed}
+use Rattle.debug_history.specs.Past.{PastState}
+use Rattle.debug_history.specs.declared.act.PastDeed.TheVariants as deed
+use Rattle.debug_labels.specs.Labels.{ImageLabels}
+use Rattle.debug_lines.specs.SteppingRequests as stepping
+use Rattle.debug_modes.specs.Modes.{answer_of_line}
+use Rattle.debug_modes.specs.declared.modes.DebugModes.{DebugModes}
+use Rattle.debug_modes.specs.expectations.Why.{why_text}
+use Rattle.debug_modules.specs.Answers.{ModuleAnswered, ModuleShown, Steps, Text, command_by, command_called, command_put_by, error_below, module_answered, module_line_answered, modes_after_modules, past_after_modules, script_after_modules}
+use Rattle.debug_modules.specs.Entering.{at_entry, back_if_returned, code_entered, past_at_entry, status_back, supervisor, with_status_back}
+use Rattle.debug_modules.specs.Plans.{command_plan, tail_address, tail_bytes}
+use Rattle.debug_modules.specs.Requests.{Command, ModuleAsked, module_request}
+use Rattle.debug_modules.specs.Taking.{StepsTaken, steps_taken}
+use Rattle.debug_modules.specs.declared.entering.ModuleEntry.{ModuleEntry}
+use Rattle.debug_tables.specs.byte_writes.Put.{script_after_put}
+use Rattle.debug_tables.specs.run_meter.Memory.{script_with_budget, script_with_register, script_with_status}
+use Rattle.debug_tables.specs.run_meter.State.{ScriptState}
+use Rattle.debug_session.specs.DebugScript.{module_line_by, module_line_shown, stepping_answer_by, unknown_answer, view_answer}
+use Rattle.debug_session.specs.DebugState.{DebugAnswered, DebugState, IsDebugged}
+use Rattle.debug_session.specs.History.{IsSameButPast, IsUnhaltedWhereFresh}
+use Rattle.debug_session.specs.declared.session.DebugSettings.{DebugSettings}
+use Rattle.debug_session.proofs.SteppingPastLemmas.{steps_kept}
+
+-- the state that such a line leaves, before it is answered
+abbrev moved_by : DebugState → Option ModuleAnswered → DebugState
+moved_by d o = record d {
+  script = script_after_modules d.script o;
+  modes = modes_after_modules d.modes o;
+  past = past_after_modules d.past o;
+}
+
+pub modules_moved : (d : DebugState) (s : ScriptState) (m : DebugModes) (p : PastState) (o : Option ModuleAnswered)
+    → s ≡ script_after_modules d.script o → m ≡ modes_after_modules d.modes o → p ≡ past_after_modules d.past o
+    → record d { script = s; modes = m; past = p } ≡ moved_by d o
+modules_moved d s m p o script modes past = λ i. record d { script = script i; modes = modes i; past = past i }
+
+pub module_viewed : (before after : Option (List ℕ)) (c : DebugSettings) (d mid now : DebugState) (number : ℕ) (line bytes : List ℕ)
+    (o : Option ModuleAnswered) → Some (Text bytes) ≡ option_map (λ a. a.shown) o → mid ≡ moved_by d o
+    → IsDebugged before after now (view_answer c mid bytes) → IsDebugged before after now (module_line_by c d number line o)
+module_viewed before after c d mid now number line bytes None is same shown = absurd (cc)
+module_viewed before after c d mid now number line bytes (Some a) is same shown =
+    let said : Text bytes ≡ a.shown = ap (λ (o : Option ModuleShown). unwrap_or o (Text [])) is in
+    subst (λ (x : DebugAnswered). IsDebugged before after now x)
+    (ap (λ (x : DebugState). view_answer c x bytes) same
+    ∙ ap (λ (h : ModuleShown). module_line_shown c (record d { modes = a.modes; past = a.past }) a.script h) said) shown
+
+pub module_stepped : (before after : Option (List ℕ)) (c : DebugSettings) (d mid now : DebugState) (number : ℕ)
+    (line text printed ending : List ℕ) (o : Option ModuleAnswered)
+    → Some (Steps text printed ending) ≡ option_map (λ a. a.shown) o → mid ≡ moved_by d o
+    → IsDebugged before after now (stepping_answer_by c mid mid.script text printed ending)
+    → IsDebugged before after now (module_line_by c d number line o)
+module_stepped before after c d mid now number line text printed ending None is same shown = absurd (cc)
+module_stepped before after c d mid now number line text printed ending (Some a) is same shown =
+    let said : Steps text printed ending ≡ a.shown = ap (λ (o : Option ModuleShown). unwrap_or o (Text [])) is in
+    subst (λ (x : DebugAnswered). IsDebugged before after now x)
+    (ap (λ (x : DebugState). stepping_answer_by c x x.script text printed ending) same
+    ∙ ap (λ (h : ModuleShown). module_line_shown c (record d { modes = a.modes; past = a.past }) a.script h) said) shown
+
+pub module_refused : (c : DebugSettings) (d mid : DebugState) (number : ℕ) (line : List ℕ) (o : Option ModuleAnswered)
+    → option_map (λ a. a.shown) o ≡ None → mid ≡ moved_by d o → unknown_answer c mid number line ≡ module_line_by c d number line o
+module_refused c d mid number line None is same = ap (λ (x : DebugState). unknown_answer c x number line) same
+module_refused c d mid number line (Some a) is same = absurd (cc)
+
+-- WHAT IS KEPT IS WHAT WAS DONE
+
+back_kept : (number : ℕ) (before : Psr) (t : StepsTaken) (b : Bool) → IsPastOf t.script t.past
+    → (let u = if b then with_status_back number before t else t in IsPastOf u.script u.past)
+back_kept number before t true was = let status = status_back before t.script.machine.cpu.psr in
+    deed_noted t.script (script_with_status t.script status) t.past number (deed.Status status) refl refl was refl
+back_kept number before t false was = was
+
+code_kept : (m : DebugModes) (labels : List ImageLabels) (s : ScriptState) (p : PastState) (number : ℕ) (e : ModuleEntry)
+    → IsPastOf s p → (let t = code_entered m labels s p number e in IsPastOf t.script t.past)
+code_kept m labels s p number e was =
+    let psr = s.machine.cpu.psr in
+    let status = supervisor psr in
+    let s0 = script_with_status s status in
+    let p0 = past_with_deed p number (deed.Status status) in
+    let s1 = script_with_register s0 0 e.r0 in
+    let p1 = past_with_deed p0 number (deed.Register 0 e.r0) in
+    let s2 = script_with_register s1 1 e.r1 in
+    let p2 = past_with_deed p1 number (deed.Register 1 e.r1) in
+    let s3 = script_with_register s2 12 e.r12 in
+    let p3 = past_with_deed p2 number (deed.Register 12 e.r12) in
+    let k0 = deed_noted s s0 p number (deed.Status status) refl refl was refl in
+    let k1 = deed_noted s0 s1 p0 number (deed.Register 0 e.r0) refl refl k0 refl in
+    let k2 = deed_noted s1 s2 p1 number (deed.Register 1 e.r1) refl refl k1 refl in
+    let k3 = deed_noted s2 s3 p2 number (deed.Register 12 e.r12) refl refl k2 refl in
+    let t = steps_taken m labels false s3 p3 number (stepping.Gosub e.code) in
+    back_kept number psr t (has_returned t.ending)
+    (steps_kept m labels (answer_of_line m false) s3 p3 number (stepping.Gosub e.code) (λ fresh. absurd (cc)) k3)
+
+below_kept : (t : StepsTaken) (text : List ℕ) (b : Bool) → IsPastOf t.script t.past
+    → (let u = if b then record t { ending = text } else t in IsPastOf u.script u.past)
+below_kept t text true was = was
+below_kept t text false was = was
+
+called_kept : (m : DebugModes) (labels : List ImageLabels) (budget : ℕ) (s : ScriptState) (p : PastState) (number : ℕ) (e : ModuleEntry)
+    → IsPastOf s p → (let t = command_called m labels budget s p number e in IsPastOf t.script t.past)
+called_kept m labels budget s p number e was =
+    let t = code_entered m labels (script_with_budget s budget) p number e in
+    below_kept t _ (t.script.machine.cpu.psr.overflow && has_returned t.ending)
+    (code_kept m labels (script_with_budget s budget) p number e was)
+
+put_kept : (m : DebugModes) (labels : List ImageLabels) (budget : ℕ) (s : ScriptState) (p : PastState) (number : ℕ) (e : ModuleEntry)
+    (bytes : List ℕ) (r : Result ScriptState Fault) → script_after_put s tail_address bytes ≡ r → IsPastOf s p
+    → (let a = command_put_by m labels budget s p number e bytes r in IsPastOf a.script a.past)
+put_kept m labels budget s p number e bytes (Ok now) is was =
+    let put = put_at s now tail_address bytes {U = Unit {0}} (Ok (record {})) (subst (λ (r : Result ScriptState Fault).
+    Leaves {U = Unit {0}} s r (Ok (record {})) now) (sym is) refl) in
+    let beside = beside_at s now _ put in
+    called_kept m labels budget now (past_with_deed p number (deed.Bytes tail_address bytes)) number e
+    (deed_noted s now p number (deed.Bytes tail_address bytes) beside.images beside.sizes was (moment_at s now _ put))
+put_kept m labels budget s p number e bytes (Err fault) is was = was
+
+command_kept : (m : DebugModes) (labels : List ImageLabels) (budget : ℕ) (s : ScriptState) (p : PastState) (number : ℕ) (tail : List ℕ)
+    (plan : Result ModuleEntry (List ℕ)) → IsPastOf s p
+    → (let a = command_by m labels budget s p number tail plan in IsPastOf a.script a.past)
+command_kept m labels budget s p number tail (Ok e) was =
+    put_kept m labels budget s p number e (tail_bytes tail) (script_after_put s tail_address (tail_bytes tail)) refl was
+command_kept m labels budget s p number tail (Err text) was = was
+
+answer_kept : (m : DebugModes) (labels : List ImageLabels) (budget : ℕ) (s : ScriptState) (p : PastState) (number : ℕ) (asked : ModuleAsked)
+    → IsPastOf s p → (let a = module_answered m labels budget s p number asked in IsPastOf a.script a.past)
+answer_kept m labels budget s p number (Command name tail) was =
+    command_kept m labels budget s p number tail (command_plan s.machine name tail) was
+
+shown_kept : (c : DebugSettings) (d : DebugState) (now : ScriptState) (shown : ModuleShown) → IsPastOf now d.past
+    → (let e = (module_line_shown c d now shown).state in IsPastOf e.script e.past)
+shown_kept c d now (Text text) was = was
+shown_kept c d now (Steps text printed ending) was = was
+
+asked_kept : (c : DebugSettings) (d : DebugState) (number : ℕ) (line : List ℕ) (o : Option ModuleAsked) → IsPastOf d.script d.past
+    → (let e = (module_line_by c d number line
+    (option_map (module_answered d.modes d.labels c.budget d.script d.past number) o)).state in IsPastOf e.script e.past)
+asked_kept c d number line None was = was
+asked_kept c d number line (Some asked) was =
+    let a = module_answered d.modes d.labels c.budget d.script d.past number asked in
+    shown_kept c (record d { modes = a.modes; past = a.past }) a.script a.shown
+    (answer_kept d.modes d.labels c.budget d.script d.past number asked was)
+
+-- a line that may enter the code of modules leaves the past of the machine that it leaves
+pub module_line_kept : (c : DebugSettings) (d : DebugState) (number : ℕ) (line : List ℕ) → IsPastOf d.script d.past
+    → (let e = (module_line_by c d number line
+    (module_line_answered d.modes d.labels c.budget d.script d.past number line)).state in IsPastOf e.script e.past)
+module_line_kept c d number line was = asked_kept c d number line (module_request line) was
+
+-- WITH ANOTHER PAST
+
+abbrev without : PastState → StepsTaken → StepsTaken
+without q t = record t { past = q }
+
+back_same : (q p r : PastState) (number : ℕ) (before : Psr) (t : StepsTaken) (b : Bool)
+    → without q (if b then with_status_back number before (without p t) else without p t)
+    ≡ without q (if b then with_status_back number before (without r t) else without r t)
+back_same q p r number before t true = refl
+back_same q p r number before t false = refl
+
+code_same : (m : DebugModes) (labels : List ImageLabels) (s : ScriptState) (q p r : PastState) (number : ℕ) (e : ModuleEntry)
+    → without q (code_entered m labels s p number e) ≡ without q (code_entered m labels s r number e)
+code_same m labels s q p r number e =
+    let psr = s.machine.cpu.psr in
+    let t = steps_taken m labels false (at_entry s e) (past_at_entry p number psr e) number (stepping.Gosub e.code) in
+    let u = steps_taken m labels false (at_entry s e) (past_at_entry r number psr e) number (stepping.Gosub e.code) in
+    back_same q t.past u.past number psr t (has_returned t.ending)
+
+below_with : (q : PastState) (t : StepsTaken) (text : List ℕ) (b : Bool)
+    → without q (if b then record t { ending = text } else t) ≡ (if b then record (without q t) { ending = text } else without q t)
+below_with q t text true = refl
+below_with q t text false = refl
+
+called_same : (m : DebugModes) (labels : List ImageLabels) (budget : ℕ) (s : ScriptState) (q p r : PastState) (number : ℕ) (e : ModuleEntry)
+    → without q (command_called m labels budget s p number e) ≡ without q (command_called m labels budget s r number e)
+called_same m labels budget s q p r number e =
+    let first = script_with_budget s budget in
+    let t = code_entered m labels first p number e in
+    let u = code_entered m labels first r number e in
+    below_with q t _ (t.script.machine.cpu.psr.overflow && has_returned t.ending)
+    ∙ ap error_below (code_same m labels first q p r number e)
+    ∙ sym (below_with q u _ (u.script.machine.cpu.psr.overflow && has_returned u.ending))
+
+abbrev answer_without : PastState → ModuleAnswered → ModuleAnswered
+answer_without q a = record a { past = q }
+
+put_same : (m : DebugModes) (labels : List ImageLabels) (budget : ℕ) (s : ScriptState) (q p r : PastState) (number : ℕ) (e : ModuleEntry)
+    (bytes : List ℕ) (o : Result ScriptState Fault)
+    → answer_without q (command_put_by m labels budget s p number e bytes o)
+    ≡ answer_without q (command_put_by m labels budget s r number e bytes o)
+put_same m labels budget s q p r number e bytes (Ok now) =
+    ap (λ (t : StepsTaken). let a : ModuleAnswered = record {
+      script = t.script;
+      modes = t.modes;
+      past = q;
+      shown = Steps t.text t.printed t.ending;
+    } in a) (called_same m labels budget now q (past_with_deed p number (deed.Bytes tail_address bytes))
+    (past_with_deed r number (deed.Bytes tail_address bytes)) number e)
+put_same m labels budget s q p r number e bytes (Err fault) = refl
+
+command_same : (m : DebugModes) (labels : List ImageLabels) (budget : ℕ) (s : ScriptState) (q p r : PastState) (number : ℕ)
+    (tail : List ℕ) (plan : Result ModuleEntry (List ℕ))
+    → answer_without q (command_by m labels budget s p number tail plan) ≡ answer_without q (command_by m labels budget s r number tail plan)
+command_same m labels budget s q p r number tail (Ok e) =
+    put_same m labels budget s q p r number e (tail_bytes tail) (script_after_put s tail_address (tail_bytes tail))
+command_same m labels budget s q p r number tail (Err text) = refl
+
+answer_same : (m : DebugModes) (labels : List ImageLabels) (budget : ℕ) (s : ScriptState) (q p r : PastState) (number : ℕ)
+    (asked : ModuleAsked)
+    → answer_without q (module_answered m labels budget s p number asked) ≡ answer_without q (module_answered m labels budget s r number asked)
+answer_same m labels budget s q p r number (Command name tail) =
+    command_same m labels budget s q p r number tail (command_plan s.machine name tail)
+
+shown_same : (c : DebugSettings) (d : DebugState) (p : PastState) (a : ModuleAnswered) (shown : ModuleShown)
+    → (record (module_line_shown c (record d { modes = a.modes; past = a.past }) a.script shown).state { past = p }
+    ≡ (module_line_shown c (record d { modes = a.modes; past = p }) a.script shown).state)
+    × ((module_line_shown c (record d { modes = a.modes; past = a.past }) a.script shown).text
+    ≡ (module_line_shown c (record d { modes = a.modes; past = p }) a.script shown).text)
+shown_same c d p a (Text text) = (refl, refl)
+shown_same c d p a (Steps text printed ending) = (refl, refl)
+
+asked_same : (c : DebugSettings) (d : DebugState) (p : PastState) (number : ℕ) (line : List ℕ) (o : Option ModuleAsked)
+    → IsSameButPast p (module_line_by c (record d { past = p }) number line
+    (option_map (module_answered d.modes d.labels c.budget d.script p number) o))
+    (module_line_by c d number line (option_map (module_answered d.modes d.labels c.budget d.script d.past number) o))
+asked_same c d p number line None = record { text = refl; state = refl }
+asked_same c d p number line (Some asked) =
+    let one = module_answered d.modes d.labels c.budget d.script p number asked in
+    let two = module_answered d.modes d.labels c.budget d.script d.past number asked in
+    let same = answer_same d.modes d.labels c.budget d.script p p d.past number asked in
+    let first = shown_same c (record d { past = p }) p one one.shown in
+    let second = shown_same c d p two two.shown in
+    let answer : ModuleAnswered → DebugAnswered =
+    λ (a : ModuleAnswered). module_line_shown c (record d { modes = a.modes; past = a.past }) a.script a.shown in record {
+      text = first.1 ∙ ap (λ (a : ModuleAnswered). (answer a).text) same ∙ sym second.1;
+      state = first.0 ∙ ap (λ (a : ModuleAnswered). (answer a).state) same ∙ sym second.0;
+    }
+
+pub module_line_same : (c : DebugSettings) (d : DebugState) (p : PastState) (number : ℕ) (line : List ℕ)
+    → IsSameButPast p (module_line_by c (record d { past = p }) number line
+    (module_line_answered d.modes d.labels c.budget d.script p number line))
+    (module_line_by c d number line (module_line_answered d.modes d.labels c.budget d.script d.past number line))
+module_line_same c d p number line = asked_same c d p number line (module_request line)
