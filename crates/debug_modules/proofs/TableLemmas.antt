@@ -29,19 +29,19 @@ table_next b limit number at below =
 
 -- what is read and what is left are all, and the whole is as what is left
 pub record IsReadSoFar (b : Bytes) (limit at number place : ℕ) (entries : List CommandEntry) : Type 0 where
-  pub entries : entries ++ (table_from (256 - number) b limit place).entries ≡ (table_from 256 b limit at).entries
+  pub all : entries ++ (table_from (256 - number) b limit place).entries ≡ (table_from 256 b limit at).entries
   pub whole : (table_from (256 - number) b limit place).is_whole ≡ (table_from 256 b limit at).is_whole
 
 -- where the table ends, or leads outside, or has too many entries
 pub record IsReadAll (b : Bytes) (limit at : ℕ) (entries : List CommandEntry) (is_whole : Bool) : Type 0 where
-  pub entries : entries ≡ (table_from 256 b limit at).entries
+  pub all : entries ≡ (table_from 256 b limit at).entries
   pub whole : is_whole ≡ (table_from 256 b limit at).is_whole
 
 read_by : (b : Bytes) (limit at number place : ℕ) (entries : List CommandEntry) (is_whole : Bool)
     → table_from (256 - number) b limit place ≡ no_commands is_whole → IsReadSoFar b limit at number place entries
     → IsReadAll b limit at entries is_whole
 read_by b limit at number place entries is_whole left so_far = record {
-  entries = sym (append-nil entries) ∙ sym (ap (λ t. entries ++ t.entries) left) ∙ so_far.entries;
+  all = sym (append-nil entries) ∙ sym (ap (λ t. entries ++ t.entries) left) ∙ so_far.all;
   whole = sym (ap (λ t. t.is_whole) left) ∙ so_far.whole;
 }
 
@@ -72,13 +72,13 @@ read_more b limit at number place next entries more e r below is entry pushed so
     let step = table_next b limit number place below
     ∙ ap (λ x. table_by (λ next. table_from (256 - (number + 1)) b limit next) x) (sym is ∙ entry) in
     let rest = (table_from (256 - (number + 1)) b limit next).entries in record {
-      entries = ap (λ (xs : List CommandEntry). xs ++ rest) pushed ∙ append_assoc entries (e ∷ []) rest
-          ∙ sym (ap (λ t. entries ++ t.entries) step) ∙ so_far.entries;
+      all = ap (λ (xs : List CommandEntry). xs ++ rest) pushed ∙ append_assoc entries (e ∷ []) rest
+          ∙ sym (ap (λ t. entries ++ t.entries) step) ∙ so_far.all;
       whole = sym (ap (λ t. t.is_whole) step) ∙ so_far.whole;
     }
 
 pub read_first : (b : Bytes) (limit at : ℕ) (entries : List CommandEntry) → entries ≡ [] → IsReadSoFar b limit at 0 at entries
 read_first b limit at entries none = record {
-  entries = ap (λ (xs : List CommandEntry). xs ++ (table_from 256 b limit at).entries) none;
+  all = ap (λ (xs : List CommandEntry). xs ++ (table_from 256 b limit at).entries) none;
   whole = refl;
 }

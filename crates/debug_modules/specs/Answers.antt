@@ -1,5 +1,5 @@
 -- What lines are answered that enter the code of modules, and what they leave.
-use Rattle.std.specs.Prelude.{◌≡◌, ℕ, ◌&&◌, ◌++◌, List, Option, Some, None, Result, Ok, Err, if◌then◌else◌}
+use Rattle.std.specs.Prelude.{◌≡◌, ℕ, ◌&&◌, ◌++◌, is_some, codes, List, Option, Some, None, Result, Ok, Err, if◌then◌else◌}
 use Rattle.std.specs.Option.{option_map}
 use Rattle.profile.specs.FaultNames.{fault_name}
 use Rattle.profile.specs.declared.fault.Fault.{Fault}
@@ -15,7 +15,8 @@ use Rattle.debug_modes.specs.expectations.Why.{why_text}
 use Rattle.debug_tables.specs.byte_writes.Put.{script_after_put}
 use Rattle.debug_modules.specs.Entering.{code_entered}
 use Rattle.debug_modules.specs.Plans.{command_plan, tail_address, tail_bytes}
-use Rattle.debug_modules.specs.Requests.{Command, ModuleAsked, module_request}
+use Rattle.debug_modules.specs.Requests.{Command, ModuleAsked, Service, module_request}
+use Rattle.debug_modules.specs.Services.{is_served, service_called}
 use Rattle.debug_modules.specs.Taking.{StepsTaken}
 use Rattle.debug_modules.specs.declared.answering.ModuleAnswer.{ModuleAnswer}
 use Rattle.debug_modules.specs.declared.answering.ModuleAnswer.TheVariants.{Shown, Entered}
@@ -86,12 +87,24 @@ abbrev pub command_answered : DebugModes → List ImageLabels → ℕ → Script
 command_answered m labels budget s p number name tail =
     command_by m labels budget s p number tail (command_plan s.machine name tail)
 
+-- SERVICE
+
+abbrev pub service_answered : DebugModes → List ImageLabels → ℕ → ScriptState → PastState → ℕ → ℕ → List ℕ
+    → ModuleAnswered
+service_answered m labels budget s p number service title =
+    if is_some s.machine.halt then only_shown m s p (refused_text (codes "Halted")) else (
+    if is_served s.machine.tables.modules title
+    then entered_so (service_called m labels budget s p number service title)
+    else only_shown m s p (refused_text (codes "NoModule")))
+
 -- ALL LINES
 
 abbrev pub module_answered : DebugModes → List ImageLabels → ℕ → ScriptState → PastState → ℕ → ModuleAsked
     → ModuleAnswered
 module_answered m labels budget s p number (Command name tail) =
     command_answered m labels budget s p number name tail
+module_answered m labels budget s p number (Service service title) =
+    service_answered m labels budget s p number service title
 
 -- what such a line is answered, and nothing of any other
 abbrev pub module_line_answered : DebugModes → List ImageLabels → ℕ → ScriptState → PastState → ℕ → List ℕ
@@ -113,9 +126,9 @@ past_after_modules p (Some a) = a.past
 past_after_modules p None = p
 
 -- a line left this
-pub record IsModuleAnswered (a : ModuleAnswered) (now : ScriptState) (modes : DebugModes) (past : PastState)
-    (shown : ModuleShown) : Type 0 where
+pub record IsModuleAnswered (a : ModuleAnswered) (now : ScriptState) (kept_modes : DebugModes)
+    (kept_past : PastState) (answer : ModuleShown) : Type 0 where
   pub script : now ≡ a.script
-  pub modes : modes ≡ a.modes
-  pub past : past ≡ a.past
-  pub shown : shown ≡ a.shown
+  pub modes : kept_modes ≡ a.modes
+  pub past : kept_past ≡ a.past
+  pub shown : answer ≡ a.shown

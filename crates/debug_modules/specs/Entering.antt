@@ -2,7 +2,7 @@
 -- SVC mode, R12 is the address of the instance's private word, and R14 is where it goes back to. It is called as
 -- GOSUB calls a routine. Once it has gone back, the mode and the bits I and F are as before; the flags and the
 -- registers are as it left them.
-use Rattle.std.specs.Prelude.{ℕ, List, if◌then◌else◌}
+use Rattle.std.specs.Prelude.{ℕ, false, List, if◌then◌else◌}
 use Rattle.arm_core.specs.declared.psr.Mode.TheVariants.{Supervisor}
 use Rattle.arm_core.specs.declared.psr.Psr.{Psr}
 use Rattle.command_shell.specs.Memory.{script_with_register, script_with_status}

@@ -4,5 +4,6 @@ pub mod Commands
 pub mod Entering
 pub mod Plans
 pub mod Requests
+pub mod Services
 pub mod Tables
 pub mod Taking

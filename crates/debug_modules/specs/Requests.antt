@@ -2,6 +2,7 @@
 use Rattle.std.specs.Prelude.{ℕ, ◌+◌, ◌==◌, List, [], drop, codes, Option, Some, None}
 use Rattle.std.specs.Option.{option_map}
 use Rattle.std.specs.List.{position}
+use Rattle.command_shell_lines.specs.Numbers.{script_number}
 use Rattle.command_shell_lines.specs.debug_words.Texts.{front_before, text_behind}
 use Rattle.debug_modules.specs.declared.requests.ModuleRequest.{ModuleRequest}
 use Rattle.debug_modules.specs.declared.requests.ModuleRequest.TheVariants as line
@@ -9,10 +10,13 @@ use Rattle.debug_modules.specs.declared.requests.ModuleRequest.TheVariants as li
 pub data ModuleAsked : Type 0 where
   -- a command's name, and what stands behind it
   Command : List ℕ → List ℕ → ModuleAsked
+  -- a service call's number, and a title, which is empty for all modules
+  Service : ℕ → List ℕ → ModuleAsked
 
 -- the lines that the code tells apart, as what they ask for
 abbrev pub module_request_of : ModuleRequest → ModuleAsked
 module_request_of (line.Command name tail) = Command name.now tail.now
+module_request_of (line.Service service title) = Service service title.now
 
 -- the word before the first space (32), and what stands behind that
 abbrev pub behind_place : Option ℕ → List ℕ → List ℕ
@@ -29,6 +33,19 @@ word_behind text = behind_place (position (λ b. b == 32) text) text
 abbrev pub command_request : List ℕ → ModuleAsked
 command_request text = Command (word_in_front text) (word_behind text)
 
+-- `SERVICE n`, `SERVICE n Title`
+abbrev pub service_request : List ℕ → Option ModuleAsked
+service_request text =
+    option_map (λ service. Service service (word_behind text)) (script_number (word_in_front text))
+
 -- what a tidy line asks for, if it has to do with the code of modules
+abbrev pub service_asked : Option (List ℕ) → Option ModuleAsked
+service_asked (Some text) = service_request text
+service_asked None = None
+
+abbrev pub command_asked : List ℕ → Option (List ℕ) → Option ModuleAsked
+command_asked line (Some text) = Some (command_request text)
+command_asked line None = service_asked (text_behind (codes "SERVICE ") line)
+
 abbrev pub module_request : List ℕ → Option ModuleAsked
-module_request line = option_map command_request (text_behind (codes "COMMAND ") line)
+module_request line = command_asked line (text_behind (codes "COMMAND ") line)

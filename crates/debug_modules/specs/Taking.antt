@@ -60,11 +60,11 @@ steps_taken m labels is_traced s p number request =
     steps_kept m s p number request (stepping_in_modes m labels is_traced s request)
 
 -- a line left this
-pub record IsTaken (t : StepsTaken) (now : ScriptState) (modes : DebugModes) (past : PastState)
-    (text printed ending : List ℕ) : Type 0 where
+pub record IsTaken (t : StepsTaken) (now : ScriptState) (kept_modes : DebugModes) (kept_past : PastState)
+    (shown guest_text ended : List ℕ) : Type 0 where
   pub script : now ≡ t.script
-  pub modes : modes ≡ t.modes
-  pub past : past ≡ t.past
-  pub text : text ≡ t.text
-  pub printed : printed ≡ t.printed
-  pub ending : ending ≡ t.ending
+  pub modes : kept_modes ≡ t.modes
+  pub past : kept_past ≡ t.past
+  pub text : shown ≡ t.text
+  pub printed : guest_text ≡ t.printed
+  pub ending : ended ≡ t.ending

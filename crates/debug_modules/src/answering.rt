@@ -2,12 +2,13 @@
 
 ghost use Rattle.std.specs.Prelude.{◌≡◌, List, option_map, IfOk, OnOk};
 ghost use Rattle.command_shell.specs.Session.{script_state};
-ghost use Rattle.debug_modules.specs.Answers.{IsModuleAnswered, command_answered, command_called, command_put, error_below, module_line_answered, modes_after_modules, past_after_modules, script_after_modules, shown_of};
+ghost use Rattle.debug_modules.specs.Answers.{IsModuleAnswered, command_answered, command_called, command_put, error_below, module_line_answered, modes_after_modules, past_after_modules, script_after_modules, service_answered, shown_of};
 ghost use Rattle.debug_modules.specs.Taking.{IsTaken};
 
 use crate::entering::{ModuleEntry, enter_code};
 use crate::plans::{CommandPlan, TAIL, command_plan, tail_bytes};
 use crate::requests::{ModuleRequest, module_request};
+use crate::services::{call_service, is_served};
 use debug_history::{KeptText, Past, PastDeed, has_returned};
 use debug_labels::LabelTable;
 use debug_lines::DebugView;
@@ -63,6 +64,12 @@ pub fn answer_module_line(
             )?;
             Ok(Some(answer))
         }
+        Some(ModuleRequest::Service(service, title)) => {
+            let answer = answer_service(
+                alloc, budget, session, modes, past, images, labels, number, service, title,
+            )?;
+            Ok(Some(answer))
+        }
         None => Ok(None),
     }
 }
@@ -97,7 +104,7 @@ fn answer_command(
                 images,
                 labels,
                 number,
-                entry,
+                &entry,
                 bytes.as_slice(),
             )
         }
@@ -114,11 +121,11 @@ fn put_tail(
     images: &Images,
     labels: &LabelTable,
     number: u64,
-    entry: ModuleEntry,
+    entry: &ModuleEntry,
     bytes: &[u8],
 ) -> Result<ModuleAnswer, AllocError>
     ensures { let s = script_state session.old images.now in IfOk result (λ answer. IsModuleAnswered
-        (command_put modes.old labels.now budget s past.old number entry bytes.now)
+        (command_put modes.old labels.now budget s past.old number entry.now bytes.now)
         (script_state session.new images.now) modes.new past.new (shown_of answer)) }
 {
     let kept = KeptText::of(alloc, bytes)?;
@@ -147,10 +154,10 @@ fn call_command(
     images: &Images,
     labels: &LabelTable,
     number: u64,
-    entry: ModuleEntry,
+    entry: &ModuleEntry,
 ) -> Result<LineAnswer, AllocError>
     ensures { let s = script_state session.old images.now in IfOk result (λ answer. IsTaken
-        (command_called modes.old labels.now budget s past.old number entry)
+        (command_called modes.old labels.now budget s past.old number entry.now)
         (script_state session.new images.now) modes.new past.new
         answer.text.items answer.printed.items answer.ending.items) }
 {
@@ -162,4 +169,34 @@ fn call_command(
         answer.ending.extend_from_slice(error.as_slice())?;
     }
     Ok(answer)
+}
+
+// SERVICE.
+fn answer_service(
+    alloc: Global,
+    budget: u64,
+    session: &mut Session,
+    modes: &mut DebugModes,
+    past: &mut Past,
+    images: &Images,
+    labels: &LabelTable,
+    number: u64,
+    service: u32,
+    title: &[u8],
+) -> Result<ModuleAnswer, AllocError>
+    ensures { let s = script_state session.old images.now in IfOk result (λ answer. IsModuleAnswered
+        (service_answered modes.old labels.now budget s past.old number service title.now)
+        (script_state session.new images.now) modes.new past.new (shown_of answer)) }
+{
+    let machine = session.machine();
+    if machine.stop().is_some() {
+        return Ok(ModuleAnswer::Shown(refused_line(alloc, b"Halted")?));
+    }
+    if !is_served(machine.instances(), title) {
+        return Ok(ModuleAnswer::Shown(refused_line(alloc, b"NoModule")?));
+    }
+    let answer = call_service(
+        alloc, budget, session, modes, past, images, labels, number, service, title,
+    )?;
+    Ok(ModuleAnswer::Entered(answer))
 }

@@ -43,16 +43,16 @@ pub(crate) fn enter_code(
     images: &Images,
     labels: &LabelTable,
     number: u64,
-    entry: ModuleEntry,
+    entry: &ModuleEntry,
 ) -> Result<LineAnswer, AllocError>
     ensures { let s = script_state session.old images.now in IfOk result (λ answer. IsTaken
-        (code_entered modes.old labels.now s past.old number entry)
+        (code_entered modes.old labels.now s past.old number entry.now)
         (script_state session.new images.now) modes.new past.new
         answer.text.items answer.printed.items answer.ending.items) }
 {
+    let command = SteppingCommand::Gosub(entry.code);
     let before = session.machine().cpu().psr();
     stand_at(session, past, number, entry)?;
-    let command = SteppingCommand::Gosub(entry.code);
     let answer = take_steps(
         alloc, session, modes, past, images, labels, number, false, &command,
     )?;
@@ -68,12 +68,12 @@ fn stand_at(
     session: &mut Session,
     past: &mut Past,
     number: u64,
-    entry: ModuleEntry,
+    entry: &ModuleEntry,
 ) -> Result<(), AllocError>
     ensures script { (images : List Entry) → OnOk result
-        (script_state session.new images ≡ at_entry (script_state session.old images) entry) }
+        (script_state session.new images ≡ at_entry (script_state session.old images) entry.now) }
     ensures past { (images : List Entry) → OnOk result (past.new ≡ past_at_entry past.old number
-        (script_state session.old images).machine.cpu.psr entry) }
+        (script_state session.old images).machine.cpu.psr entry.now) }
 {
     let status = supervisor(session.machine().cpu().psr());
     put_status(session, past, number, status)?;

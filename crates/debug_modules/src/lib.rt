@@ -10,6 +10,7 @@ mod commands;
 mod entering;
 mod plans;
 mod requests;
+mod services;
 mod tables;
 mod taking;
 

@@ -115,7 +115,11 @@ fn word_count(tail: &[u8]) -> u32
 fn words_begun(in_word: bool, in_quotes: bool, byte: u8) -> u32
     ensures { result ≡ words_begun in_word in_quotes byte }
 {
-    if in_word || parts_words(in_quotes, byte) { 0 } else { 1 }
+    if in_word || parts_words(in_quotes, byte) {
+        0
+    } else {
+        1
+    }
 }
 
 fn parts_words(in_quotes: bool, byte: u8) -> bool

@@ -3,29 +3,42 @@
 ghost use Rattle.std.specs.Prelude.{◌≡◌, ◌==◌};
 ghost use Rattle.std.specs.List.{position};
 ghost use Rattle.std.specs.Option.{option_map};
-ghost use Rattle.debug_modules.specs.Requests.{command_request, module_request, module_request_of, word_behind, word_in_front};
+ghost use Rattle.debug_modules.specs.Requests.{command_request, module_request, module_request_of, service_request, word_behind, word_in_front};
 
 use command_shell_lines::debug_words::text_behind;
+use command_shell_lines::number_of;
 
 /// What a line asks for that has to do with the code of modules.
 #[derive(Clone, Copy, Debug)]
 pub enum ModuleRequest<'a> {
     /// `COMMAND name tail`: the command of that name, with what stands behind it.
     Command(&'a [u8], &'a [u8]),
+    /// `SERVICE n`, `SERVICE n Title`: the service call of that number, to the module of a title or, where that is
+    /// empty, to all.
+    Service(u32, &'a [u8]),
 }
 
 /// What a tidy line asks for, if it has to do with the code of modules.
 pub fn module_request(line: &[u8]) -> Option<ModuleRequest<'_>>
     ensures { option_map module_request_of result ≡ module_request line.now }
 {
-    let text = text_behind(b"COMMAND ", line)?;
-    Some(command_request(text))
+    match text_behind(b"COMMAND ", line) {
+        Some(text) => Some(command_request(text)),
+        None => service_request(text_behind(b"SERVICE ", line)?),
+    }
 }
 
 fn command_request(text: &[u8]) -> ModuleRequest<'_>
     ensures { module_request_of result ≡ command_request text.now }
 {
     ModuleRequest::Command(word_in_front(text), word_behind(text))
+}
+
+fn service_request(text: &[u8]) -> Option<ModuleRequest<'_>>
+    ensures { option_map module_request_of result ≡ service_request text.now }
+{
+    let service = number_of(word_in_front(text))?;
+    Some(ModuleRequest::Service(service, word_behind(text)))
 }
 
 // The bytes before the first space.

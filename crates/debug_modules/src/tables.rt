@@ -161,8 +161,8 @@ fn entry_of_words(memory: &AddressMap, name: u32, words: u32) -> CommandEntry
     }
 }
 
-// The word at an address, 0 where no memory is mapped.
-fn loaded_word(memory: &AddressMap, at: u32) -> u32
+/// The word at an address, 0 where no memory is mapped.
+pub(crate) fn loaded_word(memory: &AddressMap, at: u32) -> u32
     ensures { result ≡ loaded_word (bytes_of memory.now) at }
 {
     match memory.load_word(at) {

@@ -1,6 +1,6 @@
 -- A line that enters the code of modules, and what is kept of it.
-use Rattle.std.proofs.Common.{◌≡◌, ℕ, Bool, true, false, List, [], ◌∷◌, Option, Some, None, Result, Ok, Err, ap, refl, subst, sym, ◌∙◌, if◌then◌else◌}
-use Rattle.std.specs.Prelude.{unwrap_or, ◌&&◌, ◌++◌}
+use Rattle.std.proofs.Common.{◌≡◌, ℕ, zero, suc, ◌+◌, ◌/◌, ◌%◌, Bool, true, false, List, [], ◌∷◌, Option, Some, None, Result, Ok, Err, ap, refl, subst, sym, ◌∙◌, if◌then◌else◌}
+use Rattle.std.specs.Prelude.{unwrap_or, ◌&&◌, ◌++◌, codes, is_some}
 use Rattle.std.specs.Option.{option_map}
 use Rattle.profile.specs.Outcome.{Leaves}
 use Rattle.profile.specs.declared.fault.Fault.{Fault}
@@ -16,13 +16,16 @@ use Rattle.debug_lines.specs.SteppingRequests as stepping
 use Rattle.debug_modes.specs.Modes.{answer_of_line}
 use Rattle.debug_modes.specs.declared.modes.DebugModes.{DebugModes}
 use Rattle.debug_modes.specs.expectations.Why.{why_text}
-use Rattle.debug_modules.specs.Answers.{ModuleAnswered, ModuleShown, Steps, Text, command_by, command_called, command_put_by, error_below, module_answered, module_line_answered, modes_after_modules, past_after_modules, script_after_modules}
+use Rattle.debug_modules.specs.Answers.{ModuleAnswered, ModuleShown, Steps, Text, command_by, command_called, command_put_by, entered_so, error_below, module_answered, module_line_answered, modes_after_modules, only_shown, past_after_modules, script_after_modules}
 use Rattle.debug_modules.specs.Entering.{at_entry, back_if_returned, code_entered, past_at_entry, status_back, supervisor, with_status_back}
 use Rattle.debug_modules.specs.Plans.{command_plan, tail_address, tail_bytes}
-use Rattle.debug_modules.specs.Requests.{Command, ModuleAsked, module_request}
+use Rattle.debug_modules.specs.Requests.{Command, ModuleAsked, Service, module_request}
+use Rattle.debug_modules.specs.Services.{ServiceState, entry_of_service, is_served, served_at, served_from, served_if, service_begun, service_called, service_code, service_left}
 use Rattle.debug_modules.specs.Taking.{StepsTaken, steps_taken}
+use Rattle.debug_modules.specs.declared.services.ServiceCode.{ServiceCode}
 use Rattle.debug_modules.specs.declared.entering.ModuleEntry.{ModuleEntry}
 use Rattle.debug_tables.specs.byte_writes.Put.{script_after_put}
+use Rattle.debug_tables.specs.run_meter.Answers.{refused_text}
 use Rattle.debug_tables.specs.run_meter.Memory.{script_with_budget, script_with_register, script_with_status}
 use Rattle.debug_tables.specs.run_meter.State.{ScriptState}
 use Rattle.debug_session.specs.DebugScript.{module_line_by, module_line_shown, stepping_answer_by, unknown_answer, view_answer}
@@ -130,10 +133,46 @@ command_kept m labels budget s p number tail (Ok e) was =
     put_kept m labels budget s p number e (tail_bytes tail) (script_after_put s tail_address (tail_bytes tail)) refl was
 command_kept m labels budget s p number tail (Err text) was = was
 
+-- turn by turn
+turn_kept : (labels : List ImageLabels) (number : ℕ) (v : ServiceState) (o : Option ServiceCode) → IsPastOf v.taken.script v.taken.past
+    → (let u = (served_if labels number v o).taken in IsPastOf u.script u.past)
+turn_kept labels number v (Some c) was =
+    code_kept v.taken.modes labels v.taken.script v.taken.past number (entry_of_service v c) was
+turn_kept labels number v None was = was
+
+place_kept : (labels : List ImageLabels) (number : ℕ) (title : List ℕ) (place : ℕ) (v : ServiceState) (over : Bool)
+    → IsPastOf v.taken.script v.taken.past
+    → (let u = (if over then v else served_if labels number v (service_code v.taken.script.machine title (place / 64) (place % 64))).taken in
+    IsPastOf u.script u.past)
+place_kept labels number title place v true was = was
+place_kept labels number title place v false was =
+    turn_kept labels number v (service_code v.taken.script.machine title (place / 64) (place % 64)) was
+
+places_kept : (more : ℕ) (labels : List ImageLabels) (number : ℕ) (title : List ℕ) (place : ℕ) (v : ServiceState)
+    → IsPastOf v.taken.script v.taken.past
+    → (let u = (served_from more labels number title place v).taken in IsPastOf u.script u.past)
+unfolding served_from
+places_kept zero labels number title place v was = was
+places_kept (suc more) labels number title place v was =
+    places_kept more labels number title (place + 1) (served_at labels number title place v)
+    (place_kept labels number title place v v.is_over was)
+
+service_kept : (m : DebugModes) (labels : List ImageLabels) (budget : ℕ) (s : ScriptState) (p : PastState) (number service : ℕ)
+    (title : List ℕ) (halted is_there : Bool) → IsPastOf s p
+    → (let a = if halted then only_shown m s p (refused_text (codes "Halted")) else (if is_there
+    then entered_so (service_called m labels budget s p number service title)
+    else only_shown m s p (refused_text (codes "NoModule"))) in IsPastOf a.script a.past)
+service_kept m labels budget s p number service title true is_there was = was
+service_kept m labels budget s p number service title false true was =
+    places_kept 4096 labels number title 0 (service_begun m budget s p service) was
+service_kept m labels budget s p number service title false false was = was
+
 answer_kept : (m : DebugModes) (labels : List ImageLabels) (budget : ℕ) (s : ScriptState) (p : PastState) (number : ℕ) (asked : ModuleAsked)
     → IsPastOf s p → (let a = module_answered m labels budget s p number asked in IsPastOf a.script a.past)
 answer_kept m labels budget s p number (Command name tail) was =
     command_kept m labels budget s p number tail (command_plan s.machine name tail) was
+answer_kept m labels budget s p number (Service service title) was =
+    service_kept m labels budget s p number service title (is_some s.machine.halt) (is_served s.machine.tables.modules title) was
 
 shown_kept : (c : DebugSettings) (d : DebugState) (now : ScriptState) (shown : ModuleShown) → IsPastOf now d.past
     → (let e = (module_line_shown c d now shown).state in IsPastOf e.script e.past)
@@ -213,11 +252,56 @@ command_same m labels budget s q p r number tail (Ok e) =
     put_same m labels budget s q p r number e (tail_bytes tail) (script_after_put s tail_address (tail_bytes tail))
 command_same m labels budget s q p r number tail (Err text) = refl
 
+abbrev service_without : PastState → ServiceState → ServiceState
+service_without q v = record v { taken = without q v.taken }
+
+turn_same : (labels : List ImageLabels) (number : ℕ) (q p r : PastState) (v : ServiceState) (o : Option ServiceCode)
+    → service_without q (served_if labels number (service_without p v) o) ≡ service_without q (served_if labels number (service_without r v) o)
+turn_same labels number q p r v (Some c) =
+    ap (λ (t : StepsTaken). service_left v c.title.items t)
+    (code_same v.taken.modes labels v.taken.script q p r number (entry_of_service v c))
+turn_same labels number q p r v None = refl
+
+place_same : (labels : List ImageLabels) (number : ℕ) (title : List ℕ) (place : ℕ) (q p r : PastState) (v : ServiceState) (over : Bool)
+    → (let code = service_code v.taken.script.machine title (place / 64) (place % 64) in
+    let one = service_without p v in let two = service_without r v in
+    service_without q (if over then one else served_if labels number one code)
+    ≡ service_without q (if over then two else served_if labels number two code))
+place_same labels number title place q p r v true = refl
+place_same labels number title place q p r v false =
+    turn_same labels number q p r v (service_code v.taken.script.machine title (place / 64) (place % 64))
+
+places_same : (more : ℕ) (labels : List ImageLabels) (number : ℕ) (title : List ℕ) (place : ℕ) (q p r : PastState) (v : ServiceState)
+    → without q (served_from more labels number title place (service_without p v)).taken
+    ≡ without q (served_from more labels number title place (service_without r v)).taken
+unfolding served_from
+places_same zero labels number title place q p r v = refl
+places_same (suc more) labels number title place q p r v =
+    let one = served_at labels number title place (service_without p v) in
+    let two = served_at labels number title place (service_without r v) in
+    let same = place_same labels number title place q p r v v.is_over in
+    places_same more labels number title (place + 1) q one.taken.past q one
+    ∙ ap (λ (u : ServiceState). without q (served_from more labels number title (place + 1) u).taken) same
+    ∙ places_same more labels number title (place + 1) q q two.taken.past two
+
+service_same : (m : DebugModes) (labels : List ImageLabels) (budget : ℕ) (s : ScriptState) (q p r : PastState) (number service : ℕ)
+    (title : List ℕ) (halted is_there : Bool)
+    → (let answer : PastState → ModuleAnswered = λ (x : PastState). (if halted then only_shown m s x (refused_text (codes "Halted"))
+    else (if is_there then entered_so (service_called m labels budget s x number service title)
+    else only_shown m s x (refused_text (codes "NoModule")))) in answer_without q (answer p) ≡ answer_without q (answer r))
+service_same m labels budget s q p r number service title true is_there = refl
+service_same m labels budget s q p r number service title false true =
+    ap (λ (t : StepsTaken). answer_without q (entered_so t))
+    (places_same 4096 labels number title 0 q p r (service_begun m budget s p service))
+service_same m labels budget s q p r number service title false false = refl
+
 answer_same : (m : DebugModes) (labels : List ImageLabels) (budget : ℕ) (s : ScriptState) (q p r : PastState) (number : ℕ)
     (asked : ModuleAsked)
     → answer_without q (module_answered m labels budget s p number asked) ≡ answer_without q (module_answered m labels budget s r number asked)
 answer_same m labels budget s q p r number (Command name tail) =
     command_same m labels budget s q p r number tail (command_plan s.machine name tail)
+answer_same m labels budget s q p r number (Service service title) =
+    service_same m labels budget s q p r number service title (is_some s.machine.halt) (is_served s.machine.tables.modules title)
 
 shown_same : (c : DebugSettings) (d : DebugState) (p : PastState) (a : ModuleAnswered) (shown : ModuleShown)
     → (record (module_line_shown c (record d { modes = a.modes; past = a.past }) a.script shown).state { past = p }

@@ -16,7 +16,7 @@ loop-number-preserved c =
 pub returns-in-End-clause-entries : goal.returns-in-End-clause-entries
 returns-in-End-clause-entries c =
     let below : c.loop-number._number < 256 = omega arith in
-    (read_to_end _ _ _ _ _ _ c.entry_at.result below c.entry_at.ensures c.in-End.is c.loop-number.invariant).entries
+    (read_to_end _ _ _ _ _ _ c.entry_at.result below c.entry_at.ensures c.in-End.is c.loop-number.invariant).all
 
 pub returns-in-End-clause-whole : goal.returns-in-End-clause-whole
 returns-in-End-clause-whole c =
@@ -26,7 +26,7 @@ returns-in-End-clause-whole c =
 pub returns-in-Outside-clause-entries : goal.returns-in-Outside-clause-entries
 returns-in-Outside-clause-entries c =
     let below : c.loop-number._number < 256 = omega arith in
-    (read_outside _ _ _ _ _ _ c.entry_at.result below c.entry_at.ensures c.in-Outside.is c.loop-number.invariant).entries
+    (read_outside _ _ _ _ _ _ c.entry_at.result below c.entry_at.ensures c.in-Outside.is c.loop-number.invariant).all
 
 pub returns-in-Outside-clause-whole : goal.returns-in-Outside-clause-whole
 returns-in-Outside-clause-whole c =
@@ -36,7 +36,7 @@ returns-in-Outside-clause-whole c =
 pub returns-clause-entries : goal.returns-clause-entries
 returns-clause-entries c =
     let past : 256 ≤ c.loop-number._number = omega arith in
-    (read_too_many _ _ _ _ _ _ past c.loop-number.invariant).entries
+    (read_too_many _ _ _ _ _ _ past c.loop-number.invariant).all
 
 pub returns-clause-whole : goal.returns-clause-whole
 returns-clause-whole c =

@@ -1,0 +1,207 @@
+//! Service calls: the code for them of each instance of each module, in turn.
+
+ghost use Rattle.std.specs.Prelude.{◌≡◌, ◌++◌, codes, IfOk, OnOk};
+ghost use Rattle.command_shell.specs.GuestState.{state_of};
+ghost use Rattle.command_shell.specs.Session.{script_state};
+ghost use Rattle.debug_modules.specs.Services.{claimed_text, is_meant, is_served, served_at, served_by, service_called, service_code, service_state};
+ghost use Rattle.debug_modules.specs.Taking.{IsTaken};
+
+use crate::entering::{ModuleEntry, enter_code};
+use crate::plans::code_at;
+use crate::tables::loaded_word;
+use command_shell_lines::Origin;
+use debug_history::{Past, has_returned};
+use debug_labels::{Instances, LabelTable, ModuleInfo};
+use debug_modes::DebugModes;
+use debug_runs::LineAnswer;
+use debug_tables::run_meter::{Machine, Session};
+use image_loader::Images;
+use instances_table::Name;
+use profile::memory_map::PRIVATE_WORDS;
+use std::alloc::{AllocError, Global};
+
+// Where the header has the offset of the code, and how long an image is that has it.
+const SERVICE_WORD: u32 = 0x0C;
+
+const LEAST_BYTES: u32 = 0x10;
+
+// So many modules there are at most, and so many instances of each.
+const MOST: u32 = 64;
+
+/// The code for service calls of an instance: its module's title, where the code is, and its private word.
+#[derive(Drop)]
+pub(crate) struct ServiceCode {
+    pub title: Name,
+    pub code: Origin,
+    pub word: u32,
+}
+
+/// How far a service call is: R1, whether it is over, and what its steps left.
+#[derive(Drop)]
+pub(crate) struct Serving {
+    pub r1: u32,
+    pub is_over: bool,
+    pub answer: LineAnswer,
+}
+
+/// Whether an instance of a module of that title is there, or any title is meant.
+pub(crate) fn is_served(modules: &Instances, title: &[u8]) -> bool
+    ensures { result ≡ is_served modules.now title.now }
+{
+    title.is_empty() || modules.slots_of_title(title).len() > 0
+}
+
+/// Makes a service call, with the whole budget: to the modules of a title, or to all where it is empty.
+///
+/// # Errors
+///
+/// Where memory ran out; steps may have been taken then.
+pub(crate) fn call_service(
+    alloc: Global,
+    budget: u64,
+    session: &mut Session,
+    modes: &mut DebugModes,
+    past: &mut Past,
+    images: &Images,
+    labels: &LabelTable,
+    number: u64,
+    service: u32,
+    title: &[u8],
+) -> Result<LineAnswer, AllocError>
+    ensures { let s = script_state session.old images.now in IfOk result (λ answer. IsTaken
+        (service_called modes.old labels.now budget s past.old number service title.now)
+        (script_state session.new images.now) modes.new past.new
+        answer.text.items answer.printed.items answer.ending.items) }
+{
+    session.set_budget(budget);
+    let mut serving = Serving {
+        r1: service,
+        is_over: false,
+        answer: LineAnswer {
+            text: Vec::new(alloc),
+            printed: Vec::new(alloc),
+            ending: Vec::from_slice(alloc, b"not claimed\n")?,
+        },
+    };
+    for place in 0..MOST * MOST {
+        serve_at(
+            alloc,
+            session,
+            modes,
+            past,
+            images,
+            labels,
+            number,
+            title,
+            place,
+            &mut serving,
+        )?;
+    }
+    Ok(serving.answer)
+}
+
+// Enters the code of the instance at a place, if there is one and the call isn't over.
+fn serve_at(
+    alloc: Global,
+    session: &mut Session,
+    modes: &mut DebugModes,
+    past: &mut Past,
+    images: &Images,
+    labels: &LabelTable,
+    number: u64,
+    title: &[u8],
+    place: u32,
+    serving: &mut Serving,
+) -> Result<(), AllocError>
+    ensures { OnOk result (service_state (script_state session.new images.now) modes.new past.new serving.new
+        ≡ served_at labels.now number title.now place
+        (service_state (script_state session.old images.now) modes.old past.old serving.old)) }
+{
+    if serving.is_over {
+        return Ok(());
+    }
+    match service_code(session.machine(), title, place / MOST, place % MOST) {
+        Some(code) => serve(
+            alloc, session, modes, past, images, labels, number, &code, serving,
+        ),
+        None => Ok(()),
+    }
+}
+
+// Enters the code of an instance.
+fn serve(
+    alloc: Global,
+    session: &mut Session,
+    modes: &mut DebugModes,
+    past: &mut Past,
+    images: &Images,
+    labels: &LabelTable,
+    number: u64,
+    code: &ServiceCode,
+    serving: &mut Serving,
+) -> Result<(), AllocError>
+    ensures { OnOk result (service_state (script_state session.new images.now) modes.new past.new serving.new
+        ≡ served_by labels.now number code.now
+        (service_state (script_state session.old images.now) modes.old past.old serving.old)) }
+{
+    let entry = ModuleEntry {
+        code: code.code,
+        r0: session.machine().cpu().register(0),
+        r1: serving.r1,
+        r12: code.word,
+    };
+    let taken = enter_code(alloc, session, modes, past, images, labels, number, &entry)?;
+    serving
+        .answer
+        .text
+        .extend_from_slice(taken.text.as_slice())?;
+    serving
+        .answer
+        .printed
+        .extend_from_slice(taken.printed.as_slice())?;
+    serving.r1 = session.machine().cpu().register(1);
+    if !has_returned(taken.ending.as_slice()) {
+        serving.is_over = true;
+        serving.answer.ending = taken.ending;
+    } else if serving.r1 == 0 {
+        serving.is_over = true;
+        serving.answer.ending = claimed_line(alloc, code.title.as_slice())?;
+    }
+    Ok(())
+}
+
+// `claimed by Pots`
+fn claimed_line(alloc: Global, title: &[u8]) -> Result<Vec<u8>, AllocError>
+    ensures { IfOk result (λ line. line.items ≡ claimed_text title.now) }
+{
+    let mut line = Vec::from_slice(alloc, b"claimed by ")?;
+    line.extend_from_slice(title)?;
+    line.push(b'\n')?;
+    Ok(line)
+}
+
+// The code of an instance of a module, by their numbers, if there is one that is meant.
+fn service_code(machine: &Machine, title: &[u8], number: u32, instance: u32) -> Option<ServiceCode>
+    ensures { result ≡ service_code (state_of machine.now.guest) title.now number instance }
+{
+    let info = machine.instances().module(number)?;
+    let reported = machine.instances().instance(number, instance)?;
+    if !is_meant(&info, title) {
+        return None;
+    }
+    let offset = loaded_word(machine.memory(), info.image.wrapping_add(SERVICE_WORD));
+    let code = code_at(info.image, info.len, offset)?;
+    Some(ServiceCode {
+        title: info.title,
+        code,
+        word: PRIVATE_WORDS + 4 * reported.slot,
+    })
+}
+
+// Whether a module has a word for such code, and is meant by a title.
+fn is_meant(module: &ModuleInfo, title: &[u8]) -> bool
+    ensures { result ≡ is_meant module.now title.now }
+{
+    module.len >= LEAST_BYTES
+        && (title.is_empty() || module.title.as_slice().eq_ignore_ascii_case(title))
+}
