@@ -1,10 +1,12 @@
-"""Cases of tools/run_riscos: commands at random through OS_CLI, for a module that notes which one was entered, and how."""
+"""Cases of tools/run_riscos: commands at random, for a module that notes which one was entered, and how: through OS_CLI,
+and by the line COMMAND of a debugging script, which does the same."""
 from __future__ import annotations
 
 import random
+from dataclasses import dataclass
 from typing import Iterator
 
-from riscos_cases import BAD_COMMAND, SYNTAX, TEXT, Case
+from riscos_cases import BAD_COMMAND, SYNTAX, TEXT, Case, spelt
 
 # the commands in their order, each with the least and the most words that it takes
 COMMANDS = (("Ab", 0, 9), ("Abc", 1, 2), ("ABCD", 0, 0), ("b_1", 0, 255))
@@ -12,6 +14,8 @@ COMMANDS = (("Ab", 0, 9), ("Abc", 1, 2), ("ABCD", 0, 0), ("b_1", 0, 255))
 NOTES = 0x9300
 # where OS_CLI keeps its copy of the command: 256 bytes below the eleven registers that it stacks
 COPY = 0x1C02000 - 4 * 11 - 256
+# where COMMAND puts the tail
+LINE_TAIL = 0x1C02300
 CODE = """note{number}   STMFD   R13!,{{R14}}
         MOV     R2,#{number}
         B       note
@@ -89,3 +93,40 @@ def commands(chance: random.Random) -> Iterator[Case]:
             name = chance.choice(COMMANDS)[0] + chance.choice(("", ".", " "))
         words = "".join(chance.choices(' x"', (3, 3, 1), k=chance.randrange(8)))
         yield case_of(front + name + chance.choice((" ", "")) + words, chance.choice("\0\n\r"))
+
+
+@dataclass
+class CommandLine(Case):
+    """A line COMMAND, and what must come of it."""
+
+    def lines(self) -> Iterator[str]:
+        yield f"FILL &{NOTES:X} 12 0"
+        yield f"COMMAND {self.text.decode()}"
+        if self.error:
+            yield "EXPECT ANSWER " + ("refused NoCommand" if self.error == BAD_COMMAND else f"error 220 &DC {self.error}")
+        else:
+            yield f'FIND &{LINE_TAIL:X} 1 "{spelt(self.value)}"'
+            yield f"EXPECT ANSWER found &{LINE_TAIL:X}"
+        for place, word in self.words.items():
+            yield f"EXPECT WORD &{place:X} &{word:X}"
+
+
+def tidied(tail: str) -> str:
+    """A tail whose words, but for spaces within double quotes, are parted by single spaces, as a line's are."""
+    text, within = "", False
+    for sign in tail:
+        within ^= sign == '"'
+        if sign != " " or within or not text.endswith(" "):
+            text += sign
+    return text.lstrip(" ") if within else text.strip(" ")
+
+
+def command_lines(chance: random.Random) -> Iterator[Case]:
+    """Cases of COMMAND: those of OS_CLI whose name is no shorter one with a full stop."""
+    for case in commands(chance):
+        line = case.text.decode().rstrip("\0\n\r").lstrip(" *")
+        name, _, tail = line.partition(" ")
+        if not name or "." in name or "|" in name or '"' in name:
+            continue
+        words = {**case.words, NOTES: LINE_TAIL} if not case.error else case.words
+        yield CommandLine("COMMAND", {}, text=line.encode(), error=case.error, value=(tidied(tail) + "\r").encode(), words=words)

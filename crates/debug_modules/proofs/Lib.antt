@@ -1,3 +1,4 @@
 pub mod TableLemmas
+pub mod EnteringLemmas
 pub mod PlanLemmas
 pub mod ServiceLemmas

@@ -1,9 +1,10 @@
 -- What lines are answered that enter the code of modules, and what they leave.
-use Rattle.std.specs.Prelude.{◌≡◌, ℕ, ◌&&◌, ◌++◌, is_some, codes, List, Option, Some, None, Result, Ok, Err, if◌then◌else◌}
+use Rattle.std.specs.Prelude.{◌≡◌, ℕ, ◌&&◌, ◌++◌, is_some, codes, List, [], Option, Some, None, Result, Ok, Err, if◌then◌else◌}
 use Rattle.std.specs.Option.{option_map}
 use Rattle.profile.specs.FaultNames.{fault_name}
 use Rattle.profile.specs.declared.fault.Fault.{Fault}
 use Rattle.command_shell.specs.Answers.{refused_text}
+use Rattle.command_shell.specs.MachineState.{MachineState}
 use Rattle.command_shell.specs.Memory.{script_with_budget}
 use Rattle.command_shell.specs.State.{ScriptState}
 use Rattle.debug_history.specs.Noted.{has_returned, past_with_deed}
@@ -54,10 +55,11 @@ entered_so t = record {
 -- COMMAND
 
 -- the error of code that has gone back with V set, as WHY shows it
+abbrev pub error_text : MachineState → List ℕ → List ℕ
+error_text s ended = if s.cpu.psr.overflow && has_returned ended then why_text s.cpu s.store.bytes else []
+
 abbrev pub error_below : StepsTaken → StepsTaken
-error_below t =
-    if t.script.machine.cpu.psr.overflow && has_returned t.ending
-    then record t { ending = t.ending ++ why_text t.script.machine.cpu t.script.machine.store.bytes } else t
+error_below t = record t { ending = t.ending ++ error_text t.script.machine t.ending }
 
 -- its code is entered, with the whole budget
 abbrev pub command_called : DebugModes → List ImageLabels → ℕ → ScriptState → PastState → ℕ → ModuleEntry

@@ -59,8 +59,8 @@ abbrev pub shown_character : ℕ → ℕ
 shown_character byte = if is_in_range 32 126 byte then byte else 46
 
 -- `error 220 &DC Syntax: *PotSet <pot> <seeds>`
-abbrev pub syntax_line : Bytes → FoundCommand → List ℕ
-syntax_line b f = codes "error 220 &DC " ++ (map shown_character (syntax_text b f) ++ codes "\n")
+abbrev pub syntax_line : List ℕ → List ℕ
+syntax_line text = codes "error 220 &DC " ++ (map shown_character text ++ codes "\n")
 
 -- R0: the tail; R1: how many words it has; R12: the private word
 abbrev pub entry_of_command : FoundCommand → ℕ → Option ℕ → Result ModuleEntry (List ℕ)
@@ -72,7 +72,7 @@ is_outside limits count = nat_lt count (limits % 256) || nat_lt (limits / 65536 
 
 abbrev pub plan_of_count : Bytes → FoundCommand → ℕ → Result ModuleEntry (List ℕ)
 plan_of_count b f count =
-    if is_outside f.entry.limits count then Err (syntax_line b f)
+    if is_outside f.entry.limits count then Err (syntax_line (syntax_text b f))
     else entry_of_command f count (code_at f.image f.len f.entry.code)
 
 abbrev pub found_plan : Bytes → FoundCommand → List ℕ → Result ModuleEntry (List ℕ)

@@ -85,19 +85,26 @@ service_ending before ended title r1 =
     if not (has_returned ended) then ended else (if r1 == 0 then claimed_text title else before)
 
 -- code that was entered has left this
-abbrev pub with_service : ServiceState → List ℕ → StepsTaken → ℕ → ServiceState
-with_service v title t r1 = record {
+abbrev pub with_service : ServiceState → StepsTaken → ServiceState
+with_service v t = record {
   taken = record t {
     text = v.taken.text ++ t.text;
     printed = v.taken.printed ++ t.printed;
-    ending = service_ending v.taken.ending t.ending title r1;
+    ending = v.taken.ending;
   };
-  r1 = r1;
-  is_over = not (has_returned t.ending) || r1 == 0;
+  r1 = register_of t.script.machine.cpu 1;
+  is_over = v.is_over;
+}
+
+-- the call is over where the code has not gone back, or has claimed it
+abbrev pub service_ended : List ℕ → List ℕ → ServiceState → ServiceState
+service_ended title ended v = record v {
+  taken = record v.taken { ending = service_ending v.taken.ending ended title v.r1 };
+  is_over = not (has_returned ended) || (v.r1 == 0 || v.is_over);
 }
 
 abbrev pub service_left : ServiceState → List ℕ → StepsTaken → ServiceState
-service_left v title t = with_service v title t (register_of t.script.machine.cpu 1)
+service_left v title t = service_ended title t.ending (with_service v t)
 
 -- R0 is as it was
 abbrev pub entry_of_service : ServiceState → ServiceCode → ModuleEntry

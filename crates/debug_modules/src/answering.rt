@@ -1,8 +1,9 @@
 //! Lines that enter the code of modules are answered.
 
 ghost use Rattle.std.specs.Prelude.{◌≡◌, List, option_map, IfOk, OnOk};
+ghost use Rattle.image_loader.specs.Entries.{Entry};
 ghost use Rattle.command_shell.specs.Session.{script_state};
-ghost use Rattle.debug_modules.specs.Answers.{IsModuleAnswered, command_answered, command_called, command_put, error_below, module_line_answered, modes_after_modules, past_after_modules, script_after_modules, service_answered, shown_of};
+ghost use Rattle.debug_modules.specs.Answers.{IsModuleAnswered, command_answered, command_called, command_put, error_text, module_line_answered, modes_after_modules, past_after_modules, script_after_modules, service_answered, shown_of};
 ghost use Rattle.debug_modules.specs.Taking.{IsTaken};
 
 use crate::entering::{ModuleEntry, enter_code};
@@ -163,12 +164,27 @@ fn call_command(
 {
     session.set_budget(budget);
     let mut answer = enter_code(alloc, session, modes, past, images, labels, number, entry)?;
-    let machine = session.machine();
-    if machine.cpu().psr().overflow && has_returned(answer.ending.as_slice()) {
-        let error = view_text(alloc, labels, machine, DebugView::Why)?;
-        answer.ending.extend_from_slice(error.as_slice())?;
-    }
+    let error = error_text(alloc, session, labels, answer.ending.as_slice())?;
+    answer.ending.extend_from_slice(error.as_slice())?;
     Ok(answer)
+}
+
+// The error of code that has gone back with one, as WHY shows it.
+fn error_text(
+    alloc: Global,
+    session: &Session,
+    labels: &LabelTable,
+    ending: &[u8],
+) -> Result<Vec<u8>, AllocError>
+    ensures { (images : List Entry) → IfOk result (λ text. text.items
+        ≡ error_text (script_state session.now images).machine ending.now) }
+{
+    let machine = session.machine();
+    if machine.cpu().psr().overflow && has_returned(ending) {
+        view_text(alloc, labels, machine, DebugView::Why)
+    } else {
+        Ok(Vec::new(alloc))
+    }
 }
 
 // SERVICE.

@@ -51,16 +51,23 @@ pub(crate) fn enter_code(
         answer.text.items answer.printed.items answer.ending.items) }
 {
     let command = SteppingCommand::Gosub(entry.code);
-    let before = session.machine().cpu().psr();
+    let before = status_of(session);
     stand_at(session, past, number, entry)?;
     let answer = take_steps(
         alloc, session, modes, past, images, labels, number, false, &command,
     )?;
-    if has_returned(answer.ending.as_slice()) {
-        let status = status_back(before, session.machine().cpu().psr());
-        put_status(session, past, number, status)?;
+    if !has_returned(answer.ending.as_slice()) {
+        return Ok(answer);
     }
+    let status = status_back(before, status_of(session));
+    put_status(session, past, number, status)?;
     Ok(answer)
+}
+
+fn status_of(session: &Session) -> Psr
+    ensures { (images : List Entry) → result ≡ (script_state session.now images).machine.cpu.psr }
+{
+    session.machine().cpu().psr()
 }
 
 // SVC mode, and the registers of the entry.
@@ -75,7 +82,7 @@ fn stand_at(
     ensures past { (images : List Entry) → OnOk result (past.new ≡ past_at_entry past.old number
         (script_state session.old images).machine.cpu.psr entry.now) }
 {
-    let status = supervisor(session.machine().cpu().psr());
+    let status = supervisor(status_of(session));
     put_status(session, past, number, status)?;
     put_register(session, past, number, 0, entry.r0)?;
     put_register(session, past, number, 1, entry.r1)?;

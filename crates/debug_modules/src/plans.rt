@@ -75,13 +75,15 @@ fn found_plan(
     found: &FoundCommand,
     tail: &[u8],
 ) -> Result<CommandPlan, AllocError>
+    requires { length tail.now ≤ 255 }
     ensures { IfOk result (λ plan. plan_of plan ≡ found_plan (bytes_of memory.now) found.now tail.now) }
 {
     let count = word_count(tail);
     let least = found.entry.limits % 256;
     let most = found.entry.limits / 65536 % 256;
     if count < least || count > most {
-        return Ok(CommandPlan::Refused(syntax_line(alloc, memory, found)?));
+        let text = syntax_text(memory, found);
+        return Ok(CommandPlan::Refused(syntax_line(alloc, text.as_slice())?));
     }
     match code_at(found.image, found.len, found.entry.code) {
         Some(code) => Ok(CommandPlan::Ready(ModuleEntry {
@@ -148,16 +150,11 @@ pub(crate) fn code_at(image: u32, len: u32, offset: u32) -> Option<Origin>
 }
 
 // `error 220 &DC Syntax: *PotSet <pot> <seeds>`
-fn syntax_line(
-    alloc: Global,
-    memory: &AddressMap,
-    found: &FoundCommand,
-) -> Result<Vec<u8>, AllocError>
-    ensures { IfOk result (λ line. line.items ≡ syntax_line (bytes_of memory.now) found.now) }
+fn syntax_line(alloc: Global, text: &[u8]) -> Result<Vec<u8>, AllocError>
+    ensures { IfOk result (λ line. line.items ≡ syntax_line text.now) }
 {
-    let text = syntax_text(memory, found);
     let mut line = Vec::from_slice(alloc, b"error 220 &DC ")?;
-    for byte in text.as_slice() {
+    for byte in text {
         line.push(shown_character(*byte))?;
     }
     line.push(b'\n')?;

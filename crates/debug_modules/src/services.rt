@@ -1,9 +1,14 @@
 //! Service calls: the code for them of each instance of each module, in turn.
 
-ghost use Rattle.std.specs.Prelude.{◌≡◌, ◌++◌, codes, IfOk, OnOk};
+ghost use Rattle.std.specs.Prelude.{◌≡◌, List, IfOk, OnOk};
+ghost use Rattle.arm_core.specs.State.{register_of};
 ghost use Rattle.command_shell.specs.GuestState.{state_of};
 ghost use Rattle.command_shell.specs.Session.{script_state};
-ghost use Rattle.debug_modules.specs.Services.{claimed_text, is_meant, is_served, served_at, served_by, service_called, service_code, service_state};
+ghost use Rattle.command_shell.specs.State.{ScriptState};
+ghost use Rattle.debug_history.specs.Past.{PastState};
+ghost use Rattle.debug_modes.specs.declared.modes.DebugModes.{DebugModes};
+ghost use Rattle.image_loader.specs.Entries.{Entry};
+ghost use Rattle.debug_modules.specs.Services.{claimed_text, is_meant, is_served, served_at, served_by, service_called, service_code, service_ended, service_state};
 ghost use Rattle.debug_modules.specs.Taking.{IsTaken};
 
 use crate::entering::{ModuleEntry, enter_code};
@@ -159,14 +164,36 @@ fn serve(
         .answer
         .printed
         .extend_from_slice(taken.printed.as_slice())?;
-    serving.r1 = session.machine().cpu().register(1);
-    if !has_returned(taken.ending.as_slice()) {
+    serving.r1 = first_register(session);
+    end_turn(alloc, serving, code.title.as_slice(), taken.ending)
+}
+
+fn first_register(session: &Session) -> u32
+    ensures { (images : List Entry) → result ≡ register_of (script_state session.now images).machine.cpu 1 }
+{
+    session.machine().cpu().register(1)
+}
+
+// The call is over where the code has not gone back, which ended so, or has claimed it.
+fn end_turn(
+    alloc: Global,
+    serving: &mut Serving,
+    title: &[u8],
+    ended: Vec<u8>,
+) -> Result<(), AllocError>
+    ensures { (s : ScriptState) → (m : DebugModes) → (p : PastState) → OnOk result
+        (service_state s m p serving.new ≡ service_ended title.now ended.items (service_state s m p serving.old)) }
+{
+    if !has_returned(ended.as_slice()) {
         serving.is_over = true;
-        serving.answer.ending = taken.ending;
-    } else if serving.r1 == 0 {
-        serving.is_over = true;
-        serving.answer.ending = claimed_line(alloc, code.title.as_slice())?;
+        serving.answer.ending = ended;
+        return Ok(());
     }
+    if serving.r1 != 0 {
+        return Ok(());
+    }
+    serving.answer.ending = claimed_line(alloc, title)?;
+    serving.is_over = true;
     Ok(())
 }
 

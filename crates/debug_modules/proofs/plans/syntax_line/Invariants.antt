@@ -4,5 +4,5 @@ use Rattle.debug_modules.proofs.plans.syntax_line.Given as goal
 
 -- what was shown, and what is left, is all
 abbrev pub invariant-loop-byte : goal.invariant-loop-byte
-invariant-loop-byte l = l.line.items ++ map shown_character (drop l.byte-index l.text.items)
-    ≡ codes "error 220 &DC " ++ map shown_character l.text.items
+invariant-loop-byte l = l.line.items ++ map shown_character (drop l.byte-index l.text)
+    ≡ codes "error 220 &DC " ++ map shown_character l.text

@@ -1,6 +1,5 @@
 -- Entry by entry.
 use Rattle.std.proofs.Common.{arith, ◌<◌, ◌≤◌}
-use Rattle.address_map.specs.Memory.{bytes_of}
 use Rattle.debug_modules.proofs.TableLemmas.{read_first, read_more, read_outside, read_to_end, read_too_many}
 use Rattle.debug_modules.proofs.tables.table_from.Goals as goal
 

@@ -1,0 +1,13 @@
+-- The status, and one register after another.
+use Rattle.std.proofs.Common.{◌∙◌, ap}
+use Rattle.command_shell.specs.Session.{script_state}
+use Rattle.debug_modules.specs.Entering.{supervisor}
+use Rattle.debug_modules.proofs.EnteringLemmas.{anyhow, stands_at}
+use Rattle.debug_modules.proofs.entering.stand_at.Goals as goal
+
+pub returns-clause-script : goal.returns-clause-script
+returns-clause-script c images =
+    anyhow c.put_register-3.result _ (stands_at (script_state c.args.session.now images) _ _ _ _ c.supervisor-status.result c.args.entry.now
+    (c.supervisor-status.ensures ∙ ap supervisor (c.status_of.ensures images))
+    (c.put_status.ensures.script images) (c.put_register.ensures.script images) (c.put_register-2.ensures.script images)
+    (c.put_register-3.ensures.script images))
