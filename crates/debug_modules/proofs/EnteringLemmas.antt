@@ -8,7 +8,7 @@ use Rattle.command_shell.specs.State.{ScriptState}
 use Rattle.command_shell_lines.specs.declared.debug_words.stubs.Stub.{Stub}
 use Rattle.debug_history.specs.Noted.{has_returned, past_after_stepping, past_with_deed}
 use Rattle.debug_history.specs.Past.{PastState}
-use Rattle.debug_history.specs.declared.act.PastDeed.TheVariants.{Bytes, Status}
+use Rattle.debug_history.specs.declared.act.PastDeed.TheVariants.{Bytes, Register, Status}
 use Rattle.debug_history.specs.declared.noting.SteppingNote.{SteppingNote}
 use Rattle.debug_history.specs.declared.noting.StepsBefore.{StepsBefore}
 use Rattle.debug_labels.specs.Labels.{ImageLabels}
@@ -46,6 +46,16 @@ stands_at s s0 s1 s2 s3 status e set first second third last =
     (third ∙ ap (λ (x : ScriptState). script_with_register x 1 e.r1)
     (second ∙ ap (λ (x : ScriptState). script_with_register x 0 e.r0)
     (first ∙ ap (λ (x : Psr). script_with_status s x) set)))
+
+pub past_at : (p p0 p1 p2 : PastState) (number : ℕ) (before status : Psr) (e : ModuleEntry) → status ≡ supervisor before
+    → p0 ≡ past_with_deed p number (Status status) → p1 ≡ past_with_deed p0 number (Register 0 e.r0)
+    → p2 ≡ past_with_deed p1 number (Register 1 e.r1)
+    → past_with_deed p2 number (Register 12 e.r12) ≡ past_at_entry p number before e
+past_at p p0 p1 p2 number before status e set first second third =
+    ap (λ (x : PastState). past_with_deed x number (Register 12 e.r12))
+    (third ∙ ap (λ (x : PastState). past_with_deed x number (Register 1 e.r1))
+    (second ∙ ap (λ (x : PastState). past_with_deed x number (Register 0 e.r0))
+    (first ∙ ap (λ (x : Psr). past_with_deed p number (Status x)) set)))
 
 open_so : (number : ℕ) (before : Psr) (t : StepsTaken) (b : Bool) → b ≡ false → (if b then with_status_back number before t else t) ≡ t
 open_so number before t false is = λ i. t

@@ -1,6 +1,6 @@
 //! Service calls: the code for them of each instance of each module, in turn.
 
-ghost use Rattle.std.specs.Prelude.{◌≡◌, List, IfOk, OnOk};
+ghost use Rattle.std.specs.Prelude.{◌≡◌, ◌≤◌, List, IfOk, OnOk};
 ghost use Rattle.arm_core.specs.State.{register_of};
 ghost use Rattle.command_shell.specs.GuestState.{state_of};
 ghost use Rattle.command_shell.specs.Session.{script_state};
@@ -151,7 +151,7 @@ fn serve(
 {
     let entry = ModuleEntry {
         code: code.code,
-        r0: session.machine().cpu().register(0),
+        r0: register_in(session, 0),
         r1: serving.r1,
         r12: code.word,
     };
@@ -164,14 +164,16 @@ fn serve(
         .answer
         .printed
         .extend_from_slice(taken.printed.as_slice())?;
-    serving.r1 = first_register(session);
+    serving.r1 = register_in(session, 1);
     end_turn(alloc, serving, code.title.as_slice(), taken.ending)
 }
 
-fn first_register(session: &Session) -> u32
-    ensures { (images : List Entry) → result ≡ register_of (script_state session.now images).machine.cpu 1 }
+fn register_in(session: &Session, number: u32) -> u32
+    requires { number ≤ 14 }
+    ensures { (images : List Entry)
+        → result ≡ register_of (script_state session.now images).machine.cpu number }
 {
-    session.machine().cpu().register(1)
+    session.machine().cpu().register(number)
 }
 
 // The call is over where the code has not gone back, which ended so, or has claimed it.

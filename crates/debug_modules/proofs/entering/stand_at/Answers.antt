@@ -1,8 +1,10 @@
 -- The status, and one register after another.
-use Rattle.std.proofs.Common.{◌∙◌, ap}
+use Rattle.std.proofs.Common.{◌≡◌, ◌∙◌, ap, subst}
+use Rattle.std.specs.Prelude.{OnOk}
 use Rattle.command_shell.specs.Session.{script_state}
+use Rattle.debug_history.specs.Past.{PastState}
 use Rattle.debug_modules.specs.Entering.{supervisor}
-use Rattle.debug_modules.proofs.EnteringLemmas.{anyhow, stands_at}
+use Rattle.debug_modules.proofs.EnteringLemmas.{anyhow, past_at, stands_at}
 use Rattle.debug_modules.proofs.entering.stand_at.Goals as goal
 
 pub returns-clause-script : goal.returns-clause-script
@@ -11,3 +13,11 @@ returns-clause-script c images =
     (c.supervisor-status.ensures ∙ ap supervisor (c.status_of.ensures images))
     (c.put_status.ensures.script images) (c.put_register.ensures.script images) (c.put_register-2.ensures.script images)
     (c.put_register-3.ensures.script images))
+
+pub returns-clause-past : goal.returns-clause-past
+returns-clause-past c images =
+    subst (λ (x : PastState). OnOk c.put_register-3.result (c.put_register-3.new.past ≡ x))
+    (past_at c.args.past.now _ _ _ c.args.number (script_state c.args.session.now images).machine.cpu.psr c.supervisor-status.result
+    c.args.entry.now (c.supervisor-status.ensures ∙ ap supervisor (c.status_of.ensures images))
+    c.in_ok-put_status.ensures.past c.in_ok-put_register.ensures.past c.in_ok-put_register-2.ensures.past)
+    c.put_register-3.ensures.past
