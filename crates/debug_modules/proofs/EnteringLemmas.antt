@@ -1,8 +1,7 @@
 -- Code is entered, and has gone back or not.
-use Rattle.std.proofs.Common.{◌≡◌, ℕ, Bool, true, false, List, [], ◌++◌, Result, Ok, Err, ap, sym, subst, ◌∙◌}
+use Rattle.std.proofs.Common.{◌≡◌, ℕ, Bool, true, false, List, ◌++◌, Result, Ok, Err, ap, sym, subst, ◌∙◌}
 use Rattle.std.specs.Prelude.{OnOk, if◌then◌else◌}
 use Rattle.arm_core.specs.declared.psr.Psr.{Psr}
-use Rattle.command_shell.specs.Answers.{refused_text}
 use Rattle.command_shell.specs.Memory.{script_with_budget, script_with_register, script_with_status}
 use Rattle.command_shell.specs.State.{ScriptState}
 use Rattle.command_shell_lines.specs.declared.debug_words.stubs.Stub.{Stub}
@@ -15,7 +14,7 @@ use Rattle.debug_labels.specs.Labels.{ImageLabels}
 use Rattle.debug_lines.specs.SteppingRequests.{Gosub, SteppingRequest}
 use Rattle.debug_modes.specs.declared.modes.DebugModes.{DebugModes}
 use Rattle.debug_modules.specs.Answers.{IsModuleAnswered, Steps, command_called, command_put_by, error_text}
-use Rattle.debug_modules.specs.Entering.{at_entry, back_if_returned, code_entered, past_at_entry, status_back, supervisor, with_status_back}
+use Rattle.debug_modules.specs.Entering.{at_entry, code_entered, past_at_entry, status_back, supervisor, with_status_back}
 use Rattle.debug_modules.specs.Plans.{tail_address}
 use Rattle.debug_modules.specs.Taking.{IsTaken, StepsTaken, steps_taken}
 use Rattle.debug_modules.specs.declared.entering.ModuleEntry.{ModuleEntry}

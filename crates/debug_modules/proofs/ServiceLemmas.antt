@@ -41,14 +41,14 @@ pub begun_so : (s first : ScriptState) (m : DebugModes) (p : PastState) (budget 
     → first ≡ script_with_budget s budget → text ≡ [] → printed ≡ [] → ending ≡ codes "not claimed\n"
     → (let taken : StepsTaken = record { script = first; modes = m; past = p; text = text; printed = printed; ending = ending } in
     let v : ServiceState = record { taken = taken; r1 = service; is_over = false } in v ≡ service_begun m budget s p service)
-begun_so s first m p budget service text printed ending at none nothing open = λ i.
+begun_so s first m p budget service text printed ending at none nothing ended = λ i.
     let taken : StepsTaken = record {
       script = at i;
       modes = m;
       past = p;
       text = none i;
       printed = nothing i;
-      ending = open i;
+      ending = ended i;
     } in let v : ServiceState = record { taken = taken; r1 = service; is_over = false } in v
 
 -- what the code of an instance left

@@ -4,7 +4,6 @@
 -- that are loaded when their turn comes.
 use Rattle.std.specs.Prelude.{ℕ, zero, suc, Bool, false, not, ◌+◌, ◌%◌, ◌/◌, ◌==◌, ◌&&◌, ◌||◌, nat_le, nat_lt, List, [], ◌++◌, length, codes, Option, Some, None, slice_get, if◌then◌else◌}
 use Rattle.std.specs.Option.{option_map}
-use Rattle.arrayvec.specs.ArrayVec.{ArrayVec}
 use Rattle.arm_core.specs.State.{register_of}
 use Rattle.profile.specs.Sums.{address_further}
 use Rattle.address_map.specs.Bytes.{Bytes}
