@@ -13,10 +13,10 @@ use Rattle.debug_history.specs.declared.noting.StepsBefore.{StepsBefore}
 use Rattle.debug_labels.specs.Labels.{ImageLabels}
 use Rattle.debug_lines.specs.SteppingRequests.{Gosub, SteppingRequest}
 use Rattle.debug_modes.specs.declared.modes.DebugModes.{DebugModes}
-use Rattle.debug_modules.specs.Answers.{IsModuleAnswered, Steps, command_called, command_put_by, error_text}
-use Rattle.debug_modules.specs.Entering.{at_entry, code_entered, past_at_entry, status_back, supervisor, with_status_back}
+use Rattle.debug_modules.specs.Answers.{IsModuleAnswered, Steps, command_called, command_put_by, code_error_text}
+use Rattle.debug_modules.specs.Entering.{at_entry, module_code_entered, past_at_entry, status_gone_back, supervisor, with_status_back}
 use Rattle.debug_modules.specs.Plans.{tail_address}
-use Rattle.debug_modules.specs.Taking.{IsTaken, StepsTaken, steps_taken}
+use Rattle.debug_modules.specs.Taking.{HasLineSteps, LineSteps, line_steps}
 use Rattle.debug_modules.specs.declared.entering.ModuleEntry.{ModuleEntry}
 use Rattle.profile.specs.Outcome.{Leaves}
 use Rattle.profile.specs.declared.fault.Fault.{Fault}
@@ -56,11 +56,11 @@ past_at p p0 p1 p2 number before status e set first second third =
     (second ∙ ap (λ (x : PastState). past_with_deed x number (Register 0 e.r0))
     (first ∙ ap (λ (x : Psr). past_with_deed p number (Status x)) set)))
 
-open_so : (number : ℕ) (before : Psr) (t : StepsTaken) (b : Bool) → b ≡ false → (if b then with_status_back number before t else t) ≡ t
+open_so : (number : ℕ) (before : Psr) (t : LineSteps) (b : Bool) → b ≡ false → (if b then with_status_back number before t else t) ≡ t
 open_so number before t false is = λ i. t
 open_so number before t true is = absurd (cc)
 
-back_so : (number : ℕ) (before : Psr) (t : StepsTaken) (b : Bool) → b ≡ true
+back_so : (number : ℕ) (before : Psr) (t : LineSteps) (b : Bool) → b ≡ true
     → (if b then with_status_back number before t else t) ≡ with_status_back number before t
 back_so number before t true is = λ i. with_status_back number before t
 back_so number before t false is = absurd (cc)
@@ -68,29 +68,29 @@ back_so number before t false is = absurd (cc)
 -- code that has not gone back
 pub code_left : (m : DebugModes) (labels : List ImageLabels) (s s1 now : ScriptState) (p p1 pp : PastState) (number : ℕ) (e : ModuleEntry)
     (ms : DebugModes) (text printed ended : List ℕ) → s1 ≡ at_entry s e → p1 ≡ past_at_entry p number s.machine.cpu.psr e
-    → IsTaken (steps_taken m labels false s1 p1 number (Gosub e.code)) now ms pp text printed ended → has_returned ended ≡ false
-    → IsTaken (code_entered m labels s p number e) now ms pp text printed ended
+    → HasLineSteps (line_steps m labels false s1 p1 number (Gosub e.code)) now ms pp text printed ended → has_returned ended ≡ false
+    → HasLineSteps (module_code_entered m labels s p number e) now ms pp text printed ended
 code_left m labels s s1 now p p1 pp number e ms text printed ended at past taken is_open =
-    let t = steps_taken m labels false (at_entry s e) (past_at_entry p number s.machine.cpu.psr e) number (Gosub e.code) in
-    let here : IsTaken t now ms pp text printed ended = subst (λ (u : StepsTaken). IsTaken u now ms pp text printed ended)
-    (λ i. steps_taken m labels false (at i) (past i) number (Gosub e.code)) taken in
-    subst (λ (u : StepsTaken). IsTaken u now ms pp text printed ended)
+    let t = line_steps m labels false (at_entry s e) (past_at_entry p number s.machine.cpu.psr e) number (Gosub e.code) in
+    let here : HasLineSteps t now ms pp text printed ended = subst (λ (u : LineSteps). HasLineSteps u now ms pp text printed ended)
+    (λ i. line_steps m labels false (at i) (past i) number (Gosub e.code)) taken in
+    subst (λ (u : LineSteps). HasLineSteps u now ms pp text printed ended)
     (sym (open_so number s.machine.cpu.psr t (has_returned t.ending) (sym (ap has_returned here.ending) ∙ is_open))) here
 
 -- and code that has
 pub code_back : (m : DebugModes) (labels : List ImageLabels) (s s1 now s2 : ScriptState) (p p1 pp p2 : PastState) (number : ℕ) (e : ModuleEntry)
     (ms : DebugModes) (text printed ended : List ℕ) (status : Psr) → s1 ≡ at_entry s e → p1 ≡ past_at_entry p number s.machine.cpu.psr e
-    → IsTaken (steps_taken m labels false s1 p1 number (Gosub e.code)) now ms pp text printed ended → has_returned ended ≡ true
-    → status ≡ status_back s.machine.cpu.psr now.machine.cpu.psr
+    → HasLineSteps (line_steps m labels false s1 p1 number (Gosub e.code)) now ms pp text printed ended → has_returned ended ≡ true
+    → status ≡ status_gone_back s.machine.cpu.psr now.machine.cpu.psr
     → s2 ≡ script_with_status now status → p2 ≡ past_with_deed pp number (Status status)
-    → IsTaken (code_entered m labels s p number e) s2 ms p2 text printed ended
+    → HasLineSteps (module_code_entered m labels s p number e) s2 ms p2 text printed ended
 code_back m labels s s1 now s2 p p1 pp p2 number e ms text printed ended status at past taken is_back set script kept =
     let psr = s.machine.cpu.psr in
-    let t = steps_taken m labels false (at_entry s e) (past_at_entry p number psr e) number (Gosub e.code) in
-    let here : IsTaken t now ms pp text printed ended = subst (λ (u : StepsTaken). IsTaken u now ms pp text printed ended)
-    (λ i. steps_taken m labels false (at i) (past i) number (Gosub e.code)) taken in
-    let there = set ∙ ap (λ (x : ScriptState). status_back psr x.machine.cpu.psr) here.script in
-    let done : IsTaken (with_status_back number psr t) s2 ms p2 text printed ended = record {
+    let t = line_steps m labels false (at_entry s e) (past_at_entry p number psr e) number (Gosub e.code) in
+    let here : HasLineSteps t now ms pp text printed ended = subst (λ (u : LineSteps). HasLineSteps u now ms pp text printed ended)
+    (λ i. line_steps m labels false (at i) (past i) number (Gosub e.code)) taken in
+    let there = set ∙ ap (λ (x : ScriptState). status_gone_back psr x.machine.cpu.psr) here.script in
+    let done : HasLineSteps (with_status_back number psr t) s2 ms p2 text printed ended = record {
       script = script ∙ (λ i. script_with_status (here.script i) (there i));
       modes = here.modes;
       past = kept ∙ (λ i. past_with_deed (here.past i) number (Status (there i)));
@@ -98,36 +98,36 @@ code_back m labels s s1 now s2 p p1 pp p2 number e ms text printed ended status 
       printed = here.printed;
       ending = here.ending;
     } in
-    subst (λ (u : StepsTaken). IsTaken u s2 ms p2 text printed ended)
+    subst (λ (u : LineSteps). HasLineSteps u s2 ms p2 text printed ended)
     (sym (back_so number psr t (has_returned t.ending) (sym (ap has_returned here.ending) ∙ is_back))) done
 
 -- the error below
 pub error_shown : (m : DebugModes) (labels : List ImageLabels) (budget : ℕ) (s first now : ScriptState) (p pp : PastState) (number : ℕ)
     (e : ModuleEntry) (ms : DebugModes) (text printed ended all error : List ℕ) → first ≡ script_with_budget s budget
-    → IsTaken (code_entered m labels first p number e) now ms pp text printed ended
-    → error ≡ error_text now.machine ended → all ≡ ended ++ error
-    → IsTaken (command_called m labels budget s p number e) now ms pp text printed all
+    → HasLineSteps (module_code_entered m labels first p number e) now ms pp text printed ended
+    → error ≡ code_error_text now.machine ended → all ≡ ended ++ error
+    → HasLineSteps (command_called m labels budget s p number e) now ms pp text printed all
 error_shown m labels budget s first now p pp number e ms text printed ended all error at taken said whole =
-    let t = code_entered m labels (script_with_budget s budget) p number e in
-    let here : IsTaken t now ms pp text printed ended = subst (λ (u : StepsTaken). IsTaken u now ms pp text printed ended)
-    (ap (λ (x : ScriptState). code_entered m labels x p number e) at) taken in record {
+    let t = module_code_entered m labels (script_with_budget s budget) p number e in
+    let here : HasLineSteps t now ms pp text printed ended = subst (λ (u : LineSteps). HasLineSteps u now ms pp text printed ended)
+    (ap (λ (x : ScriptState). module_code_entered m labels x p number e) at) taken in record {
       script = here.script;
       modes = here.modes;
       past = here.past;
       text = here.text;
       printed = here.printed;
-      ending = whole ∙ (λ i. (here.ending i) ++ ((said ∙ (λ j. error_text (here.script j).machine (here.ending j))) i));
+      ending = whole ∙ (λ i. (here.ending i) ++ ((said ∙ (λ j. code_error_text (here.script j).machine (here.ending j))) i));
     }
 
 -- the tail was written
 pub tail_put : (m : DebugModes) (labels : List ImageLabels) (budget : ℕ) (s new now : ScriptState) (p p1 pp : PastState) (number : ℕ)
     (e : ModuleEntry) (bytes : List ℕ) (o : Result ScriptState Fault) (u : Unit {0}) (ms : DebugModes) (text printed ended : List ℕ)
     → Leaves {U = Unit {0}} s o (Ok u) new → p1 ≡ past_with_deed p number (Bytes tail_address bytes)
-    → IsTaken (command_called m labels budget new p1 number e) now ms pp text printed ended
+    → HasLineSteps (command_called m labels budget new p1 number e) now ms pp text printed ended
     → IsModuleAnswered (command_put_by m labels budget s p number e bytes o) now ms pp (Steps text printed ended)
 tail_put m labels budget s new now p p1 pp number e bytes (Ok written) u ms text printed ended leaves noted taken =
-    let here : IsTaken (command_called m labels budget written (past_with_deed p number (Bytes tail_address bytes)) number e)
-    now ms pp text printed ended = subst (λ (t : StepsTaken). IsTaken t now ms pp text printed ended)
+    let here : HasLineSteps (command_called m labels budget written (past_with_deed p number (Bytes tail_address bytes)) number e)
+    now ms pp text printed ended = subst (λ (t : LineSteps). HasLineSteps t now ms pp text printed ended)
     (λ i. command_called m labels budget (leaves i) (noted i) number e) taken in record {
       script = here.script;
       modes = here.modes;

@@ -2,28 +2,28 @@
 use Rattle.std.proofs.Common.{◌≡◌, ℕ, ◌+◌, ◌<◌, ◌≤◌, Bool, List, [], ◌∷◌, ◌++◌, length, drop, get_or, refl, ap, ◌∙◌, sym, append_assoc, map}
 use Rattle.std.specs.Prelude.{not}
 use Rattle.std.proofs.lemmas.List.{drop_more, drop_all}
-use Rattle.debug_modules.specs.Plans.{parts_words, quotes_behind, words_begun, words_in}
+use Rattle.debug_modules.specs.Plans.{parts_words, quotes_behind, words_begun, tail_words}
 
-words_cons : (in_word in_quotes : Bool) (byte : ℕ) (rest : List ℕ) → words_in in_word in_quotes (byte ∷ rest)
-    ≡ words_begun in_word in_quotes byte + words_in (not (parts_words in_quotes byte)) (quotes_behind in_quotes byte) rest
-unfolding words_in
+words_cons : (in_word in_quotes : Bool) (byte : ℕ) (rest : List ℕ) → tail_words in_word in_quotes (byte ∷ rest)
+    ≡ words_begun in_word in_quotes byte + tail_words (not (parts_words in_quotes byte)) (quotes_behind in_quotes byte) rest
+unfolding tail_words
 words_cons in_word in_quotes byte rest = refl
 
-no_words : (in_word in_quotes : Bool) → words_in in_word in_quotes [] ≡ 0
-unfolding words_in
+no_words : (in_word in_quotes : Bool) → tail_words in_word in_quotes [] ≡ 0
+unfolding tail_words
 no_words in_word in_quotes = refl
 
 -- from a byte on
-pub words_next : (in_word in_quotes : Bool) (tail : List ℕ) (i : ℕ) → i < length tail → words_in in_word in_quotes (drop i tail)
+pub words_next : (in_word in_quotes : Bool) (tail : List ℕ) (i : ℕ) → i < length tail → tail_words in_word in_quotes (drop i tail)
     ≡ words_begun in_word in_quotes (get_or tail i 0)
-    + words_in (not (parts_words in_quotes (get_or tail i 0))) (quotes_behind in_quotes (get_or tail i 0)) (drop (i + 1) tail)
+    + tail_words (not (parts_words in_quotes (get_or tail i 0))) (quotes_behind in_quotes (get_or tail i 0)) (drop (i + 1) tail)
 words_next in_word in_quotes tail i below =
-    ap (λ (xs : List ℕ). words_in in_word in_quotes xs) (drop_more tail i 0 below)
+    ap (λ (xs : List ℕ). tail_words in_word in_quotes xs) (drop_more tail i 0 below)
     ∙ words_cons in_word in_quotes (get_or tail i 0) (drop (i + 1) tail)
 
-pub words_past : (in_word in_quotes : Bool) (tail : List ℕ) (i : ℕ) → length tail ≤ i → words_in in_word in_quotes (drop i tail) ≡ 0
+pub words_past : (in_word in_quotes : Bool) (tail : List ℕ) (i : ℕ) → length tail ≤ i → tail_words in_word in_quotes (drop i tail) ≡ 0
 words_past in_word in_quotes tail i all =
-    ap (λ (xs : List ℕ). words_in in_word in_quotes xs) (drop_all i tail all) ∙ no_words in_word in_quotes
+    ap (λ (xs : List ℕ). tail_words in_word in_quotes xs) (drop_all i tail all) ∙ no_words in_word in_quotes
 
 pub ruleset word_steps = (words_next, words_past)
 

@@ -1,9 +1,9 @@
 -- How a service call goes on.
 use Rattle.std.proofs.Common.{◌≡◌, ℕ, suc, ◌+◌, ◌-◌, ◌<◌, List, [], ◌++◌, false, codes, refl, ap, ◌∙◌, arith}
 use Rattle.debug_labels.specs.Labels.{ImageLabels}
-use Rattle.debug_modules.specs.Entering.{code_entered}
+use Rattle.debug_modules.specs.Entering.{module_code_entered}
 use Rattle.debug_modules.specs.Services.{ServiceState, entry_of_service, served_at, served_from, service_begun, with_service}
-use Rattle.debug_modules.specs.Taking.{IsTaken, StepsTaken}
+use Rattle.debug_modules.specs.Taking.{HasLineSteps, LineSteps}
 use Rattle.debug_modules.specs.declared.services.ServiceCode.{ServiceCode}
 use Rattle.arm_core.specs.State.{register_of}
 use Rattle.command_shell.specs.Memory.{script_with_budget}
@@ -39,10 +39,10 @@ served_next labels number title place v below =
 -- before the first place
 pub begun_so : (s first : ScriptState) (m : DebugModes) (p : PastState) (budget service : ℕ) (text printed ending : List ℕ)
     → first ≡ script_with_budget s budget → text ≡ [] → printed ≡ [] → ending ≡ codes "not claimed\n"
-    → (let taken : StepsTaken = record { script = first; modes = m; past = p; text = text; printed = printed; ending = ending } in
+    → (let taken : LineSteps = record { script = first; modes = m; past = p; text = text; printed = printed; ending = ending } in
     let v : ServiceState = record { taken = taken; r1 = service; is_over = false } in v ≡ service_begun m budget s p service)
 begun_so s first m p budget service text printed ending at none nothing ended = λ i.
-    let taken : StepsTaken = record {
+    let taken : LineSteps = record {
       script = at i;
       modes = m;
       past = p;
@@ -54,14 +54,14 @@ begun_so s first m p budget service text printed ending at none nothing ended = 
 -- what the code of an instance left
 pub left_so : (labels : List ImageLabels) (number : ℕ) (c : ServiceCode) (v : ServiceState) (now : ScriptState) (ms : DebugModes)
     (pp : PastState) (text printed ended all guest_text : List ℕ) (r1 : ℕ)
-    → (let t = code_entered v.taken.modes labels v.taken.script v.taken.past number (entry_of_service v c) in
-    IsTaken t now ms pp text printed ended → all ≡ v.taken.text ++ text → guest_text ≡ v.taken.printed ++ printed
+    → (let t = module_code_entered v.taken.modes labels v.taken.script v.taken.past number (entry_of_service v c) in
+    HasLineSteps t now ms pp text printed ended → all ≡ v.taken.text ++ text → guest_text ≡ v.taken.printed ++ printed
     → r1 ≡ register_of now.machine.cpu 1
-    → (let taken : StepsTaken =
+    → (let taken : LineSteps =
     record { script = now; modes = ms; past = pp; text = all; printed = guest_text; ending = v.taken.ending } in
     let w : ServiceState = record { taken = taken; r1 = r1; is_over = v.is_over } in w ≡ with_service v t))
 left_so labels number c v now ms pp text printed ended all guest_text r1 here shown said left = λ i.
-    let taken : StepsTaken = record {
+    let taken : LineSteps = record {
       script = here.script i;
       modes = here.modes i;
       past = here.past i;

@@ -14,11 +14,11 @@ use Rattle.debug_labels.specs.Labels.{ImageLabels}
 use Rattle.debug_modes.specs.declared.modes.DebugModes.{DebugModes}
 use Rattle.debug_modes.specs.expectations.Why.{why_text}
 use Rattle.debug_tables.specs.byte_writes.Put.{script_after_put}
-use Rattle.debug_modules.specs.Entering.{code_entered}
+use Rattle.debug_modules.specs.Entering.{module_code_entered}
 use Rattle.debug_modules.specs.Plans.{command_plan, tail_address, tail_bytes}
 use Rattle.debug_modules.specs.Requests.{Command, ModuleAsked, Service, module_request}
 use Rattle.debug_modules.specs.Services.{is_served, service_called}
-use Rattle.debug_modules.specs.Taking.{StepsTaken}
+use Rattle.debug_modules.specs.Taking.{LineSteps}
 use Rattle.debug_modules.specs.declared.answering.ModuleAnswer.{ModuleAnswer}
 use Rattle.debug_modules.specs.declared.answering.ModuleAnswer.TheVariants.{Shown, Entered}
 use Rattle.debug_modules.specs.declared.entering.ModuleEntry.{ModuleEntry}
@@ -44,7 +44,7 @@ abbrev pub only_shown : DebugModes → ScriptState → PastState → List ℕ �
 only_shown m s p text = record { script = s; modes = m; past = p; shown = Text text }
 
 -- a line that took steps
-abbrev pub entered_so : StepsTaken → ModuleAnswered
+abbrev pub entered_so : LineSteps → ModuleAnswered
 entered_so t = record {
   script = t.script;
   modes = t.modes;
@@ -55,17 +55,17 @@ entered_so t = record {
 -- COMMAND
 
 -- the error of code that has gone back with V set, as WHY shows it
-abbrev pub error_text : MachineState → List ℕ → List ℕ
-error_text s ended = if s.cpu.psr.overflow && has_returned ended then why_text s.cpu s.store.bytes else []
+abbrev pub code_error_text : MachineState → List ℕ → List ℕ
+code_error_text s ended = if s.cpu.psr.overflow && has_returned ended then why_text s.cpu s.store.bytes else []
 
-abbrev pub error_below : StepsTaken → StepsTaken
-error_below t = record t { ending = t.ending ++ error_text t.script.machine t.ending }
+abbrev pub error_below : LineSteps → LineSteps
+error_below t = record t { ending = t.ending ++ code_error_text t.script.machine t.ending }
 
 -- its code is entered, with the whole budget
 abbrev pub command_called : DebugModes → List ImageLabels → ℕ → ScriptState → PastState → ℕ → ModuleEntry
-    → StepsTaken
+    → LineSteps
 command_called m labels budget s p number e =
-    error_below (code_entered m labels (script_with_budget s budget) p number e)
+    error_below (module_code_entered m labels (script_with_budget s budget) p number e)
 
 -- the tail is written to memory before that
 abbrev pub command_put_by : DebugModes → List ImageLabels → ℕ → ScriptState → PastState → ℕ → ModuleEntry

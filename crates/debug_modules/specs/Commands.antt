@@ -24,11 +24,11 @@ abbrev pub is_text : List ℕ → Option (List ℕ) → Bool
 is_text name (Some text) = is_same_word text name
 is_text name None = false
 
-abbrev pub is_named : Bytes → List ℕ → ℕ → Bool
-is_named b name at = is_text name (text_at (ends end.Zero) 255 b at)
+abbrev pub is_command_name : Bytes → List ℕ → ℕ → Bool
+is_command_name b name at = is_text name (text_at (ends end.Zero) 255 b at)
 
 abbrev pub is_command : Bytes → List ℕ → CommandEntry → Bool
-is_command b name e = not (e.code == 0) && (nat_lt e.limits (2 ^ 30) && is_named b name e.name)
+is_command b name e = not (e.code == 0) && (nat_lt e.limits (2 ^ 30) && is_command_name b name e.name)
 
 abbrev pub command_if : Bytes → List ℕ → CommandEntry → Option CommandEntry
 command_if b name e = if is_command b name e then Some e else None
@@ -46,11 +46,11 @@ abbrev pub found_by : List Module → ModuleInfo → Bool → Option CommandEntr
 found_by modules m is_whole (Some e) = found_with modules m e
 found_by modules m is_whole None = if is_whole then None else Some Outside
 
-abbrev pub found_among : Bytes → List Module → List ℕ → ModuleInfo → CommandList → Option CommandSearch
-found_among b modules name m t = found_by modules m t.is_whole (first_of (command_if b name) t.entries)
+abbrev pub command_found_among : Bytes → List Module → List ℕ → ModuleInfo → CommandList → Option CommandSearch
+command_found_among b modules name m t = found_by modules m t.is_whole (first_of (command_if b name) t.entries)
 
 abbrev pub found_in : Bytes → List Module → List ℕ → ModuleInfo → Option CommandSearch
-found_in b modules name m = found_among b modules name m (commands_of b m)
+found_in b modules name m = command_found_among b modules name m (commands_of b m)
 
 -- of all modules, the oldest first
 abbrev pub command_found : Bytes → List Module → List ℕ → Option CommandSearch

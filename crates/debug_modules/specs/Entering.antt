@@ -13,14 +13,14 @@ use Rattle.debug_history.specs.declared.act.PastDeed.TheVariants.{Register, Stat
 use Rattle.debug_labels.specs.Labels.{ImageLabels}
 use Rattle.debug_lines.specs.SteppingRequests.{Gosub}
 use Rattle.debug_modes.specs.declared.modes.DebugModes.{DebugModes}
-use Rattle.debug_modules.specs.Taking.{StepsTaken, steps_taken}
+use Rattle.debug_modules.specs.Taking.{LineSteps, line_steps}
 use Rattle.debug_modules.specs.declared.entering.ModuleEntry.{ModuleEntry}
 
 abbrev pub supervisor : Psr → Psr
 supervisor status = record status { mode = Supervisor }
 
-abbrev pub status_back : Psr → Psr → Psr
-status_back before now = record now {
+abbrev pub status_gone_back : Psr → Psr → Psr
+status_gone_back before now = record now {
   interrupts_off = before.interrupts_off;
   fast_interrupts_off = before.fast_interrupts_off;
   mode = before.mode;
@@ -39,18 +39,18 @@ past_at_entry p number status e =
     number (Register 12 e.r12)
 
 -- where the code has gone back
-abbrev pub with_status_back : ℕ → Psr → StepsTaken → StepsTaken
+abbrev pub with_status_back : ℕ → Psr → LineSteps → LineSteps
 with_status_back number before t =
-    let status = status_back before t.script.machine.cpu.psr in record t {
+    let status = status_gone_back before t.script.machine.cpu.psr in record t {
       script = script_with_status t.script status;
       past = past_with_deed t.past number (Status status);
     }
 
-abbrev pub back_if_returned : ℕ → Psr → StepsTaken → StepsTaken
+abbrev pub back_if_returned : ℕ → Psr → LineSteps → LineSteps
 back_if_returned number before t = if has_returned t.ending then with_status_back number before t else t
 
 -- code that is entered by a line
-abbrev pub code_entered : DebugModes → List ImageLabels → ScriptState → PastState → ℕ → ModuleEntry → StepsTaken
-code_entered m labels s p number e = let status = s.machine.cpu.psr in
+abbrev pub module_code_entered : DebugModes → List ImageLabels → ScriptState → PastState → ℕ → ModuleEntry → LineSteps
+module_code_entered m labels s p number e = let status = s.machine.cpu.psr in
     back_if_returned number status
-    (steps_taken m labels false (at_entry s e) (past_at_entry p number status e) number (Gosub e.code))
+    (line_steps m labels false (at_entry s e) (past_at_entry p number status e) number (Gosub e.code))

@@ -38,14 +38,14 @@ abbrev pub words_begun : Bool → Bool → ℕ → ℕ
 words_begun in_word in_quotes byte = if in_word || parts_words in_quotes byte then 0 else 1
 
 -- how many begin in a text that goes on within a word or not, and between quotes or not
-unfoldable pub words_in : Bool → Bool → List ℕ → ℕ
-words_in in_word in_quotes [] = 0
-words_in in_word in_quotes (byte ∷ rest) = words_begun in_word in_quotes byte
-    + words_in (not (parts_words in_quotes byte)) (quotes_behind in_quotes byte) rest
+unfoldable pub tail_words : Bool → Bool → List ℕ → ℕ
+tail_words in_word in_quotes [] = 0
+tail_words in_word in_quotes (byte ∷ rest) = words_begun in_word in_quotes byte
+    + tail_words (not (parts_words in_quotes byte)) (quotes_behind in_quotes byte) rest
 
 -- where code at an offset of an image can be entered
-abbrev pub code_at : ℕ → ℕ → ℕ → Option ℕ
-code_at image len offset = let at = address_further image offset in
+abbrev pub code_place : ℕ → ℕ → ℕ → Option ℕ
+code_place image len offset = let at = address_further image offset in
     if nat_lt 0 offset && (nat_lt offset len && (at % 4 == 0 && nat_lt at (2 ^ 26))) then Some at else None
 
 -- the text on a command's syntax, empty where the table has none
@@ -73,10 +73,10 @@ is_outside limits count = nat_lt count (limits % 256) || nat_lt (limits / 65536 
 abbrev pub plan_of_count : Bytes → FoundCommand → ℕ → Result ModuleEntry (List ℕ)
 plan_of_count b f count =
     if is_outside f.entry.limits count then Err (syntax_line (syntax_text b f))
-    else entry_of_command f count (code_at f.image f.len f.entry.code)
+    else entry_of_command f count (code_place f.image f.len f.entry.code)
 
 abbrev pub found_plan : Bytes → FoundCommand → List ℕ → Result ModuleEntry (List ℕ)
-found_plan b f tail = plan_of_count b f (words_in false false tail)
+found_plan b f tail = plan_of_count b f (tail_words false false tail)
 
 abbrev pub plan_by : Bytes → List ℕ → Option CommandSearch → Result ModuleEntry (List ℕ)
 plan_by b tail (Some (Found f)) = found_plan b f tail
@@ -90,6 +90,6 @@ command_plan s name tail =
     plan_by s.store.bytes tail (command_found s.store.bytes s.tables.modules name))
 
 -- a plan as the code has it
-abbrev pub plan_of : CommandPlan → Result ModuleEntry (List ℕ)
-plan_of (Refused text) = Err text.items
-plan_of (Ready e) = Ok e
+abbrev pub command_plan_of : CommandPlan → Result ModuleEntry (List ℕ)
+command_plan_of (Refused text) = Err text.items
+command_plan_of (Ready e) = Ok e

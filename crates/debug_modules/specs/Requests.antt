@@ -26,17 +26,17 @@ behind_place None text = []
 abbrev pub word_in_front : List ℕ → List ℕ
 word_in_front text = front_before (position (λ b. b == 32) text) text
 
-abbrev pub word_behind : List ℕ → List ℕ
-word_behind text = behind_place (position (λ b. b == 32) text) text
+abbrev pub text_behind_word : List ℕ → List ℕ
+text_behind_word text = behind_place (position (λ b. b == 32) text) text
 
 -- `COMMAND name tail`
 abbrev pub command_request : List ℕ → ModuleAsked
-command_request text = Command (word_in_front text) (word_behind text)
+command_request text = Command (word_in_front text) (text_behind_word text)
 
 -- `SERVICE n`, `SERVICE n Title`
 abbrev pub service_request : List ℕ → Option ModuleAsked
 service_request text =
-    option_map (λ service. Service service (word_behind text)) (script_number (word_in_front text))
+    option_map (λ service. Service service (text_behind_word text)) (script_number (word_in_front text))
 
 -- what a tidy line asks for, if it has to do with the code of modules
 abbrev pub service_asked : Option (List ℕ) → Option ModuleAsked

@@ -21,10 +21,10 @@ use Rattle.instances_table.specs.Modules.{Module, slots_of}
 use Rattle.instances_table.specs.declared.parts.InstanceInfo.{InstanceInfo}
 use Rattle.instances_table.specs.declared.parts.ModuleInfo.{ModuleInfo}
 use Rattle.instances_table.specs.plans.Code.{private_of}
-use Rattle.debug_modules.specs.Entering.{code_entered}
-use Rattle.debug_modules.specs.Plans.{code_at}
+use Rattle.debug_modules.specs.Entering.{module_code_entered}
+use Rattle.debug_modules.specs.Plans.{code_place}
 use Rattle.debug_modules.specs.Tables.{loaded_word}
-use Rattle.debug_modules.specs.Taking.{StepsTaken}
+use Rattle.debug_modules.specs.Taking.{LineSteps}
 use Rattle.debug_modules.specs.declared.entering.ModuleEntry.{ModuleEntry}
 use Rattle.debug_modules.specs.declared.services.ServiceCode.{ServiceCode}
 use Rattle.debug_modules.specs.declared.services.Serving.{Serving}
@@ -34,8 +34,8 @@ abbrev pub is_served : List Module → List ℕ → Bool
 is_served modules title = length title == 0 || nat_lt 0 (length (slots_of (modules_of_title title modules)))
 
 -- whether a module has a word for such code, and is meant by a title: an empty one means all
-abbrev pub is_meant : ModuleInfo → List ℕ → Bool
-is_meant m title = nat_le 16 m.len && (length title == 0 || is_same_word m.title.items title)
+abbrev pub is_service_meant : ModuleInfo → List ℕ → Bool
+is_service_meant m title = nat_le 16 m.len && (length title == 0 || is_same_word m.title.items title)
 
 -- the code of an instance
 abbrev pub code_for : ModuleInfo → InstanceInfo → Option ℕ → Option ServiceCode
@@ -44,8 +44,8 @@ code_for m i None = None
 
 abbrev pub code_of_instance : Bytes → List ℕ → Option ModuleInfo → Option InstanceInfo → Option ServiceCode
 code_of_instance b title (Some m) (Some i) =
-    if is_meant m title
-    then code_for m i (code_at m.image m.len (loaded_word b (address_further m.image 12))) else None
+    if is_service_meant m title
+    then code_for m i (code_place m.image m.len (loaded_word b (address_further m.image 12))) else None
 code_of_instance b title (Some m) None = None
 code_of_instance b title None i = None
 
@@ -56,7 +56,7 @@ service_code s title number instance =
 
 -- how far a call is: what its steps left, R1, and whether it is over
 pub record ServiceState : Type 0 where
-  pub taken : StepsTaken
+  pub taken : LineSteps
   pub r1 : ℕ
   pub is_over : Bool
 
@@ -84,7 +84,7 @@ service_ending before ended title r1 =
     if not (has_returned ended) then ended else (if r1 == 0 then claimed_text title else before)
 
 -- code that was entered has left this
-abbrev pub with_service : ServiceState → StepsTaken → ServiceState
+abbrev pub with_service : ServiceState → LineSteps → ServiceState
 with_service v t = record {
   taken = record t {
     text = v.taken.text ++ t.text;
@@ -102,7 +102,7 @@ service_ended title ended v = record v {
   is_over = not (has_returned ended) || (v.r1 == 0 || v.is_over);
 }
 
-abbrev pub service_left : ServiceState → List ℕ → StepsTaken → ServiceState
+abbrev pub service_left : ServiceState → List ℕ → LineSteps → ServiceState
 service_left v title t = service_ended title t.ending (with_service v t)
 
 -- R0 is as it was
@@ -116,7 +116,7 @@ entry_of_service v c = record {
 
 abbrev pub served_by : List ImageLabels → ℕ → ServiceCode → ServiceState → ServiceState
 served_by labels number c v = service_left v c.title.items
-    (code_entered v.taken.modes labels v.taken.script v.taken.past number (entry_of_service v c))
+    (module_code_entered v.taken.modes labels v.taken.script v.taken.past number (entry_of_service v c))
 
 abbrev pub served_if : List ImageLabels → ℕ → ServiceState → Option ServiceCode → ServiceState
 served_if labels number v (Some c) = served_by labels number c v
@@ -148,6 +148,6 @@ service_begun m budget s p service = record {
 }
 
 abbrev pub service_called : DebugModes → List ImageLabels → ℕ → ScriptState → PastState → ℕ → ℕ → List ℕ
-    → StepsTaken
+    → LineSteps
 service_called m labels budget s p number service title =
     (served_from 4096 labels number title 0 (service_begun m budget s p service)).taken

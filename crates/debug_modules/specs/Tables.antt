@@ -56,19 +56,19 @@ entry_named b limit at None = read.Outside
 entry_named b limit at (Some name) =
     if length name == 0 then read.End else entry_behind b limit at (next_word (at + (length name + 1)))
 
-abbrev pub entry_at : Bytes → ℕ → ℕ → EntryRead
-entry_at b limit at =
+abbrev pub command_entry_at : Bytes → ℕ → ℕ → EntryRead
+command_entry_at b limit at =
     if nat_lt at limit then entry_named b limit at (text_at (ends end.Zero) 255 b at) else read.Outside
 
 -- the entries from an address on, so many at most
-abbrev pub table_by : (ℕ → CommandList) → EntryRead → CommandList
-table_by others read.End = no_commands true
-table_by others read.Outside = no_commands false
-table_by others (read.Entry e next) = with_command e (others next)
+abbrev pub command_table_by : (ℕ → CommandList) → EntryRead → CommandList
+command_table_by others read.End = no_commands true
+command_table_by others read.Outside = no_commands false
+command_table_by others (read.Entry e next) = with_command e (others next)
 
 unfoldable pub table_from : ℕ → Bytes → ℕ → ℕ → CommandList
 table_from zero b limit at = no_commands false
-table_from (suc more) b limit at = table_by (λ next. table_from more b limit next) (entry_at b limit at)
+table_from (suc more) b limit at = command_table_by (λ next. table_from more b limit next) (command_entry_at b limit at)
 
 -- the offset of a module's table, 0 where it has none
 abbrev pub table_place : Bytes → ModuleInfo → ℕ

@@ -35,7 +35,7 @@ note_of before taken now ending = record {
 
 -- What a line leaves that took steps: the script, the modes and the past, what is shown of its steps, what the
 -- guest printed, and the line's usual ending.
-pub record StepsTaken : Type 0 where
+pub record LineSteps : Type 0 where
   pub script : ScriptState
   pub modes : DebugModes
   pub past : PastState
@@ -43,7 +43,7 @@ pub record StepsTaken : Type 0 where
   pub printed : List ℕ
   pub ending : List ℕ
 
-abbrev pub steps_kept : DebugModes → ScriptState → PastState → ℕ → SteppingRequest → SteppingAnswer → StepsTaken
+abbrev pub steps_kept : DebugModes → ScriptState → PastState → ℕ → SteppingRequest → SteppingAnswer → LineSteps
 steps_kept m s p number request a = record {
   script = a.now;
   modes = modes_after m s request;
@@ -54,13 +54,13 @@ steps_kept m s p number request a = record {
   ending = a.ending;
 }
 
-abbrev pub steps_taken : DebugModes → List ImageLabels → Bool → ScriptState → PastState → ℕ → SteppingRequest
-    → StepsTaken
-steps_taken m labels is_traced s p number request =
+abbrev pub line_steps : DebugModes → List ImageLabels → Bool → ScriptState → PastState → ℕ → SteppingRequest
+    → LineSteps
+line_steps m labels is_traced s p number request =
     steps_kept m s p number request (stepping_in_modes m labels is_traced s request)
 
 -- a line left this
-pub record IsTaken (t : StepsTaken) (now : ScriptState) (kept_modes : DebugModes) (kept_past : PastState)
+pub record HasLineSteps (t : LineSteps) (now : ScriptState) (kept_modes : DebugModes) (kept_past : PastState)
     (shown guest_text ended : List ℕ) : Type 0 where
   pub script : now ≡ t.script
   pub modes : kept_modes ≡ t.modes

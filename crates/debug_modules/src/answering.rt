@@ -3,8 +3,8 @@
 ghost use Rattle.std.specs.Prelude.{◌≡◌, List, option_map, IfOk, OnOk};
 ghost use Rattle.image_loader.specs.Entries.{Entry};
 ghost use Rattle.command_shell.specs.Session.{script_state};
-ghost use Rattle.debug_modules.specs.Answers.{IsModuleAnswered, command_answered, command_called, command_put, error_text, module_line_answered, modes_after_modules, past_after_modules, script_after_modules, service_answered, shown_of};
-ghost use Rattle.debug_modules.specs.Taking.{IsTaken};
+ghost use Rattle.debug_modules.specs.Answers.{IsModuleAnswered, command_answered, command_called, command_put, code_error_text, module_line_answered, modes_after_modules, past_after_modules, script_after_modules, service_answered, shown_of};
+ghost use Rattle.debug_modules.specs.Taking.{HasLineSteps};
 
 use crate::entering::{ModuleEntry, enter_code};
 use crate::plans::{CommandPlan, TAIL, command_plan, tail_bytes};
@@ -157,27 +157,27 @@ fn call_command(
     number: u64,
     entry: &ModuleEntry,
 ) -> Result<LineAnswer, AllocError>
-    ensures { let s = script_state session.old images.now in IfOk result (λ answer. IsTaken
+    ensures { let s = script_state session.old images.now in IfOk result (λ answer. HasLineSteps
         (command_called modes.old labels.now budget s past.old number entry.now)
         (script_state session.new images.now) modes.new past.new
         answer.text.items answer.printed.items answer.ending.items) }
 {
     session.set_budget(budget);
     let mut answer = enter_code(alloc, session, modes, past, images, labels, number, entry)?;
-    let error = error_text(alloc, session, labels, answer.ending.as_slice())?;
+    let error = code_error_text(alloc, session, labels, answer.ending.as_slice())?;
     answer.ending.extend_from_slice(error.as_slice())?;
     Ok(answer)
 }
 
 // The error of code that has gone back with one, as WHY shows it.
-fn error_text(
+fn code_error_text(
     alloc: Global,
     session: &Session,
     labels: &LabelTable,
     ending: &[u8],
 ) -> Result<Vec<u8>, AllocError>
     ensures { (images : List Entry) → IfOk result (λ text. text.items
-        ≡ error_text (script_state session.now images).machine ending.now) }
+        ≡ code_error_text (script_state session.now images).machine ending.now) }
 {
     let machine = session.machine();
     if machine.cpu().psr().overflow && has_returned(ending) {

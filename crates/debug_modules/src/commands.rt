@@ -5,7 +5,7 @@ ghost use Rattle.std.specs.Option.{option_and_then};
 ghost use Rattle.address_map.specs.Memory.{bytes_of};
 ghost use Rattle.instances_table.specs.Lookup.{shown_of_module};
 ghost use Rattle.profile.specs.Firsts.{first_of};
-ghost use Rattle.debug_modules.specs.Commands.{command_found, command_if, found_in, found_with, is_command, is_named};
+ghost use Rattle.debug_modules.specs.Commands.{command_found, command_if, found_in, found_with, is_command, is_command_name};
 
 use crate::tables::{CommandEntry, commands_of};
 use address_map::AddressMap;
@@ -66,7 +66,8 @@ fn found_numbered(
     number: u32,
 ) -> Result<Option<CommandSearch>, AllocError>
     ensures { IfOk result (λ found. found ≡ option_and_then
-        (λ m. found_in (bytes_of memory.now) modules.now name.now (shown_of_module m)) (slice_get modules.now number)) }
+        (λ m. found_in (bytes_of memory.now) modules.now name.now (shown_of_module m))
+        (slice_get modules.now number)) }
 {
     match modules.module(number) {
         Some(module) => found_in(alloc, memory, modules, name, &module),
@@ -126,12 +127,12 @@ fn command_named(memory: &AddressMap, name: &[u8], entries: &[CommandEntry]) -> 
 fn is_command(memory: &AddressMap, name: &[u8], entry: CommandEntry) -> bool
     ensures { result ≡ is_command (bytes_of memory.now) name.now entry }
 {
-    entry.code != 0 && entry.limits < 0x4000_0000 && is_named(memory, name, entry.name)
+    entry.code != 0 && entry.limits < 0x4000_0000 && is_command_name(memory, name, entry.name)
 }
 
 // Whether a text at an address is a name, in any case of its letters.
-fn is_named(memory: &AddressMap, name: &[u8], at: u32) -> bool
-    ensures { result ≡ is_named (bytes_of memory.now) name.now at }
+fn is_command_name(memory: &AddressMap, name: &[u8], at: u32) -> bool
+    ensures { result ≡ is_command_name (bytes_of memory.now) name.now at }
 {
     match text_at::<MAX_TEXT>(memory, at, TextEnd::Zero) {
         Some(text) => text.as_slice().eq_ignore_ascii_case(name),

@@ -6,8 +6,8 @@ ghost use Rattle.command_shell.specs.Memory.{script_with_register, script_with_s
 ghost use Rattle.command_shell.specs.Session.{script_state};
 ghost use Rattle.debug_history.specs.Noted.{past_with_deed};
 ghost use Rattle.debug_history.specs.declared.act.PastDeed.TheVariants.{Register, Status};
-ghost use Rattle.debug_modules.specs.Entering.{at_entry, code_entered, past_at_entry, status_back, supervisor};
-ghost use Rattle.debug_modules.specs.Taking.{IsTaken};
+ghost use Rattle.debug_modules.specs.Entering.{at_entry, module_code_entered, past_at_entry, status_gone_back, supervisor};
+ghost use Rattle.debug_modules.specs.Taking.{HasLineSteps};
 
 use crate::taking::take_steps;
 use arm_core::{Mode, Psr};
@@ -45,8 +45,8 @@ pub(crate) fn enter_code(
     number: u64,
     entry: &ModuleEntry,
 ) -> Result<LineAnswer, AllocError>
-    ensures { let s = script_state session.old images.now in IfOk result (λ answer. IsTaken
-        (code_entered modes.old labels.now s past.old number entry.now)
+    ensures { let s = script_state session.old images.now in IfOk result (λ answer. HasLineSteps
+        (module_code_entered modes.old labels.now s past.old number entry.now)
         (script_state session.new images.now) modes.new past.new
         answer.text.items answer.printed.items answer.ending.items) }
 {
@@ -59,7 +59,7 @@ pub(crate) fn enter_code(
     if !has_returned(answer.ending.as_slice()) {
         return Ok(answer);
     }
-    let status = status_back(before, status_of(session));
+    let status = status_gone_back(before, status_of(session));
     put_status(session, past, number, status)?;
     Ok(answer)
 }
@@ -104,8 +104,8 @@ fn supervisor(status: Psr) -> Psr
 }
 
 // The flags of a status, with the mode and the bits I and F of the one before.
-fn status_back(before: Psr, now: Psr) -> Psr
-    ensures { result ≡ status_back before now }
+fn status_gone_back(before: Psr, now: Psr) -> Psr
+    ensures { result ≡ status_gone_back before now }
 {
     Psr {
         negative: now.negative,

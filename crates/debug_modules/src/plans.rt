@@ -4,7 +4,7 @@ ghost use Rattle.std.specs.Prelude.{◌≡◌, ◌++◌, ◌≤◌, codes, lengt
 ghost use Rattle.address_map.specs.Memory.{bytes_of};
 ghost use Rattle.command_shell.specs.Answers.{refused_text};
 ghost use Rattle.command_shell.specs.GuestState.{state_of};
-ghost use Rattle.debug_modules.specs.Plans.{code_at, command_plan, found_plan, plan_of, shown_character, syntax_line, syntax_text, tail_bytes, words_begun, words_in, parts_words, quotes_behind};
+ghost use Rattle.debug_modules.specs.Plans.{code_place, command_plan, found_plan, command_plan_of, shown_character, syntax_line, syntax_text, tail_bytes, words_begun, tail_words, parts_words, quotes_behind};
 
 use crate::commands::{CommandSearch, FoundCommand, command_found};
 use crate::entering::ModuleEntry;
@@ -47,7 +47,8 @@ pub(crate) fn command_plan(
     name: &[u8],
     tail: &[u8],
 ) -> Result<CommandPlan, AllocError>
-    ensures { IfOk result (λ plan. plan_of plan ≡ command_plan (state_of machine.now.guest) name.now tail.now) }
+    ensures { IfOk result (λ plan. command_plan_of plan
+        ≡ command_plan (state_of machine.now.guest) name.now tail.now) }
 {
     if machine.stop().is_some() {
         return refused(alloc, b"Halted");
@@ -63,7 +64,7 @@ pub(crate) fn command_plan(
 }
 
 fn refused(alloc: Global, reason: &[u8]) -> Result<CommandPlan, AllocError>
-    ensures { IfOk result (λ plan. plan_of plan ≡ Err (refused_text reason.now)) }
+    ensures { IfOk result (λ plan. command_plan_of plan ≡ Err (refused_text reason.now)) }
 {
     Ok(CommandPlan::Refused(refused_line(alloc, reason)?))
 }
@@ -76,7 +77,8 @@ fn found_plan(
     tail: &[u8],
 ) -> Result<CommandPlan, AllocError>
     requires { length tail.now ≤ 255 }
-    ensures { IfOk result (λ plan. plan_of plan ≡ found_plan (bytes_of memory.now) found.now tail.now) }
+    ensures { IfOk result (λ plan. command_plan_of plan
+        ≡ found_plan (bytes_of memory.now) found.now tail.now) }
 {
     let count = word_count(tail);
     let least = found.entry.limits % 256;
@@ -85,7 +87,7 @@ fn found_plan(
         let text = syntax_text(memory, found);
         return Ok(CommandPlan::Refused(syntax_line(alloc, text.as_slice())?));
     }
-    match code_at(found.image, found.len, found.entry.code) {
+    match code_place(found.image, found.len, found.entry.code) {
         Some(code) => Ok(CommandPlan::Ready(ModuleEntry {
             code,
             r0: TAIL,
@@ -100,7 +102,7 @@ fn found_plan(
 #[tactic(auto, using(crate::proofs::PlanLemmas::word_steps))]
 fn word_count(tail: &[u8]) -> u32
     requires { length tail.now ≤ 255 }
-    ensures { result ≡ words_in false false tail.now }
+    ensures { result ≡ tail_words false false tail.now }
 {
     let mut count = 0;
     let mut in_word = false;
@@ -138,8 +140,8 @@ fn quotes_behind(in_quotes: bool, byte: u8) -> bool
 }
 
 /// Where the code at an offset of an image can be entered, if it can.
-pub(crate) fn code_at(image: u32, len: u32, offset: u32) -> Option<Origin>
-    ensures { result ≡ code_at image len offset }
+pub(crate) fn code_place(image: u32, len: u32, offset: u32) -> Option<Origin>
+    ensures { result ≡ code_place image len offset }
 {
     let at = image.wrapping_add(offset);
     if 0 < offset && offset < len && at % 4 == 0 && at < ADDRESS_LIMIT {

@@ -3,7 +3,7 @@
 ghost use Rattle.std.specs.Prelude.{◌≡◌, ◌==◌};
 ghost use Rattle.std.specs.List.{position};
 ghost use Rattle.std.specs.Option.{option_map};
-ghost use Rattle.debug_modules.specs.Requests.{command_request, module_request, module_request_of, service_request, word_behind, word_in_front};
+ghost use Rattle.debug_modules.specs.Requests.{command_request, module_request, module_request_of, service_request, text_behind_word, word_in_front};
 
 use command_shell_lines::debug_words::text_behind;
 use command_shell_lines::number_of;
@@ -31,14 +31,14 @@ pub fn module_request(line: &[u8]) -> Option<ModuleRequest<'_>>
 fn command_request(text: &[u8]) -> ModuleRequest<'_>
     ensures { module_request_of result ≡ command_request text.now }
 {
-    ModuleRequest::Command(word_in_front(text), word_behind(text))
+    ModuleRequest::Command(word_in_front(text), text_behind_word(text))
 }
 
 fn service_request(text: &[u8]) -> Option<ModuleRequest<'_>>
     ensures { option_map module_request_of result ≡ service_request text.now }
 {
     let service = number_of(word_in_front(text))?;
-    Some(ModuleRequest::Service(service, word_behind(text)))
+    Some(ModuleRequest::Service(service, text_behind_word(text)))
 }
 
 // The bytes before the first space.
@@ -52,8 +52,8 @@ fn word_in_front(text: &[u8]) -> &[u8]
 }
 
 // The bytes behind the first space.
-fn word_behind(text: &[u8]) -> &[u8]
-    ensures { result.now ≡ word_behind text.now }
+fn text_behind_word(text: &[u8]) -> &[u8]
+    ensures { result.now ≡ text_behind_word text.now }
 {
     match space_in(text) {
         Some(place) => &text[place + 1..],

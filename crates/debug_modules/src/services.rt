@@ -8,11 +8,11 @@ ghost use Rattle.command_shell.specs.State.{ScriptState};
 ghost use Rattle.debug_history.specs.Past.{PastState};
 ghost use Rattle.debug_modes.specs.declared.modes.DebugModes.{DebugModes};
 ghost use Rattle.image_loader.specs.Entries.{Entry};
-ghost use Rattle.debug_modules.specs.Services.{claimed_text, is_meant, is_served, served_at, served_by, service_called, service_code, service_ended, service_state};
-ghost use Rattle.debug_modules.specs.Taking.{IsTaken};
+ghost use Rattle.debug_modules.specs.Services.{claimed_text, is_service_meant, is_served, served_at, served_by, service_called, service_code, service_ended, service_state};
+ghost use Rattle.debug_modules.specs.Taking.{HasLineSteps};
 
 use crate::entering::{ModuleEntry, enter_code};
-use crate::plans::code_at;
+use crate::plans::code_place;
 use crate::tables::loaded_word;
 use command_shell_lines::Origin;
 use debug_history::{Past, has_returned};
@@ -73,7 +73,7 @@ pub(crate) fn call_service(
     service: u32,
     title: &[u8],
 ) -> Result<LineAnswer, AllocError>
-    ensures { let s = script_state session.old images.now in IfOk result (λ answer. IsTaken
+    ensures { let s = script_state session.old images.now in IfOk result (λ answer. HasLineSteps
         (service_called modes.old labels.now budget s past.old number service title.now)
         (script_state session.new images.now) modes.new past.new
         answer.text.items answer.printed.items answer.ending.items) }
@@ -184,7 +184,8 @@ fn end_turn(
     ended: Vec<u8>,
 ) -> Result<(), AllocError>
     ensures { (s : ScriptState) → (m : DebugModes) → (p : PastState) → OnOk result
-        (service_state s m p serving.new ≡ service_ended title.now ended.items (service_state s m p serving.old)) }
+        (service_state s m p serving.new
+        ≡ service_ended title.now ended.items (service_state s m p serving.old)) }
 {
     if !has_returned(ended.as_slice()) {
         serving.is_over = true;
@@ -215,11 +216,11 @@ fn service_code(machine: &Machine, title: &[u8], number: u32, instance: u32) -> 
 {
     let info = machine.instances().module(number)?;
     let reported = machine.instances().instance(number, instance)?;
-    if !is_meant(&info, title) {
+    if !is_service_meant(&info, title) {
         return None;
     }
     let offset = loaded_word(machine.memory(), info.image.wrapping_add(SERVICE_WORD));
-    let code = code_at(info.image, info.len, offset)?;
+    let code = code_place(info.image, info.len, offset)?;
     Some(ServiceCode {
         title: info.title,
         code,
@@ -228,8 +229,8 @@ fn service_code(machine: &Machine, title: &[u8], number: u32, instance: u32) -> 
 }
 
 // Whether a module has a word for such code, and is meant by a title.
-fn is_meant(module: &ModuleInfo, title: &[u8]) -> bool
-    ensures { result ≡ is_meant module.now title.now }
+fn is_service_meant(module: &ModuleInfo, title: &[u8]) -> bool
+    ensures { result ≡ is_service_meant module.now title.now }
 {
     module.len >= LEAST_BYTES
         && (title.is_empty() || module.title.as_slice().eq_ignore_ascii_case(title))

@@ -2,7 +2,7 @@
 
 ghost use Rattle.std.specs.Prelude.{◌≡◌, ◌≤◌, ◌^◌, IfOk};
 ghost use Rattle.address_map.specs.Memory.{bytes_of};
-ghost use Rattle.debug_modules.specs.Tables.{commands_of, entry_at, entry_of_words, loaded_word, table_from, table_place};
+ghost use Rattle.debug_modules.specs.Tables.{commands_of, command_entry_at, entry_of_words, loaded_word, table_from, table_place};
 
 use address_map::AddressMap;
 use debug_labels::ModuleInfo;
@@ -56,7 +56,8 @@ pub(crate) fn commands_of(
     memory: &AddressMap,
     module: &ModuleInfo,
 ) -> Result<CommandTable, AllocError>
-    ensures entries { IfOk result (λ t. t.entries.items ≡ (commands_of (bytes_of memory.now) module.now).entries) }
+    ensures entries { IfOk result (λ t. t.entries.items
+        ≡ (commands_of (bytes_of memory.now) module.now).entries) }
     ensures whole { IfOk result (λ t. t.is_whole ≡ (commands_of (bytes_of memory.now) module.now).is_whole) }
 {
     let offset = table_place(memory, module);
@@ -96,13 +97,14 @@ fn table_from(
     limit: u32,
     at: u32,
 ) -> Result<CommandTable, AllocError>
-    ensures entries { IfOk result (λ t. t.entries.items ≡ (table_from 256 (bytes_of memory.now) limit at).entries) }
+    ensures entries { IfOk result (λ t. t.entries.items
+        ≡ (table_from 256 (bytes_of memory.now) limit at).entries) }
     ensures whole { IfOk result (λ t. t.is_whole ≡ (table_from 256 (bytes_of memory.now) limit at).is_whole) }
 {
     let mut entries = Vec::new(alloc);
     let mut place = at;
     for _number in 0..MOST_ENTRIES {
-        match entry_at(memory, limit, place) {
+        match command_entry_at(memory, limit, place) {
             EntryRead::Entry(entry, next) => {
                 entries.push(entry)?;
                 place = next;
@@ -128,8 +130,8 @@ fn table_from(
 }
 
 // What stands in a table at an address, of an image that ends at another.
-fn entry_at(memory: &AddressMap, limit: u32, at: u32) -> EntryRead
-    ensures { result ≡ entry_at (bytes_of memory.now) limit at }
+fn command_entry_at(memory: &AddressMap, limit: u32, at: u32) -> EntryRead
+    ensures { result ≡ command_entry_at (bytes_of memory.now) limit at }
 {
     if at >= limit {
         return EntryRead::Outside;

@@ -4,7 +4,7 @@ ghost use Rattle.std.specs.Prelude.{◌≡◌, List, IfOk};
 ghost use Rattle.image_loader.specs.Entries.{Entry};
 ghost use Rattle.command_shell.specs.Session.{script_state};
 ghost use Rattle.debug_lines.specs.SteppingRequests.{stepping_request_of};
-ghost use Rattle.debug_modules.specs.Taking.{IsTaken, steps_taken};
+ghost use Rattle.debug_modules.specs.Taking.{HasLineSteps, line_steps};
 
 use debug_history::{Past, SteppingNote, StepsBefore, has_returned, is_faulted};
 use debug_labels::LabelTable;
@@ -31,8 +31,8 @@ pub fn take_steps(
     is_traced: bool,
     command: &SteppingCommand<'_>,
 ) -> Result<LineAnswer, AllocError>
-    ensures { let s = script_state session.old images.now in IfOk result (λ answer. IsTaken
-        (steps_taken modes.old labels.now is_traced s past.old number (stepping_request_of command.now))
+    ensures { let s = script_state session.old images.now in IfOk result (λ answer. HasLineSteps
+        (line_steps modes.old labels.now is_traced s past.old number (stepping_request_of command.now))
         (script_state session.new images.now) modes.new past.new
         answer.text.items answer.printed.items answer.ending.items) }
 {

@@ -17,11 +17,11 @@ use Rattle.debug_modes.specs.Modes.{answer_of_line}
 use Rattle.debug_modes.specs.declared.modes.DebugModes.{DebugModes}
 use Rattle.debug_modes.specs.expectations.Why.{why_text}
 use Rattle.debug_modules.specs.Answers.{ModuleAnswered, ModuleShown, Steps, Text, command_by, command_called, command_put_by, entered_so, error_below, module_answered, module_line_answered, modes_after_modules, only_shown, past_after_modules, script_after_modules}
-use Rattle.debug_modules.specs.Entering.{at_entry, back_if_returned, code_entered, past_at_entry, status_back, supervisor, with_status_back}
+use Rattle.debug_modules.specs.Entering.{at_entry, back_if_returned, module_code_entered, past_at_entry, status_gone_back, supervisor, with_status_back}
 use Rattle.debug_modules.specs.Plans.{command_plan, tail_address, tail_bytes}
 use Rattle.debug_modules.specs.Requests.{Command, ModuleAsked, Service, module_request}
 use Rattle.debug_modules.specs.Services.{ServiceState, entry_of_service, is_served, served_at, served_from, served_if, service_begun, service_called, service_code, service_left}
-use Rattle.debug_modules.specs.Taking.{StepsTaken, steps_taken}
+use Rattle.debug_modules.specs.Taking.{LineSteps, line_steps}
 use Rattle.debug_modules.specs.declared.services.ServiceCode.{ServiceCode}
 use Rattle.debug_modules.specs.declared.entering.ModuleEntry.{ModuleEntry}
 use Rattle.debug_tables.specs.byte_writes.Put.{script_after_put}
@@ -76,14 +76,14 @@ module_refused c d mid number line (Some a) is same = absurd (cc)
 
 -- WHAT IS KEPT IS WHAT WAS DONE
 
-back_kept : (number : ℕ) (before : Psr) (t : StepsTaken) (b : Bool) → IsPastOf t.script t.past
+back_kept : (number : ℕ) (before : Psr) (t : LineSteps) (b : Bool) → IsPastOf t.script t.past
     → (let u = if b then with_status_back number before t else t in IsPastOf u.script u.past)
-back_kept number before t true was = let status = status_back before t.script.machine.cpu.psr in
+back_kept number before t true was = let status = status_gone_back before t.script.machine.cpu.psr in
     deed_noted t.script (script_with_status t.script status) t.past number (deed.Status status) refl refl was refl
 back_kept number before t false was = was
 
 code_kept : (m : DebugModes) (labels : List ImageLabels) (s : ScriptState) (p : PastState) (number : ℕ) (e : ModuleEntry)
-    → IsPastOf s p → (let t = code_entered m labels s p number e in IsPastOf t.script t.past)
+    → IsPastOf s p → (let t = module_code_entered m labels s p number e in IsPastOf t.script t.past)
 code_kept m labels s p number e was =
     let psr = s.machine.cpu.psr in
     let status = supervisor psr in
@@ -99,11 +99,11 @@ code_kept m labels s p number e was =
     let k1 = deed_noted s0 s1 p0 number (deed.Register 0 e.r0) refl refl k0 refl in
     let k2 = deed_noted s1 s2 p1 number (deed.Register 1 e.r1) refl refl k1 refl in
     let k3 = deed_noted s2 s3 p2 number (deed.Register 12 e.r12) refl refl k2 refl in
-    let t = steps_taken m labels false s3 p3 number (stepping.Gosub e.code) in
+    let t = line_steps m labels false s3 p3 number (stepping.Gosub e.code) in
     back_kept number psr t (has_returned t.ending)
     (steps_kept m labels (answer_of_line m false) s3 p3 number (stepping.Gosub e.code) (λ fresh. absurd (cc)) k3)
 
-below_kept : (t : StepsTaken) (text : List ℕ) (b : Bool) → IsPastOf t.script t.past
+below_kept : (t : LineSteps) (text : List ℕ) (b : Bool) → IsPastOf t.script t.past
     → (let u = if b then record t { ending = text } else t in IsPastOf u.script u.past)
 below_kept t text true was = was
 below_kept t text false was = was
@@ -111,7 +111,7 @@ below_kept t text false was = was
 called_kept : (m : DebugModes) (labels : List ImageLabels) (budget : ℕ) (s : ScriptState) (p : PastState) (number : ℕ) (e : ModuleEntry)
     → IsPastOf s p → (let t = command_called m labels budget s p number e in IsPastOf t.script t.past)
 called_kept m labels budget s p number e was =
-    let t = code_entered m labels (script_with_budget s budget) p number e in
+    let t = module_code_entered m labels (script_with_budget s budget) p number e in
     below_kept t _ (t.script.machine.cpu.psr.overflow && has_returned t.ending)
     (code_kept m labels (script_with_budget s budget) p number e was)
 
@@ -196,24 +196,24 @@ module_line_kept c d number line was = asked_kept c d number line (module_reques
 
 -- WITH ANOTHER PAST
 
-abbrev without : PastState → StepsTaken → StepsTaken
+abbrev without : PastState → LineSteps → LineSteps
 without q t = record t { past = q }
 
-back_same : (q p r : PastState) (number : ℕ) (before : Psr) (t : StepsTaken) (b : Bool)
+back_same : (q p r : PastState) (number : ℕ) (before : Psr) (t : LineSteps) (b : Bool)
     → without q (if b then with_status_back number before (without p t) else without p t)
     ≡ without q (if b then with_status_back number before (without r t) else without r t)
 back_same q p r number before t true = refl
 back_same q p r number before t false = refl
 
 code_same : (m : DebugModes) (labels : List ImageLabels) (s : ScriptState) (q p r : PastState) (number : ℕ) (e : ModuleEntry)
-    → without q (code_entered m labels s p number e) ≡ without q (code_entered m labels s r number e)
+    → without q (module_code_entered m labels s p number e) ≡ without q (module_code_entered m labels s r number e)
 code_same m labels s q p r number e =
     let psr = s.machine.cpu.psr in
-    let t = steps_taken m labels false (at_entry s e) (past_at_entry p number psr e) number (stepping.Gosub e.code) in
-    let u = steps_taken m labels false (at_entry s e) (past_at_entry r number psr e) number (stepping.Gosub e.code) in
+    let t = line_steps m labels false (at_entry s e) (past_at_entry p number psr e) number (stepping.Gosub e.code) in
+    let u = line_steps m labels false (at_entry s e) (past_at_entry r number psr e) number (stepping.Gosub e.code) in
     back_same q t.past u.past number psr t (has_returned t.ending)
 
-below_with : (q : PastState) (t : StepsTaken) (text : List ℕ) (b : Bool)
+below_with : (q : PastState) (t : LineSteps) (text : List ℕ) (b : Bool)
     → without q (if b then record t { ending = text } else t) ≡ (if b then record (without q t) { ending = text } else without q t)
 below_with q t text true = refl
 below_with q t text false = refl
@@ -222,8 +222,8 @@ called_same : (m : DebugModes) (labels : List ImageLabels) (budget : ℕ) (s : S
     → without q (command_called m labels budget s p number e) ≡ without q (command_called m labels budget s r number e)
 called_same m labels budget s q p r number e =
     let first = script_with_budget s budget in
-    let t = code_entered m labels first p number e in
-    let u = code_entered m labels first r number e in
+    let t = module_code_entered m labels first p number e in
+    let u = module_code_entered m labels first r number e in
     below_with q t _ (t.script.machine.cpu.psr.overflow && has_returned t.ending)
     ∙ ap error_below (code_same m labels first q p r number e)
     ∙ sym (below_with q u _ (u.script.machine.cpu.psr.overflow && has_returned u.ending))
@@ -236,7 +236,7 @@ put_same : (m : DebugModes) (labels : List ImageLabels) (budget : ℕ) (s : Scri
     → answer_without q (command_put_by m labels budget s p number e bytes o)
     ≡ answer_without q (command_put_by m labels budget s r number e bytes o)
 put_same m labels budget s q p r number e bytes (Ok now) =
-    ap (λ (t : StepsTaken). let a : ModuleAnswered = record {
+    ap (λ (t : LineSteps). let a : ModuleAnswered = record {
       script = t.script;
       modes = t.modes;
       past = q;
@@ -258,7 +258,7 @@ service_without q v = record v { taken = without q v.taken }
 turn_same : (labels : List ImageLabels) (number : ℕ) (q p r : PastState) (v : ServiceState) (o : Option ServiceCode)
     → service_without q (served_if labels number (service_without p v) o) ≡ service_without q (served_if labels number (service_without r v) o)
 turn_same labels number q p r v (Some c) =
-    ap (λ (t : StepsTaken). service_left v c.title.items t)
+    ap (λ (t : LineSteps). service_left v c.title.items t)
     (code_same v.taken.modes labels v.taken.script q p r number (entry_of_service v c))
 turn_same labels number q p r v None = refl
 
@@ -291,7 +291,7 @@ service_same : (m : DebugModes) (labels : List ImageLabels) (budget : ℕ) (s : 
     else only_shown m s x (refused_text (codes "NoModule")))) in answer_without q (answer p) ≡ answer_without q (answer r))
 service_same m labels budget s q p r number service title true is_there = refl
 service_same m labels budget s q p r number service title false true =
-    ap (λ (t : StepsTaken). answer_without q (entered_so t))
+    ap (λ (t : LineSteps). answer_without q (entered_so t))
     (places_same 4096 labels number title 0 q p r (service_begun m budget s p service))
 service_same m labels budget s q p r number service title false false = refl
 

@@ -1,10 +1,10 @@
 use Rattle.std.proofs.Common.{◌≡◌, ◌≤◌, ◌+◌, drop, false}
-use Rattle.debug_modules.specs.Plans.{words_in}
+use Rattle.debug_modules.specs.Plans.{tail_words}
 use Rattle.debug_modules.proofs.plans.word_count.Given as goal
 
 -- the words that were counted, and those that are left, are all
 abbrev pub invariant-loop-byte : goal.invariant-loop-byte
 invariant-loop-byte l = record {
-  counted : l.count + words_in l.in_word l.in_quotes (drop l.byte-index l.tail) ≡ words_in false false l.tail;
+  counted : l.count + tail_words l.in_word l.in_quotes (drop l.byte-index l.tail) ≡ tail_words false false l.tail;
   few : l.count ≤ l.byte-index;
 }

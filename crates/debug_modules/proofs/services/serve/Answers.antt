@@ -2,9 +2,9 @@
 use Rattle.std.proofs.Common.{◌≡◌, ◌++◌, ◌∙◌, List, ℕ, ap, subst}
 use Rattle.std.specs.Prelude.{OnOk}
 use Rattle.command_shell.specs.Session.{script_state}
-use Rattle.debug_modules.specs.Entering.{code_entered}
+use Rattle.debug_modules.specs.Entering.{module_code_entered}
 use Rattle.debug_modules.specs.Services.{ServiceState, service_ended, service_state}
-use Rattle.debug_modules.specs.Taking.{IsTaken}
+use Rattle.debug_modules.specs.Taking.{HasLineSteps}
 use Rattle.debug_modules.specs.declared.entering.ModuleEntry.{ModuleEntry}
 use Rattle.debug_modules.proofs.ServiceLemmas.{left_so}
 use Rattle.debug_modules.proofs.services.serve.Goals as goal
@@ -22,7 +22,7 @@ returns c =
     let taken = c.in_ok-taken.taken in
     let here = subst (λ (r : ℕ). let e : ModuleEntry =
     record { code = code.code; r0 = r; r1 = c.args.serving.now.r1; r12 = code.word } in
-    IsTaken (code_entered c.args.modes.now labels s c.args.past.now c.args.number e) now ms pp taken.text.items taken.printed.items
+    HasLineSteps (module_code_entered c.args.modes.now labels s c.args.past.now c.args.number e) now ms pp taken.text.items taken.printed.items
     taken.ending.items) (c.register_in.ensures images) c.in_ok-taken.ensures in
     let left = left_so labels c.args.number code v now ms pp taken.text.items taken.printed.items taken.ending.items _ _ _ here
     (c.in_ok-extend_from_slice.ensures.items ∙ ap (λ (xs : List ℕ). c.args.serving.now.answer.text.items ++ xs) c.as_slice.ensures.value)
