@@ -23,7 +23,7 @@ use std::alloc::{AllocError, Global};
 
 /// Code that is to be entered, and what R0, R1 and R12 are there.
 #[derive(Clone, Copy, Debug)]
-pub(crate) struct ModuleEntry {
+pub struct ModuleEntry {
     pub code: Origin,
     pub r0: u32,
     pub r1: u32,

@@ -15,5 +15,7 @@ mod tables;
 mod taking;
 
 pub use answering::{ModuleAnswer, answer_module_line};
+pub use entering::ModuleEntry;
 pub use requests::{ModuleRequest, module_request};
+pub use services::ServiceCode;
 pub use taking::take_steps;

@@ -35,7 +35,7 @@ const MOST: u32 = 64;
 
 /// The code for service calls of an instance: its module's title, where the code is, and its private word.
 #[derive(Drop)]
-pub(crate) struct ServiceCode {
+pub struct ServiceCode {
     pub title: Name,
     pub code: Origin,
     pub word: u32,

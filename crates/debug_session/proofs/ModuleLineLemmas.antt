@@ -103,17 +103,9 @@ code_kept m labels s p number e was =
     back_kept number psr t (has_returned t.ending)
     (steps_kept m labels (answer_of_line m false) s3 p3 number (stepping.Gosub e.code) (λ fresh. absurd (cc)) k3)
 
-below_kept : (t : LineSteps) (text : List ℕ) (b : Bool) → IsPastOf t.script t.past
-    → (let u = if b then record t { ending = text } else t in IsPastOf u.script u.past)
-below_kept t text true was = was
-below_kept t text false was = was
-
 called_kept : (m : DebugModes) (labels : List ImageLabels) (budget : ℕ) (s : ScriptState) (p : PastState) (number : ℕ) (e : ModuleEntry)
     → IsPastOf s p → (let t = command_called m labels budget s p number e in IsPastOf t.script t.past)
-called_kept m labels budget s p number e was =
-    let t = module_code_entered m labels (script_with_budget s budget) p number e in
-    below_kept t _ (t.script.machine.cpu.psr.overflow && has_returned t.ending)
-    (code_kept m labels (script_with_budget s budget) p number e was)
+called_kept m labels budget s p number e was = code_kept m labels (script_with_budget s budget) p number e was
 
 put_kept : (m : DebugModes) (labels : List ImageLabels) (budget : ℕ) (s : ScriptState) (p : PastState) (number : ℕ) (e : ModuleEntry)
     (bytes : List ℕ) (r : Result ScriptState Fault) → script_after_put s tail_address bytes ≡ r → IsPastOf s p
@@ -213,20 +205,10 @@ code_same m labels s q p r number e =
     let u = line_steps m labels false (at_entry s e) (past_at_entry r number psr e) number (stepping.Gosub e.code) in
     back_same q t.past u.past number psr t (has_returned t.ending)
 
-below_with : (q : PastState) (t : LineSteps) (text : List ℕ) (b : Bool)
-    → without q (if b then record t { ending = text } else t) ≡ (if b then record (without q t) { ending = text } else without q t)
-below_with q t text true = refl
-below_with q t text false = refl
-
 called_same : (m : DebugModes) (labels : List ImageLabels) (budget : ℕ) (s : ScriptState) (q p r : PastState) (number : ℕ) (e : ModuleEntry)
     → without q (command_called m labels budget s p number e) ≡ without q (command_called m labels budget s r number e)
 called_same m labels budget s q p r number e =
-    let first = script_with_budget s budget in
-    let t = module_code_entered m labels first p number e in
-    let u = module_code_entered m labels first r number e in
-    below_with q t _ (t.script.machine.cpu.psr.overflow && has_returned t.ending)
-    ∙ ap error_below (code_same m labels first q p r number e)
-    ∙ sym (below_with q u _ (u.script.machine.cpu.psr.overflow && has_returned u.ending))
+    ap error_below (code_same m labels (script_with_budget s budget) q p r number e)
 
 abbrev answer_without : PastState → ModuleAnswered → ModuleAnswered
 answer_without q a = record a { past = q }

@@ -1,4 +1,4 @@
-use Rattle.std.proofs.Common.{◌≡◌, ◌∙◌, ap, refl, sym, false}
+use Rattle.std.proofs.Common.{◌∙◌, ap, refl, sym, false}
 use Rattle.debug_tables.specs.run_meter.Memory.{script_with_budget}
 use Rattle.debug_tables.specs.run_meter.Script.{request_answer}
 use Rattle.command_shell_lines.specs.Blocks.{block_lines}

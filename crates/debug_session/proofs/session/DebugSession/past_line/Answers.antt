@@ -49,4 +49,4 @@ returns-in-None-clause-reported g c =
     (g.W.Sink.contents c.module_line.new.sink) (debug_state c.module_line.new.self c.answer_line.new.images) x))
     (past_refused old.setting d _ c.args.number c.args.words.now o (sym (rw c.in-None.is at c.in_ok-text.ensures.text))
     (past_moved d _ _ o c.in_ok-text.ensures.script c.in_ok-text.ensures.past))
-    (c.module_line.ensures.reported c.answer_line.new.images))
+    c.module_line.ensures.reported)

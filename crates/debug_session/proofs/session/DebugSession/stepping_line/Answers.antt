@@ -1,5 +1,4 @@
-use Rattle.std.proofs.Common.{◌-◌, ◌∙◌, ◌≡◌, ℕ, Option, ap, subst}
-use Rattle.debug_tables.specs.run_meter.Session.{script_state}
+use Rattle.std.proofs.Common.{◌∙◌, ap}
 use Rattle.debug_tables.specs.run_meter.State.{ScriptState}
 use Rattle.debug_lines.specs.SteppingRequests.{stepping_request_of}
 use Rattle.debug_modules.specs.Taking.{line_steps}
