@@ -16,7 +16,7 @@ use Rattle.debug_modes.specs.expectations.Why.{why_text}
 use Rattle.debug_tables.specs.byte_writes.Put.{script_after_put}
 use Rattle.debug_modules.specs.Entering.{module_code_entered}
 use Rattle.debug_modules.specs.Plans.{command_plan, tail_address, tail_bytes}
-use Rattle.debug_modules.specs.Requests.{Command, ModuleAsked, Service, module_request}
+use Rattle.debug_modules.specs.Requests.{Command, Form, ModuleAsked, Service, module_request}
 use Rattle.debug_modules.specs.Services.{is_served, service_called}
 use Rattle.debug_modules.specs.Taking.{LineSteps}
 use Rattle.debug_modules.specs.declared.answering.ModuleAnswer.{ModuleAnswer}
@@ -107,6 +107,7 @@ module_answered m labels budget s p number (Command name tail) =
     command_answered m labels budget s p number name tail
 module_answered m labels budget s p number (Service service title) =
     service_answered m labels budget s p number service title
+module_answered m labels budget s p number (Form text) = only_shown m s p (text ++ codes "\n")
 
 -- what such a line is answered, and nothing of any other
 abbrev pub module_line_answered : DebugModes → List ImageLabels → ℕ → ScriptState → PastState → ℕ → List ℕ

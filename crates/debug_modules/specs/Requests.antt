@@ -1,8 +1,9 @@
 -- The lines that have to do with the code of modules.
-use Rattle.std.specs.Prelude.{ℕ, ◌+◌, ◌==◌, List, [], drop, codes, Option, Some, None}
+use Rattle.std.specs.Prelude.{ℕ, ◌+◌, ◌==◌, List, [], drop, codes, Option, Some, None, if◌then◌else◌}
 use Rattle.std.specs.Option.{option_map}
 use Rattle.std.specs.List.{position}
 use Rattle.command_shell_lines.specs.Numbers.{script_number}
+use Rattle.command_shell_lines.specs.Requests.{is_same_word}
 use Rattle.command_shell_lines.specs.debug_words.Texts.{front_before, text_behind}
 use Rattle.debug_modules.specs.declared.requests.ModuleRequest.{ModuleRequest}
 use Rattle.debug_modules.specs.declared.requests.ModuleRequest.TheVariants as line
@@ -12,11 +13,14 @@ pub data ModuleAsked : Type 0 where
   Command : List ℕ → List ℕ → ModuleAsked
   -- a service call's number, and a title, which is empty for all modules
   Service : ℕ → List ℕ → ModuleAsked
+  -- what a line needs
+  Form : List ℕ → ModuleAsked
 
 -- the lines that the code tells apart, as what they ask for
 abbrev pub module_request_of : ModuleRequest → ModuleAsked
 module_request_of (line.Command name tail) = Command name.now tail.now
 module_request_of (line.Service service title) = Service service title.now
+module_request_of (line.Form text) = Form text.now
 
 -- the word before the first space (32), and what stands behind that
 abbrev pub behind_place : Option ℕ → List ℕ → List ℕ
@@ -38,14 +42,23 @@ abbrev pub service_request : List ℕ → Option ModuleAsked
 service_request text =
     option_map (λ service. Service service (text_behind_word text)) (script_number (word_in_front text))
 
+-- `HELP COMMAND`, `HELP SERVICE`
+abbrev pub help_request : List ℕ → Option ModuleAsked
+help_request line =
+    if is_same_word line (codes "HELP COMMAND") then Some (Form
+    (codes "COMMAND wants a module's command, with what stands behind it, as COMMAND PotSet 1 5")) else (
+    if is_same_word line (codes "HELP SERVICE") then Some (Form
+    (codes "SERVICE wants a number, and may have a module's title, as SERVICE &27 Pots")) else
+    None)
+
 -- what a tidy line asks for, if it has to do with the code of modules
-abbrev pub service_asked : Option (List ℕ) → Option ModuleAsked
-service_asked (Some text) = service_request text
-service_asked None = None
+abbrev pub service_asked : List ℕ → Option (List ℕ) → Option ModuleAsked
+service_asked line (Some text) = service_request text
+service_asked line None = help_request line
 
 abbrev pub command_asked : List ℕ → Option (List ℕ) → Option ModuleAsked
 command_asked line (Some text) = Some (command_request text)
-command_asked line None = service_asked (text_behind (codes "SERVICE ") line)
+command_asked line None = service_asked line (text_behind (codes "SERVICE ") line)
 
 abbrev pub module_request : List ℕ → Option ModuleAsked
 module_request line = command_asked line (text_behind (codes "COMMAND ") line)

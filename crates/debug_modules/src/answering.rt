@@ -13,7 +13,7 @@ use crate::services::{call_service, is_served};
 use debug_history::{KeptText, Past, PastDeed, has_returned};
 use debug_labels::LabelTable;
 use debug_lines::DebugView;
-use debug_modes::{DebugModes, refused_line, view_text};
+use debug_modes::{DebugModes, form_line, refused_line, view_text};
 use debug_runs::LineAnswer;
 use debug_tables::byte_writes::put_bytes;
 use debug_tables::run_meter::Session;
@@ -70,6 +70,9 @@ pub fn answer_module_line(
                 alloc, budget, session, modes, past, images, labels, number, service, title,
             )?;
             Ok(Some(answer))
+        }
+        Some(ModuleRequest::Form(text)) => {
+            Ok(Some(ModuleAnswer::Shown(form_line(alloc, text)?)))
         }
         None => Ok(None),
     }

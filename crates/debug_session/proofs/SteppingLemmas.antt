@@ -49,11 +49,6 @@ pub stepping_alone : (over : Bool) (r : Request) (asked : SteppingRequest)
 stepping_alone true r asked is = stepping_opens r asked is
 stepping_alone false r asked is = absurd (cc)
 
--- what holds anyhow holds where a call was well
-pub anyhow : {A E : Type 0} (result : Result A E) (P : Type 0) → P → OnOk result P
-anyhow (Ok a) P holds = holds
-anyhow (Err e) P holds = record {}
-
 -- two answers one after another
 answers_joined : (form : ReportForm) (xs ys : List ℕ) → answer_in form xs ++ answer_in form ys ≡ answer_in form (xs ++ ys)
 answers_joined Answers xs ys = refl

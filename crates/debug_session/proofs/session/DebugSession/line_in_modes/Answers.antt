@@ -8,7 +8,8 @@ use Rattle.debug_modes.specs.Modes.{takes_over}
 use Rattle.debug_session.specs.DebugScript.{script_line_answer_in, stepping_line_answer}
 use Rattle.debug_session.specs.DebugState.{IsDebugged}
 use Rattle.debug_session.specs.Session.{debug_state}
-use Rattle.debug_session.proofs.SteppingLemmas.{anyhow, stepping_alone}
+use Rattle.debug_modules.proofs.EnteringLemmas.{anyhow}
+use Rattle.debug_session.proofs.SteppingLemmas.{stepping_alone}
 use Rattle.debug_session.proofs.session.DebugSession.line_in_modes.Goals as goal
 
 pub returns-in-Some-clause-reported : goal.returns-in-Some-clause-reported
