@@ -1,8 +1,7 @@
-//! Lines of a debugging script that enter the code of loaded modules: commands by their names, and service
-//! calls; and the steps that a line takes, with what is kept of them.
+//! Lines of a debugging script that enter the code of loaded modules, and the steps that lines take, with what
+//! is kept of them.
 //!
-//! Promise: a command's code finds what the manual says in its registers, and where a line is not done,
-//! nothing is changed.
+//! Promise: code finds what the manual says, and where a line is not done, nothing is changed.
 #![tactic(auto)]
 
 mod answering;
