@@ -135,7 +135,7 @@ where
     ending_by_reader(ending, reader.take_refusal())
 }
 
-// The same, without such files.
+// Answers what a reader gives on a fresh machine, in the form that is wanted, on standard output.
 fn answer_in_form<'a, R, S, E>(
     rt: &R,
     wanted: &'a WantedSession,
