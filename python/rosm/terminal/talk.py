@@ -18,7 +18,7 @@ from ..programs import ProgramEngine
 OPENS_BLOCK = re.compile(r"\s*(ASM\s+[!-~]+\s+(&[0-9A-F]+|\d+)|HEX\s+[!-~]+)\s*(\s;.*)?", re.IGNORECASE)
 TRACES = re.compile(r"\s*(REPEAT\s+\S+\s+)?TRACE\s+(?!LIMIT\b|ON\b|OFF\b)", re.IGNORECASE)
 TRACE_MODE = re.compile(r"\s*TRACE\s+(ON|OFF)\s*(\s;.*)?", re.IGNORECASE)
-TAKES_STEPS = re.compile(r"\s*(REPEAT\s+\S+\s+)?(RUN|STEP|CALL|LOAD|FINISH|GOSUB)\b", re.IGNORECASE)
+TAKES_STEPS = re.compile(r"\s*(REPEAT\s+\S+\s+)?(RUN|STEP|CALL|LOAD|FINISH|GOSUB|COMMAND|SERVICE)\b", re.IGNORECASE)
 AGAIN = re.compile(r"\s*(TRACE\s+)?(STEP\s+\S+|\d+|&[0-9A-F]+)\s*", re.IGNORECASE)
 OWN_HELP = """lines of this prompt:
   BACK n                                     the machine as it was n steps before
