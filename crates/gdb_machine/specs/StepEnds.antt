@@ -1,6 +1,7 @@
 -- How a step ended: whether there may be another, why the program stands then, and what it struck; and what is
 -- shown of a machine that a fault has halted.
 use Rattle.std.specs.Prelude.{ℕ, ◌/◌, ◌%◌, ◌==◌, ◌||◌, Bool, true, false, List, ◌++◌, codes, Option, Some, None, Result, Ok, Err, if◌then◌else◌}
+use Rattle.profile.specs.Digits.{hex_number}
 use Rattle.profile.specs.FaultNames.{fault_name}
 use Rattle.profile.specs.declared.fault.Fault.{Fault}
 use Rattle.profile.specs.declared.stop.Stop.{Stop}
@@ -78,9 +79,13 @@ is_exit_number (Some number) = number == 0x11 || number == 0x20011
 abbrev pub is_exit_ahead : State → Bytes → Bool
 is_exit_ahead s b = is_exit_number (swi_of_cause (cause_of s b))
 
-abbrev pub halted_text : Fault → List ℕ
-halted_text f = codes "rosm: halted by " ++ (fault_name f ++ codes
-    "; RESET, load or another pc wakes the machine\n")
+-- where a fault has halted the machine, and what wakes it
+abbrev pub halted_line : List ℕ → List ℕ → List ℕ
+halted_line digits name = codes "rosm: halted at &" ++ (digits ++ (codes " by " ++ (name
+    ++ codes "; BACK, RESET, load or another pc wakes it\n")))
+
+abbrev pub halted_text : Fault → ℕ → List ℕ
+halted_text f address = halted_line (hex_number address) (fault_name f)
 
 abbrev pub is_own_signal : Option ℕ → Fault → Bool
 is_own_signal None f = false

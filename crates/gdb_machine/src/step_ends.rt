@@ -1,9 +1,9 @@
 //! How a step ended, and what of that is shown.
 
-ghost use Rattle.std.specs.Prelude.{◌≡◌, ◌++◌, ◌&&◌, nat_lt};
+ghost use Rattle.std.specs.Prelude.{◌≡◌, ◌&&◌, nat_lt};
 ghost use Rattle.address_map.specs.Memory.{bytes_of};
 ghost use Rattle.profile.specs.Output.{Writes};
-ghost use Rattle.gdb_machine.specs.StepEnds.{halted_text, is_exit_number, is_exit_ahead, is_interrupt as is_interrupt_shown, is_own_signal, last_stop as last_shown, may_change_list, steps_further as goes_on_shown, stop_after_step, struck_after, was_library as was_library_shown};
+ghost use Rattle.gdb_machine.specs.StepEnds.{halted_line, halted_text, is_exit_number, is_exit_ahead, is_interrupt as is_interrupt_shown, is_own_signal, last_stop as last_shown, may_change_list, steps_further as goes_on_shown, stop_after_step, struck_after, was_library as was_library_shown};
 
 use crate::stops::{GdbStop, signal_number_of};
 use crate::watches::WatchedPlace;
@@ -11,7 +11,7 @@ use address_map::AddressMap;
 use arm_core::Cpu;
 use gdb_packets::Going;
 use profile::memory_map::RETURN_GATE;
-use profile::{Fault, Sink, Stop, WriteFault, push_all};
+use profile::{Fault, HexText, Sink, Stop, WriteFault, push_parts};
 use trace_effects::{Cause, called_swi};
 
 /// What is known before a step: whether it may change which modules are there, and where its instruction
@@ -119,29 +119,30 @@ pub fn is_own_signal(signal: Option<u32>, fault: Fault) -> bool
     }
 }
 
-/// `rosm: halted by DataUnmapped; RESET, load or another pc wakes the machine`
-pub fn push_halted<W: Sink>(sink: &mut W, fault: Fault) -> Result<(), WriteFault>
-    ensures { Writes W.contents W.has_failed sink.old sink.new result (halted_text fault) }
+/// `rosm: halted at &8004 by DataUnmapped; BACK, RESET, load or another pc wakes it`
+pub fn push_halted<W: Sink>(sink: &mut W, fault: Fault, address: u32) -> Result<(), WriteFault>
+    ensures { Writes W.contents W.has_failed sink.old sink.new result (halted_text fault address) }
 {
-    push_between(
+    push_halted_by(
         sink,
-        b"rosm: halted by ",
+        HexText::number(address).as_slice(),
         fault.name().as_bytes(),
-        b"; RESET, load or another pc wakes the machine\n",
     )
 }
 
-// A text between two others.
-fn push_between<W: Sink>(
-    sink: &mut W,
-    before: &[u8],
-    text: &[u8],
-    after: &[u8],
-) -> Result<(), WriteFault>
+// The same by the digits of the address and the fault's name.
+fn push_halted_by<W: Sink>(sink: &mut W, digits: &[u8], name: &[u8]) -> Result<(), WriteFault>
     ensures { Writes W.contents W.has_failed sink.old sink.new result
-        (before.now ++ (text.now ++ after.now)) }
+        (halted_line digits.now name.now) }
 {
-    push_all(sink, before)?;
-    push_all(sink, text)?;
-    push_all(sink, after)
+    push_parts(
+        sink,
+        &[
+            b"rosm: halted at &".as_slice(),
+            digits,
+            b" by ".as_slice(),
+            name,
+            b"; BACK, RESET, load or another pc wakes it\n".as_slice(),
+        ],
+    )
 }

@@ -107,7 +107,7 @@ pub fault_ends : (g : GdbState) (own : Bool) (f : Fault) → own ≡ true → gd
 fault_ends g own f is = rw is refl
 
 pub fault_stays : (g : GdbState) (own : Bool) (f : Fault) → own ≡ false
-    → stop_shown_with g (halted_text f) (reason.Ran (stop.Fault f)) ≡ fault_shown g own f
+    → stop_shown_with g (halted_text f g.debug.script.machine.cpu.pc) (reason.Ran (stop.Fault f)) ≡ fault_shown g own f
 fault_stays g own f is = rw is refl
 
 -- why a machine is halted, if no fault has halted it

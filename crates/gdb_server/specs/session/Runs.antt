@@ -164,7 +164,7 @@ unhalted_answer g (going.Within places) = unless_taken (step_taken g) g (slice_s
 -- A machine that a fault has halted takes no step. The signal of its fault, given back to it, ends the program.
 abbrev pub fault_shown : GdbState → Bool → Fault → GdbAnswered
 fault_shown g true f = gdb_stop_shown g [] (reason.Killed f)
-fault_shown g false f = stop_shown_with g (halted_text f) (reason.Ran (stop.Fault f))
+fault_shown g false f = stop_shown_with g (halted_text f g.debug.script.machine.cpu.pc) (reason.Ran (stop.Fault f))
 
 abbrev pub halt_shown : GdbState → Option ℕ → Stop → GdbAnswered
 halt_shown g signal (stop.Fault f) = fault_shown g (is_own_signal signal f) f

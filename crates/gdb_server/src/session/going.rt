@@ -66,7 +66,7 @@ impl GdbSession {
         if is_own {
             return self.stopped(reported, GdbStop::Killed(fault));
         }
-        push_halted(&mut reported, fault)?;
+        push_halted(&mut reported, fault, self.pc())?;
         self.stopped_with(reported, GdbStop::Ran(Stop::Fault(fault)))
     }
 

@@ -19,8 +19,9 @@ returns-then-is_own-clause-reported c images =
 pub returns-clause-reported : goal.returns-clause-reported
 returns-clause-reported c images =
     let g : GdbState = gdb_state c.args.self.now images in
-    let text : sink_text_of c.push_halted.new.sink ≡ halted_text c.args.fault =
-    c.in_ok-push_halted.ensures.text ∙ ap (λ (x : List ℕ). x ++ halted_text c.args.fault) c.new-reported.ensures in
+    let text : sink_text_of c.push_halted.new.sink ≡ halted_text c.args.fault g.debug.script.machine.cpu.pc =
+    c.in_ok-push_halted.ensures.text ∙ ap (λ (x : List ℕ). x ++ halted_text c.args.fault c.pc.result) c.new-reported.ensures
+    ∙ ap (λ (at : ℕ). halted_text c.args.fault at) (c.pc.ensures images) in
     answered_as _ _ _ _ (ap (λ (x : List ℕ). stop_shown_with g x (reason.Ran (stop.Fault c.args.fault))) text
     ∙ fault_stays g c.args.is_own c.args.fault c.if-is_own.false)
     (c.stopped_with.ensures.reported images)
