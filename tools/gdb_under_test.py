@@ -53,7 +53,7 @@ PROGRAMS = {
     "writes": ("list", ["O0"]),
 }
 # the sessions in which the program can be run again, and those in whose folder another build of it lies
-EXTENDED = ("again", "load-alone", "loaded", "rebuilt", "script-again", "signalled")
+EXTENDED = ("again", "killed", "load-alone", "loaded", "rebuilt", "script-again", "signalled")
 REBUILT = ("loaded", "rebuilt")
 OTHER = ("other", ("300", "302"))
 # the blocks of a session's script whose labels and lines GDB gets, the first from the start
@@ -66,7 +66,7 @@ LIBRARIES = {"back-modules": COUNTER, "libraries": COUNTER, "loads": COUNTER, "t
 # a session that has the symbols of a module's block in that file
 TITLED = {"titled": ("counter", "Counter.elf")}
 # the sessions on the machine of another one's script
-SCRIPTS = {"back-modules": "loads", "jumped": "halted", "signalled": "halted", "titled": "libraries"}
+SCRIPTS = {"back-modules": "loads", "jumped": "halted", "killed": "halted", "signalled": "halted", "titled": "libraries"}
 # lines that are left out: with no program GDB warns that it has none, and of a module that it has no symbols
 UNTOLD = (
     "warning: No exec",

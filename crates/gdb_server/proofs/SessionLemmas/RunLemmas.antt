@@ -11,6 +11,7 @@ use Rattle.debug_session.specs.DebugScript.{debug_line_answer, debug_lines_answe
 use Rattle.debug_session.specs.DebugState.{DebugAnswered, DebugState, IsDebugged}
 use Rattle.debug_session.specs.declared.session.DebugSettings.{DebugSettings}
 use Rattle.gdb_machine.specs.StepEnds.{halted_text, steps_further, stop_after_step}
+use Rattle.gdb_machine.specs.Stops.{is_gone}
 use Rattle.gdb_machine.specs.declared.back_ends.UnderWay.{UnderWay}
 use Rattle.gdb_machine.specs.declared.back_ends.UnderWay.TheVariants as under
 use Rattle.gdb_machine.specs.declared.stops.GdbStop.{GdbStop}
@@ -18,7 +19,7 @@ use Rattle.gdb_machine.specs.declared.stops.GdbStop.TheVariants as reason
 use Rattle.gdb_packets.specs.declared.going.Going.{Going}
 use Rattle.gdb_packets.specs.declared.going.Going.TheVariants as going
 use Rattle.gdb_server.specs.session.Requests.{goes_further, goes_on_if, host_answered}
-use Rattle.gdb_server.specs.session.Runs.{after_begin, asking, unhalted_answer, begin_shown, break_here, debug_anew, fault_shown, first_slice_shown, gdb_step_shown, gdb_stop_shown, going_shown, halt_shown, has_break_due, line_decoded, slice_steps, slice_shown, step_taken, stop_asked, stop_shown_with, stops_if, unless_halted_before, unless_taken, with_debug, with_whole_budget, without_quit}
+use Rattle.gdb_server.specs.session.Runs.{after_begin, asking, unhalted_answer, begin_shown, break_here, debug_anew, fault_shown, first_slice_shown, gdb_step_shown, gdb_stop_shown, going_shown, halt_shown, has_break_due, line_decoded, slice_steps, slice_shown, step_taken, stop_asked, stop_shown_with, stops_if, unless_gone, unless_halted_before, unless_taken, with_debug, with_whole_budget, without_quit}
 use Rattle.gdb_server.specs.session.Session.{IsAfterSteps, IsGdbAnswered}
 use Rattle.gdb_server.specs.session.State.{GdbAnswered, GdbState, no_reply, packet_reply, with_steps_noted}
 use Rattle.gdb_server.specs.session.Steps.{StepsTaken, gdb_steps, is_other_list}
@@ -131,21 +132,41 @@ pub asked_stops : (g : GdbState) (way : UnderWay) → g.going ≡ Some way → g
 asked_stops g way some = sym (ap (λ (o : Option UnderWay). stops_if g o) some)
 
 -- a run or a step begins
+-- a program that is no more, or is there
+pub goes_nowhere : (g there : GdbState) (goes : Going) (signal : Option ℕ) → there ≡ with_whole_budget g
+    → is_gone there.stop ≡ true → gdb_stop_shown there [] there.stop ≡ going_shown g goes signal
+goes_nowhere g there goes signal is gone =
+    ap (λ (s : GdbState). gdb_stop_shown s [] s.stop) is
+    ∙ by (is_gone g.stop) _ _ (sym (ap (λ (s : GdbState). is_gone s.stop) is) ∙ gone)
+  where
+    by : (b : Bool) (again other : GdbAnswered) → b ≡ true → again ≡ (if b then again else other)
+    by b again other is = rw is refl
+
+is_there : (g there : GdbState) (other : GdbAnswered) → there ≡ with_whole_budget g → is_gone there.stop ≡ false
+    → other ≡ unless_gone (with_whole_budget g) other
+is_there g there other is stays =
+    by (is_gone g.stop) _ _ (sym (ap (λ (s : GdbState). is_gone s.stop) is) ∙ stays)
+  where
+    by : (b : Bool) (again other : GdbAnswered) → b ≡ false → other ≡ (if b then again else other)
+    by b again other is = rw is refl
+
 pub goes_halted : (g there : GdbState) (goes : Going) (signal : Option ℕ) (halt : Stop) → there ≡ with_whole_budget g
-    → option_map stop_of there.debug.script.machine.halt ≡ Some halt → halt_shown there signal halt ≡ going_shown g goes signal
-goes_halted g there goes signal halt is halted =
+    → is_gone there.stop ≡ false → option_map stop_of there.debug.script.machine.halt ≡ Some halt → halt_shown there signal halt ≡ going_shown g goes signal
+goes_halted g there goes signal halt is stays halted =
     let whole : GdbState = with_whole_budget g in
     let there_too = sym (ap (λ (s : GdbState). option_map stop_of s.debug.script.machine.halt) is) ∙ halted in
     ap (λ (s : GdbState). halt_shown s signal halt) is
     ∙ sym (ap (λ (o : Option Stop). unless_halted_before whole signal o (unhalted_answer whole goes)) there_too)
+    ∙ is_there g there _ is stays
 
 pub goes_unhalted : (g there : GdbState) (goes : Going) (signal : Option ℕ) → there ≡ with_whole_budget g
-    → option_map stop_of there.debug.script.machine.halt ≡ None → unhalted_answer there goes ≡ going_shown g goes signal
-goes_unhalted g there goes signal is unhalted =
+    → is_gone there.stop ≡ false → option_map stop_of there.debug.script.machine.halt ≡ None → unhalted_answer there goes ≡ going_shown g goes signal
+goes_unhalted g there goes signal is stays unhalted =
     let whole : GdbState = with_whole_budget g in
     let there_too = sym (ap (λ (s : GdbState). option_map stop_of s.debug.script.machine.halt) is) ∙ unhalted in
     ap (λ (s : GdbState). unhalted_answer s goes) is
     ∙ sym (ap (λ (o : Option Stop). unless_halted_before whole signal o (unhalted_answer whole goes)) there_too)
+    ∙ is_there g there _ is stays
 
 -- the answer by an equal one
 pub answered_as : (now : GdbState) (r : Result GdbAnswer RunError) (a b : GdbAnswered) → a ≡ b

@@ -3,6 +3,7 @@ use Rattle.std.specs.Prelude.{ℕ, true, ◌==◌, List, codes, Option, Some, No
 use Rattle.hex.specs.Hex.{decode_of, decode_sized}
 use Rattle.command_shell.specs.Memory.{script_at, script_unhalted, script_with_bank_register, script_with_register, script_with_status}
 use Rattle.command_shell.specs.State.{ScriptState}
+use Rattle.profile.specs.declared.stop.Stop.TheVariants as stop
 use Rattle.debug_session.specs.PastNoted.{past_with_deed}
 use Rattle.debug_session.specs.Past.{PastState}
 use Rattle.debug_session.specs.PastDeed.TheVariants as deed
@@ -11,6 +12,7 @@ use Rattle.gdb_machine.specs.ChangePackets.{break_refusal, bytes_of_pairs, watch
 use Rattle.gdb_machine.specs.Watches.{with_watch, without_watch}
 use Rattle.gdb_machine.specs.declared.changes.RegisterWrite.{RegisterWrite}
 use Rattle.gdb_machine.specs.declared.changes.RegisterWrite.TheVariants as change
+use Rattle.gdb_machine.specs.declared.stops.GdbStop.TheVariants as reason
 use Rattle.gdb_machine.specs.declared.watches.Watch.{Watch}
 use Rattle.gdb_machine.specs.declared.watches.WatchError.{WatchError}
 use Rattle.gdb_packets.specs.declared.requests.ByteRange.{ByteRange}
@@ -77,6 +79,10 @@ add_watch_shown g watch = watch_set g (with_watch g.watches watch)
 
 abbrev pub remove_watch_shown : GdbState → Watch → GdbAnswered
 remove_watch_shown g watch = packet_reply (record g { watches = without_watch g.watches watch }) (codes "OK")
+
+-- the program is no more, as after its exit
+abbrev pub program_ended : GdbState → GdbState
+program_ended g = record g { going = None; stop = reason.Ran stop.Exit }
 
 -- the debugger goes
 abbrev pub at_session_end : GdbState → GdbState

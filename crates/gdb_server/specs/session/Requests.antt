@@ -42,7 +42,7 @@ gdb_change_shown g (request.StorePairs range pairs) = changes.store_pairs_shown 
 gdb_change_shown g (request.StoreBytes range bytes) = store_shown g range bytes
 gdb_change_shown g (request.AddPoint asked range) = add_point_shown g asked range
 gdb_change_shown g (request.RemovePoint asked range) = remove_point_shown g asked range
-gdb_change_shown g request.KillProgram = packet_reply g (codes "OK")
+gdb_change_shown g request.KillProgram = packet_reply (changes.program_ended g) (codes "OK")
 gdb_change_shown g request.Detach = packet_reply (changes.at_session_end g) (codes "OK")
 gdb_change_shown g other = no_reply (changes.at_session_end g)
 

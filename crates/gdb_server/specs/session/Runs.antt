@@ -14,7 +14,7 @@ use Rattle.debug_session.specs.declared.session.DebugSettings.{DebugSettings}
 use Rattle.std.specs.Str.Lines.{lines}
 use Rattle.hex.specs.Hex.{decode_of}
 use Rattle.gdb_machine.specs.StepEnds.{halted_text, is_own_signal, last_stop, steps_further, stop_after_step, was_library}
-use Rattle.gdb_machine.specs.Stops.{stop_packet}
+use Rattle.gdb_machine.specs.Stops.{is_gone, stop_packet}
 use Rattle.gdb_machine.specs.declared.back_ends.UnderWay.{UnderWay}
 use Rattle.gdb_machine.specs.declared.back_ends.UnderWay.TheVariants as under
 use Rattle.gdb_machine.specs.declared.stops.GdbStop.{GdbStop}
@@ -176,11 +176,15 @@ abbrev pub unless_halted_before : GdbState → Option ℕ → Option Stop → Gd
 unless_halted_before g signal (Some x) other = halt_shown g signal x
 unless_halted_before g signal None other = other
 
+-- A program that is no more takes no step, and why it is no more is shown again, until it begins anew.
+abbrev pub unless_gone : GdbState → GdbAnswered → GdbAnswered
+unless_gone g other = if is_gone g.stop then gdb_stop_shown g [] g.stop else other
+
 -- a run or a step, with a signal or without
 abbrev pub going_shown : GdbState → Going → Option ℕ → GdbAnswered
 going_shown g goes signal = (let whole = with_whole_budget g in
-    unless_halted_before whole signal (option_map stop_of whole.debug.script.machine.halt)
-    (unhalted_answer whole goes))
+    unless_gone whole (unless_halted_before whole signal (option_map stop_of whole.debug.script.machine.halt)
+    (unhalted_answer whole goes)))
 
 -- a line of a debugging script, as line 0 of it: the user is shown what the debugger answers. A line
 -- QUIT before it ended nothing.

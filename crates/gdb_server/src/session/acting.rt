@@ -9,6 +9,7 @@ use command_shell::RunError;
 use gdb_machine::{GdbStop, UnderWay};
 use gdb_packets::{Going, Request};
 use image_loader::Images;
+use profile::Stop;
 use profile::text_sink::TextSink;
 
 impl GdbSession {
@@ -95,7 +96,11 @@ impl GdbSession {
                 self.remove_point(*kind, *range);
                 Ok(Some(b"OK"))
             }
-            Request::KillProgram => Ok(Some(b"OK")),
+            Request::KillProgram => {
+                self.going = None;
+                self.stop = GdbStop::Ran(Stop::Exit);
+                Ok(Some(b"OK"))
+            }
             Request::Detach => {
                 self.has_ended = true;
                 Ok(Some(b"OK"))

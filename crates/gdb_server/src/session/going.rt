@@ -16,7 +16,7 @@ impl GdbSession {
     ghost use Rattle.gdb_server.specs.session.Runs.{unhalted_answer, fault_shown, going_shown, halt_shown, step_taken, stop_here, unless_stepped, with_whole_budget};
     ghost use Rattle.gdb_server.specs.session.Session.{gdb_state, IsGdbAnswered};
 
-    /// Begins a run or takes a step, with a signal or without.
+    /// Begins a run or takes a step, with a signal or without. A program that is no more takes none.
     pub(crate) fn go(
         &mut self,
         images: &Images,
@@ -28,6 +28,9 @@ impl GdbSession {
         ensures errors { IfErr result IsLineError }
     {
         self.renew_budget();
+        if self.stop.is_gone() {
+            return self.stopped(TextSink::new(self.alloc), self.stop);
+        }
         match self.debug.session.machine().stop() {
             Some(stop) => self.stand_halted(stop, signal),
             None => self.go_unhalted(images, going),

@@ -1,0 +1,5 @@
+stepi
+kill
+info threads
+starti
+info threads
