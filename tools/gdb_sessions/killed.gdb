@@ -3,3 +3,7 @@ kill
 info threads
 starti
 info threads
+detach
+info threads
+starti
+info threads

@@ -1,6 +1,6 @@
--- Requests whose answer is always the same, or depends on nothing but whether the program is there; and after which
--- the bytes `+` and `-` are sent no more.
-use Rattle.std.specs.Prelude.{ℕ, Bool, true, false, not, ◌&&◌, List, [], ◌++◌, Option, Some, None, codes}
+-- Requests whose answer is always the same, or depends on nothing but whether the program is there; after which the
+-- bytes `+` and `-` are sent no more; and what extended mode changes.
+use Rattle.std.specs.Prelude.{ℕ, Bool, true, false, not, ◌&&◌, ◌||◌, List, [], ◌++◌, Option, Some, None, codes, if◌then◌else◌}
 use Rattle.gdb_packets.specs.Requests as request
 use Rattle.gdb_packets.specs.Requests.{GdbRequest}
 
@@ -37,3 +37,21 @@ is_taken_so has_acks fits = not has_acks && fits
 abbrev pub keeps_acks : GdbRequest → Bool
 keeps_acks request.NoAcks = false
 keeps_acks other = true
+
+-- `!`
+abbrev pub is_extension : GdbRequest → Bool
+is_extension request.Extended = true
+is_extension other = false
+
+-- whether the mode is extended after a request: in it the program can be run again
+abbrev pub extends : Bool → GdbRequest → Bool
+extends was_extended asked = was_extended || is_extension asked
+
+-- `D`
+abbrev pub is_leave : GdbRequest → Bool
+is_leave request.Detach = true
+is_leave other = false
+
+-- In extended mode the other side stays there when the debugger goes: the program alone ends.
+abbrev pub meant_in : Bool → GdbRequest → GdbRequest
+meant_in is_extended asked = if is_extended && is_leave asked then request.KillProgram else asked

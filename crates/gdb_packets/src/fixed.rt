@@ -1,12 +1,12 @@
-//! Requests whose answer is always the same, or depends on nothing but whether the program is there; and
-//! after which the bytes `+` and `-` are sent no more.
+//! Requests whose answer is always the same, or depends on nothing but whether the program is there;
+//! after which the bytes `+` and `-` are sent no more; and what extended mode changes.
 
 ghost use Rattle.std.specs.Prelude.{◌≡◌, option_map};
-ghost use Rattle.gdb_packets.specs.Requests.{gdb_request};
-ghost use Rattle.gdb_packets.specs.Fixed.{fixed_reply as fixed_shown, is_taken_so, keeps_acks, threads_text};
+ghost use Rattle.gdb_packets.specs.Requests.{gdb_request, packet_request};
+ghost use Rattle.gdb_packets.specs.Fixed.{extends, fixed_reply as fixed_shown, is_leave, is_taken_so, keeps_acks, meant_in, threads_text};
 ghost use Rattle.gdb_packets.specs.Ahead.{is_run_request};
 
-use crate::requests::Request;
+use crate::requests::{Request, request_of};
 
 /// What the other side may ask for.
 const SUPPORTED: &[u8] = b"PacketSize=4000;QStartNoAckMode+;vContSupported+;swbreak+;hwbreak+;\
@@ -48,6 +48,31 @@ pub fn keeps_acks(request: &Request<'_>) -> bool
     ensures { result ≡ keeps_acks (gdb_request request.now) }
 {
     !matches!(request, Request::NoAcks)
+}
+
+/// Whether the mode is extended after a request: the program can be run again.
+pub fn extends(was_extended: bool, request: &Request<'_>) -> bool
+    ensures { result ≡ extends was_extended (gdb_request request.now) }
+{
+    was_extended || matches!(request, Request::Extended)
+}
+
+/// Reads a packet in a mode: where it is extended the debugger that goes ends the program alone.
+pub fn request_in(is_extended: bool, packet: &[u8]) -> Request<'_>
+    ensures { gdb_request result ≡ meant_in is_extended (packet_request packet.now) }
+{
+    let request = request_of(packet);
+    if is_extended && is_leave(&request) {
+        Request::KillProgram
+    } else {
+        request
+    }
+}
+
+fn is_leave(request: &Request<'_>) -> bool
+    ensures { result ≡ is_leave (gdb_request request.now) }
+{
+    matches!(request, Request::Detach)
 }
 
 /// Whether a request is a `run`, before which the files are read anew.

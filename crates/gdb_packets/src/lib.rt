@@ -17,7 +17,9 @@ pub mod request_laws;
 mod requests;
 mod words;
 
-pub use fixed::{fixed_reply, is_run_request, is_taken_so, keeps_acks, threads};
+pub use fixed::{
+    extends, fixed_reply, is_run_request, is_taken_so, keeps_acks, request_in, threads,
+};
 pub use frames::push_packet;
 pub use going::{Going, has_left};
 pub use laws::packets_are_read;

@@ -5,16 +5,16 @@ use Rattle.std.proofs.lemmas.Bool.{cases_Bool, cases_lt}
 use Rattle.std.proofs.lemmas.List.{append-nil, take_min}
 use Rattle.std.proofs.Math.Seq.{drop-cons}
 use Rattle.gdb_machine.specs.Loads.{LoadState}
-use Rattle.gdb_packets.specs.Fixed.{keeps_acks}
+use Rattle.gdb_packets.specs.Fixed.{extends, keeps_acks}
 use Rattle.gdb_packets.specs.Reading.{Reading, byte_taken}
-use Rattle.gdb_packets.specs.Requests.{GdbRequest, packet_request}
+use Rattle.gdb_packets.specs.Requests.{GdbRequest}
 use Rattle.gdb_packets.specs.declared.reader.Piece.{Piece}
 use Rattle.gdb_packets.specs.declared.reader.Piece.TheVariants as piece
 use Rattle.std.specs.Io.KnownBytes.{Appends}
 use Rattle.profile.specs.Output.{AddsAllBut, AddsFront, AddsPart}
 use Rattle.profile.proofs.OutputLemmas.{AddsAllBut-more, AddsAllBut-start, Appends-from_all_but, Appends-nothing}
 use Rattle.gdb_server.specs.Server.{IsServed}
-use Rattle.gdb_server.specs.Serving.{ServerState, Served, acks_after, answer_text, byte_served, bytes_served, loads_now, packet_served, piece_served, reply_packet, stop_served, then_served, text_packet, text_packets, shown_packets}
+use Rattle.gdb_server.specs.Serving.{ServerState, Served, acks_after, answer_text, byte_served, bytes_served, loads_now, packet_served, piece_served, reply_packet, request_now, stop_served, then_served, text_packet, text_packets, shown_packets}
 use Rattle.gdb_server.specs.session.Programs.{request_answered}
 use Rattle.gdb_server.specs.session.Session.{IsGdbAnswered}
 use Rattle.gdb_server.specs.session.State.{GdbAnswered, GdbState}
@@ -156,30 +156,39 @@ pub acks_gone : (has now : Bool) (asked : GdbRequest) → has ≡ false → now 
 acks_gone has now asked is none = subst (λ (b : Bool). now ≡ acks_after b asked) (sym is) none
 
 -- a packet that was answered, with the answer as it was written
-pub packet_kept : (s : ServerState) (session : GdbState) (acks : Bool) (last begins written : List ℕ) (loads : LoadState) (answer : GdbAnswer)
-    (asked : GdbRequest) (load : List (List ℕ)) → asked ≡ packet_request s.reading.packet → loads ≡ loads_now s → load ≡ loads.kept
-    → acks ≡ acks_after s.has_acks asked → IsGdbAnswered session answer (request_answered s.lacks load s.session asked)
+pub packet_kept : (s : ServerState) (session : GdbState) (acks extended : Bool) (last begins written : List ℕ) (loads : LoadState) (answer : GdbAnswer)
+    (asked : GdbRequest) (load : List (List ℕ)) → asked ≡ request_now s → loads ≡ loads_now s → load ≡ loads.kept
+    → acks ≡ acks_after s.has_acks asked → extended ≡ extends s.is_extended asked → IsGdbAnswered session answer (request_answered s.lacks load s.session asked)
     → last ≡ written → begins ≡ []
     → Appends (Some begins) (Some written) (shown_packets answer.reported.items ++ reply_packet (option_map (λ reply. reply.items) answer.reply))
-    → record s { session = session; has_acks = acks; last = last; loads = loads } ≡ (packet_served s).state
-packet_kept s session acks last begins written loads answer asked load of_packet noted held has reported written_so empty writes =
-    let request : GdbRequest = packet_request s.reading.packet in
+    → record s { session = session; has_acks = acks; is_extended = extended; last = last; loads = loads } ≡ (packet_served s).state
+packet_kept s session acks extended last begins written loads answer asked load of_packet noted held has extends_so reported written_so empty writes =
+    let request : GdbRequest = request_now s in
     let shown : GdbAnswered = request_answered s.lacks (loads_now s).kept s.session request in
     let kept : load ≡ (loads_now s).kept = held ∙ ap (λ (l : LoadState). l.kept) noted in
     let done : IsGdbAnswered session answer shown =
     subst (λ (r : GdbRequest). IsGdbAnswered session answer (request_answered s.lacks (loads_now s).kept s.session r)) of_packet
     (subst (λ (l : List (List ℕ)). IsGdbAnswered session answer (request_answered s.lacks l s.session asked)) kept reported) in
     let acks_now : acks ≡ acks_after s.has_acks request = has ∙ ap (λ (r : GdbRequest). acks_after s.has_acks r) of_packet in
+    let mode : extended ≡ extends s.is_extended request = extends_so ∙ ap (λ (r : GdbRequest). extends s.is_extended r) of_packet in
     let text : last ≡ answer_text shown = written_so ∙ writes
     ∙ ap (λ (x : List ℕ). x ++ (shown_packets answer.reported.items ++ reply_packet (option_map (λ reply. reply.items) answer.reply))) empty
     ∙ ap (λ (x : List ℕ). shown_packets x ++ reply_packet (option_map (λ reply. reply.items) answer.reply)) done.text
     ∙ ap (λ (o : Option (List ℕ)). shown_packets shown.reported ++ reply_packet o) done.reply in
-    ap (λ (g : GdbState). record s { session = g; has_acks = acks; last = last; loads = loads }) done.state
-    ∙ ap (λ (b : Bool). record s { session = shown.state; has_acks = b; last = last; loads = loads }) acks_now
-    ∙ ap (λ (x : List ℕ). record s { session = shown.state; has_acks = acks_after s.has_acks request; last = x; loads = loads }) text
+    ap (λ (g : GdbState). record s { session = g; has_acks = acks; is_extended = extended; last = last; loads = loads }) done.state
+    ∙ ap (λ (b : Bool). record s { session = shown.state; has_acks = b; is_extended = extended; last = last; loads = loads }) acks_now
+    ∙ ap (λ (b : Bool). record s { session = shown.state; has_acks = acks_after s.has_acks request; is_extended = b; last = last; loads = loads }) mode
+    ∙ ap (λ (x : List ℕ). record s {
+      session = shown.state;
+      has_acks = acks_after s.has_acks request;
+      is_extended = extends s.is_extended request;
+      last = x;
+      loads = loads;
+    }) text
     ∙ ap (λ (l : LoadState). record s {
       session = shown.state;
       has_acks = acks_after s.has_acks request;
+      is_extended = extends s.is_extended request;
       last = answer_text shown;
       loads = l;
     }) noted

@@ -12,6 +12,7 @@ server_state s images = record {
   session = gdb_state s.session images;
   reading = s.reader;
   has_acks = s.has_acks;
+  is_extended = s.is_extended;
   last = s.last.items;
   loads = load_state s.loads;
   lacks = s.lacks;

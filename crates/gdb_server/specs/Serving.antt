@@ -8,19 +8,20 @@ use Rattle.gdb_server.specs.session.Programs.{request_answered}
 use Rattle.gdb_server.specs.session.Runs.{stop_asked}
 use Rattle.gdb_server.specs.session.State.{GdbState, GdbAnswered}
 use Rattle.gdb_machine.specs.Loads.{LoadState, after_packet, no_load}
-use Rattle.gdb_packets.specs.Fixed.{is_taken_so, keeps_acks}
+use Rattle.gdb_packets.specs.Fixed.{extends, is_taken_so, keeps_acks, meant_in}
 use Rattle.gdb_packets.specs.Frames.{packet_frame}
 use Rattle.gdb_packets.specs.Reading.{Reading, Taken, reading_start, byte_taken}
 use Rattle.gdb_packets.specs.Requests.{GdbRequest, packet_request}
 use Rattle.gdb_packets.specs.declared.reader.Piece.{Piece}
 use Rattle.gdb_packets.specs.declared.reader.Piece.TheVariants as piece
 
--- the session, the reading, whether each packet is answered by `+` or `-`, the last answer as it was written,
--- what GDB's `load` sent last, and whether a `run` has no program, since a file can't be read
+-- the session, the reading, whether each packet is answered by `+` or `-`, whether the mode is extended, the last answer
+-- as it was written, what GDB's `load` sent last, and whether a `run` has no program, since a file can't be read
 pub record ServerState : Type 0 where
   pub session : GdbState
   pub reading : Reading
   pub has_acks : Bool
+  pub is_extended : Bool
   pub last : List ℕ
   pub loads : LoadState
   pub lacks : Bool
@@ -31,6 +32,7 @@ server_before_bytes session = record {
   session = session;
   reading = reading_start;
   has_acks = true;
+  is_extended = false;
   last = [];
   loads = no_load;
   lacks = false;
@@ -96,15 +98,20 @@ request_served s asked a = record {
   state = record s {
     session = a.state;
     has_acks = acks_after s.has_acks asked;
+    is_extended = extends s.is_extended asked;
     last = answer_text a;
     loads = loads_now s;
   };
   text = ack_text s.has_acks ++ answer_text a;
 }
 
+-- what it asks for in the mode that there is
+abbrev pub request_now : ServerState → GdbRequest
+request_now s = meant_in s.is_extended (packet_request s.reading.packet)
+
 abbrev pub packet_served : ServerState → Served
-packet_served s = request_served s (packet_request s.reading.packet)
-    (request_answered s.lacks (loads_now s).kept s.session (packet_request s.reading.packet))
+packet_served s = request_served s (request_now s)
+    (request_answered s.lacks (loads_now s).kept s.session (request_now s))
 
 abbrev pub spoilt_text : Bool → List ℕ
 spoilt_text true = codes "-"

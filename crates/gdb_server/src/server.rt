@@ -11,7 +11,7 @@ ghost use Rattle.std.specs.Option.{option_map};
 use crate::session::{GdbAnswer, GdbSession};
 use command_shell::RunError;
 use gdb_machine::Loads;
-use gdb_packets::{PacketReader, Piece, is_taken_so, keeps_acks, push_packet, request_of};
+use gdb_packets::{PacketReader, Piece, extends, is_taken_so, keeps_acks, push_packet, request_in};
 use image_loader::Images;
 use profile::text_sink::TextSink;
 use profile::{Sink, WriteFault, push_all};
@@ -28,6 +28,8 @@ pub struct GdbServer {
     session: GdbSession,
     // Whether each packet is answered by `+` or `-`.
     has_acks: bool,
+    // Whether the mode is extended, in which the program can be run again.
+    is_extended: bool,
     // The last answer, as it was written.
     last: Vec<u8>,
     // What GDB's `load` sent last.
@@ -55,6 +57,7 @@ impl GdbServer {
             reader: PacketReader::new(),
             session,
             has_acks: true,
+            is_extended: false,
             last: Vec::new(alloc),
             loads: Loads::new(alloc),
             lacks: false,
@@ -234,7 +237,8 @@ impl GdbServer {
             ≡ (packet_served (server_state self.old images.old)).state) }
         ensures errors { IfErr result IsLineError }
     {
-        let request = request_of(self.reader.packet());
+        let request = request_in(self.is_extended, self.reader.packet());
+        self.is_extended = extends(self.is_extended, &request);
         self.has_acks = self.has_acks && keeps_acks(&request);
         self.loads.note(self.reader.packet(), self.session.pc())?;
         let answer = self

@@ -24,9 +24,7 @@ const ASK: &[u8] = b"Fisatty,0";
 
 impl GdbSession {
     ghost use Rattle.image_loader.specs.Entries.{Entry};
-    ghost use Rattle.gdb_server.specs.session.Runs.{asking, first_slice_shown, gdb_step_shown, gdb_stop_shown};
-    ghost use Rattle.gdb_server.specs.session.Runs.{has_break_due, slice_shown, stands_at_break};
-    ghost use Rattle.gdb_server.specs.session.Runs.{stop_asked, stop_shown_with};
+    ghost use Rattle.gdb_server.specs.session.Runs.{asking, first_slice_shown, gdb_step_shown, gdb_stop_shown, has_break_due, slice_shown, stands_at_break, stop_asked, stop_shown_with};
     ghost use Rattle.gdb_server.specs.session.Session.{gdb_state, IsGdbAnswered};
 
     /// The steps of the first slice, unless GDB has to be told of other modules first, or of a break.
