@@ -15,8 +15,9 @@ use Rattle.debug_modes.specs.declared.modes.DebugModes.{DebugModes}
 use Rattle.debug_modes.specs.expectations.Why.{why_text}
 use Rattle.debug_tables.specs.byte_writes.Put.{script_after_put}
 use Rattle.debug_modules.specs.Entering.{module_code_entered}
+use Rattle.debug_modules.specs.Listing.{commands_text}
 use Rattle.debug_modules.specs.Plans.{command_plan, tail_address, tail_bytes}
-use Rattle.debug_modules.specs.Requests.{Command, Form, ModuleAsked, Service, module_request}
+use Rattle.debug_modules.specs.Requests.{Command, Commands, Form, ModuleAsked, ModuleView, Needs, Service, module_request}
 use Rattle.debug_modules.specs.Services.{is_served, service_called}
 use Rattle.debug_modules.specs.Taking.{LineSteps}
 use Rattle.debug_modules.specs.declared.answering.ModuleAnswer.{ModuleAnswer}
@@ -101,13 +102,18 @@ service_answered m labels budget s p number service title =
 
 -- ALL LINES
 
+-- what is only shown
+abbrev pub view_shown : MachineState → ModuleView → List ℕ
+view_shown s (Needs text) = text ++ codes "\n"
+view_shown s Commands = commands_text s
+
 abbrev pub module_answered : DebugModes → List ImageLabels → ℕ → ScriptState → PastState → ℕ → ModuleAsked
     → ModuleAnswered
 module_answered m labels budget s p number (Command name tail) =
     command_answered m labels budget s p number name tail
 module_answered m labels budget s p number (Service service title) =
     service_answered m labels budget s p number service title
-module_answered m labels budget s p number (Form text) = only_shown m s p (text ++ codes "\n")
+module_answered m labels budget s p number (Form view) = only_shown m s p (view_shown s.machine view)
 
 -- what such a line is answered, and nothing of any other
 abbrev pub module_line_answered : DebugModes → List ImageLabels → ℕ → ScriptState → PastState → ℕ → List ℕ

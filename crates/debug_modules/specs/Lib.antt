@@ -2,6 +2,7 @@
 pub mod Answers
 pub mod Commands
 pub mod Entering
+pub mod Listing
 pub mod Plans
 pub mod Requests
 pub mod Services

@@ -8,19 +8,25 @@ use Rattle.command_shell_lines.specs.debug_words.Texts.{front_before, text_behin
 use Rattle.debug_modules.specs.declared.requests.ModuleRequest.{ModuleRequest}
 use Rattle.debug_modules.specs.declared.requests.ModuleRequest.TheVariants as line
 
+-- what is only shown: what a line needs, or the commands of all modules
+pub data ModuleView : Type 0 where
+  Needs : List ℕ → ModuleView
+  Commands : ModuleView
+
 pub data ModuleAsked : Type 0 where
   -- a command's name, and what stands behind it
   Command : List ℕ → List ℕ → ModuleAsked
   -- a service call's number, and a title, which is empty for all modules
   Service : ℕ → List ℕ → ModuleAsked
-  -- what a line needs
-  Form : List ℕ → ModuleAsked
+  -- nothing but a text
+  Form : ModuleView → ModuleAsked
 
 -- the lines that the code tells apart, as what they ask for
 abbrev pub module_request_of : ModuleRequest → ModuleAsked
 module_request_of (line.Command name tail) = Command name.now tail.now
 module_request_of (line.Service service title) = Service service title.now
-module_request_of (line.Form text) = Form text.now
+module_request_of line.Commands = Form Commands
+module_request_of (line.Form text) = Form (Needs text.now)
 
 -- the word before the first space (32), and what stands behind that
 abbrev pub behind_place : Option ℕ → List ℕ → List ℕ
@@ -42,19 +48,21 @@ abbrev pub service_request : List ℕ → Option ModuleAsked
 service_request text =
     option_map (λ service. Service service (text_behind_word text)) (script_number (word_in_front text))
 
--- `HELP COMMAND`, `HELP SERVICE`
-abbrev pub help_request : List ℕ → Option ModuleAsked
-help_request line =
-    if is_same_word line (codes "HELP COMMAND") then Some (Form
-    (codes "COMMAND wants a module's command, with what stands behind it, as COMMAND PotSet 1 5")) else (
-    if is_same_word line (codes "HELP SERVICE") then Some (Form
-    (codes "SERVICE wants a number, and may have a module's title, as SERVICE &27 Pots")) else
-    None)
+-- `COMMANDS`, `HELP COMMANDS`, `HELP COMMAND`, `HELP SERVICE`
+abbrev pub whole_request : List ℕ → Option ModuleAsked
+whole_request line =
+    if is_same_word line (codes "COMMANDS") then Some (Form Commands) else (
+    if is_same_word line (codes "HELP COMMANDS") then Some (Form (Needs (codes "COMMANDS stands alone"))) else (
+    if is_same_word line (codes "HELP COMMAND") then Some (Form (Needs
+    (codes "COMMAND wants a module's command, with what stands behind it, as COMMAND PotSet 1 5"))) else (
+    if is_same_word line (codes "HELP SERVICE") then Some (Form (Needs
+    (codes "SERVICE wants a number, and may have a module's title, as SERVICE &27 Pots"))) else
+    None)))
 
 -- what a tidy line asks for, if it has to do with the code of modules
 abbrev pub service_asked : List ℕ → Option (List ℕ) → Option ModuleAsked
 service_asked line (Some text) = service_request text
-service_asked line None = help_request line
+service_asked line None = whole_request line
 
 abbrev pub command_asked : List ℕ → Option (List ℕ) → Option ModuleAsked
 command_asked line (Some text) = Some (command_request text)

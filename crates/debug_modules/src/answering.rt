@@ -7,6 +7,7 @@ ghost use Rattle.debug_modules.specs.Answers.{IsModuleAnswered, command_answered
 ghost use Rattle.debug_modules.specs.Taking.{HasLineSteps};
 
 use crate::entering::{ModuleEntry, enter_code};
+use crate::listing::commands_text;
 use crate::plans::{CommandPlan, TAIL, command_plan, tail_bytes};
 use crate::requests::{ModuleRequest, module_request};
 use crate::services::{call_service, is_served};
@@ -70,6 +71,10 @@ pub fn answer_module_line(
                 alloc, budget, session, modes, past, images, labels, number, service, title,
             )?;
             Ok(Some(answer))
+        }
+        Some(ModuleRequest::Commands) => {
+            let text = commands_text(alloc, session.machine())?;
+            Ok(Some(ModuleAnswer::Shown(text)))
         }
         Some(ModuleRequest::Form(text)) => {
             Ok(Some(ModuleAnswer::Shown(form_line(alloc, text)?)))

@@ -7,6 +7,7 @@
 mod answering;
 mod commands;
 mod entering;
+mod listing;
 mod plans;
 mod requests;
 mod services;

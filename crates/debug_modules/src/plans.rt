@@ -1,6 +1,6 @@
 //! What a line COMMAND is to do, before anything is done.
 
-ghost use Rattle.std.specs.Prelude.{◌≡◌, ◌++◌, ◌≤◌, codes, length, map, false, IfOk};
+ghost use Rattle.std.specs.Prelude.{◌≡◌, ◌++◌, ◌≤◌, codes, length, map, false, IfOk, OnOk};
 ghost use Rattle.address_map.specs.Memory.{bytes_of};
 ghost use Rattle.command_shell.specs.Answers.{refused_text};
 ghost use Rattle.command_shell.specs.GuestState.{state_of};
@@ -156,11 +156,23 @@ fn syntax_line(alloc: Global, text: &[u8]) -> Result<Vec<u8>, AllocError>
     ensures { IfOk result (λ line. line.items ≡ syntax_line text.now) }
 {
     let mut line = Vec::from_slice(alloc, b"error 220 &DC ")?;
+    push_shown(&mut line, text)?;
+    line.push(b'\n')?;
+    Ok(line)
+}
+
+/// Puts a text behind another, each byte as a character.
+///
+/// # Errors
+///
+/// Memory ran out.
+pub(crate) fn push_shown(line: &mut Vec<u8>, text: &[u8]) -> Result<(), AllocError>
+    ensures { OnOk result (line.new.items ≡ line.old.items ++ map shown_character text.now) }
+{
     for byte in text {
         line.push(shown_character(*byte))?;
     }
-    line.push(b'\n')?;
-    Ok(line)
+    Ok(())
 }
 
 // The text on a command's syntax, empty where the table has none.

@@ -3,7 +3,7 @@
 ghost use Rattle.std.specs.Prelude.{◌≡◌, ◌==◌};
 ghost use Rattle.std.specs.List.{position};
 ghost use Rattle.std.specs.Option.{option_map};
-ghost use Rattle.debug_modules.specs.Requests.{command_request, help_request, module_request, module_request_of, service_request, text_behind_word, word_in_front};
+ghost use Rattle.debug_modules.specs.Requests.{command_request, module_request, module_request_of, service_request, text_behind_word, whole_request, word_in_front};
 
 use command_shell_lines::debug_words::text_behind;
 use command_shell_lines::number_of;
@@ -16,6 +16,8 @@ pub enum ModuleRequest<'a> {
     /// `SERVICE n`, `SERVICE n Title`: the service call of that number, to the module of a title or, where that is
     /// empty, to all.
     Service(u32, &'a [u8]),
+    /// `COMMANDS`: the commands of all modules.
+    Commands,
     /// `HELP COMMAND`, `HELP SERVICE`: what such a line needs.
     Form(&'a [u8]),
 }
@@ -28,15 +30,20 @@ pub fn module_request(line: &[u8]) -> Option<ModuleRequest<'_>>
         Some(text) => Some(command_request(text)),
         None => match text_behind(b"SERVICE ", line) {
             Some(text) => service_request(text),
-            None => help_request(line),
+            None => whole_request(line),
         },
     }
 }
 
-fn help_request(line: &[u8]) -> Option<ModuleRequest<'static>>
-    ensures { option_map module_request_of result ≡ help_request line.now }
+// Lines of just these words.
+fn whole_request(line: &[u8]) -> Option<ModuleRequest<'static>>
+    ensures { option_map module_request_of result ≡ whole_request line.now }
 {
-    if line.eq_ignore_ascii_case(b"HELP COMMAND") {
+    if line.eq_ignore_ascii_case(b"COMMANDS") {
+        Some(ModuleRequest::Commands)
+    } else if line.eq_ignore_ascii_case(b"HELP COMMANDS") {
+        Some(ModuleRequest::Form(b"COMMANDS stands alone"))
+    } else if line.eq_ignore_ascii_case(b"HELP COMMAND") {
         Some(ModuleRequest::Form(
             b"COMMAND wants a module's command, with what stands behind it, as COMMAND PotSet 1 5",
         ))
