@@ -25,7 +25,7 @@ use Rattle.debug_runs.specs.TraceWriter.{is_step_shown}
 use Rattle.debug_runs.specs.declared.basic_blocks.BasicBlock.{BasicBlock}
 use Rattle.debug_runs.specs.declared.running.RunEnd.{RunEnd}
 use Rattle.debug_runs.specs.declared.running.RunGoal.{RunGoal}
-use Rattle.debug_runs.proofs.PlainLemmas.{and_true}
+use Rattle.std.proofs.Math.Bool.{and-true}
 use Rattle.debug_runs.proofs.BlockStepLemmas.{behind_inner, behind_last}
 use Rattle.debug_runs.proofs.BlockRunLemmas.{IsCalmFor, behind_behind, block_behind}
 
@@ -110,7 +110,7 @@ none_more modes labels g reported stays c most left n s mid now t u none untold 
 pub none_taken : (g : RunGoal) (c : BasicBlock) (s : ScriptState) → s.machine.halt ≡ None → IsAfterBlock g c s s 0
 unfolding AreCoreSteps
 none_taken g c s unhalted =
-    let fresh : s.is_fresh ≡ (s.is_fresh && (0 == 0)) = and_true s.is_fresh in
+    let fresh : s.is_fresh ≡ (s.is_fresh && (0 == 0)) = sym (and-true s.is_fresh) in
     let left : s.left ≡ s.left - 0 = omega arith in
     record {
       stops = s.breaks;

@@ -25,7 +25,7 @@ use Rattle.debug_runs.specs.declared.running.RunGoal.{RunGoal}
 use Rattle.debug_runs.proofs.CoreStepLemmas.{real_step, step_leads}
 use Rattle.debug_runs.proofs.PlaceLemmas.{places_by}
 use Rattle.debug_runs.proofs.PlaceLemmas as place
-use Rattle.debug_runs.proofs.PlainLemmas.{and_true}
+use Rattle.std.proofs.Math.Bool.{and-true}
 use Rattle.debug_runs.proofs.RunLemmas.{first_of_left}
 use Rattle.debug_runs.proofs.SilentLemmas.{Covers, IsSilent, elsewhere, first_silent, is_silent, made_last, made_one, no_end, rested, silent_step, stays_untold}
 use Rattle.debug_runs.proofs.BlockStepLemmas.{IsOn, no_hit, calm_end, stepped, unreached}
@@ -235,7 +235,7 @@ block_by modes labels g reported stays c most zero s now t untold few unhalted c
     let silent : IsSilent (ran s.images after.stops 0 s.machine) now.machine 0 after.ends =
     subst (λ (q : Run). IsSilent q now.machine 0 after.ends) (sym after.run) (is_silent now.machine 0 after.ends) in
     let same : s.machine ≡ now.machine = rested s.images after.stops s.machine now.machine after.ends unhalted silent in
-    let fresh : s.is_fresh ≡ (s.is_fresh && (0 == 0)) = and_true s.is_fresh in
+    let fresh : s.is_fresh ≡ (s.is_fresh && (0 == 0)) = sym (and-true s.is_fresh) in
     let left : s.left ≡ s.left - 0 = omega arith in
     let start : s ≡ script_after_silent s now.machine 0 = λ i. record s { machine = same i; is_fresh = fresh i; left = left i } in
     let whole : s ≡ now = start ∙ sym after.state in

@@ -17,7 +17,7 @@ use Rattle.arm_core.specs.declared.breaks.breaks.BreakError.{BreakError}
 use Rattle.arm_core.specs.declared.breaks.breaks.BreakError.TheVariants as error
 use Rattle.command_shell.specs.State.{ScriptState}
 use Rattle.command_shell.specs.Stepping.{IsAfterSilentSteps, script_after_silent, script_with_break, script_without_break}
-use Rattle.debug_runs.proofs.PlainLemmas.{and_true}
+use Rattle.std.proofs.Math.Bool.{and-true}
 use Rattle.debug_runs.specs.Silent.{IsAfterSilentUpTo}
 
 -- AMONG BREAKS
@@ -137,7 +137,7 @@ pub none_up_to : (address : ℕ) (s now : ScriptState) → s.machine.halt ≡ No
 unfolding AreCoreSteps
 none_up_to address s now unhalted back =
     let same : now.machine ≡ s.machine = ap (λ (w : ScriptState). w.machine) back in
-    let fresh : s.is_fresh ≡ (s.is_fresh && (0 == 0)) = and_true s.is_fresh in
+    let fresh : s.is_fresh ≡ (s.is_fresh && (0 == 0)) = sym (and-true s.is_fresh) in
     let left : s.left ≡ s.left - 0 = omega arith in
     let there : s.machine ≡ now.machine = sym same in
     let start : s ≡ script_after_silent s now.machine 0 = λ i. record s { machine = there i; is_fresh = fresh i; left = left i } in

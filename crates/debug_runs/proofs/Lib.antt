@@ -3,6 +3,7 @@ pub mod BlockRunLemmas
 pub mod BlockStepLemmas
 pub mod BreakLemmas
 pub mod CoreStepLemmas
+pub mod HeapListedLemmas
 pub mod LastLemmas
 pub mod LineLemmas
 pub mod PlaceLemmas

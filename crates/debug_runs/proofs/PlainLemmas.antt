@@ -1,4 +1,5 @@
 -- With no stub and no watch, untraced lines are those of a script.
+use Rattle.std.proofs.Math.Bool.{and-true}
 use Rattle.std.proofs.Common.{◌≡◌, ℕ, zero, suc, ◌+◌, ◌-◌, ◌==◌, ◌&&◌, ◌++◌, Bool, true, false, List, [], ◌∷◌, Option, Some, None, if◌then◌else◌, ap, append_assoc, arith, refl, subst, sym, ◌∙◌, length}
 use Rattle.std.proofs.lemmas.Bool.{and_parts, eqb-true}
 use Rattle.std.proofs.lemmas.Bool.Decides.{nat_tests}
@@ -55,10 +56,6 @@ pub plain_step : (s : ScriptState) → next_step no_modes s ≡ machine_step s.i
 plain_step s = real_steps [] s.images s.machine (no_stub s.machine)
 
 -- RUN AND STEP
-
-pub and_true : (b : Bool) → b ≡ (b && true)
-and_true true = refl
-and_true false = refl
 
 pub stale : (b : Bool) (n : ℕ) → false ≡ (b && (suc n == 0))
 stale true n = grind (arith, nat_tests)
@@ -125,7 +122,7 @@ unfolding steps_run end_after
 is_ran labels zero s unhalted =
     let left : s.left ≡ s.left - 0 = omega arith in
     subst (λ (q : Run). IsRan s 0 (run_ended s (end.Stopped stop.Budget)) q) (sym (ran-none s.images s.breaks s.machine unhalted))
-    (record { now = λ i. record s { is_fresh = and_true s.is_fresh i; left = left i }; text = refl; ended = refl })
+    (record { now = λ i. record s { is_fresh = sym (and-true s.is_fresh) i; left = left i }; text = refl; ended = refl })
 is_ran labels (suc n) s unhalted =
     let o = machine_step s.images s.machine in
     let after = step_made s o in
@@ -167,7 +164,7 @@ steps_by labels s could_all zero None none unhalted =
     let left : s.left ≡ s.left - 0 = omega arith in
     subst (λ (q : Run). IsScriptAnswer (line.answer_unless None s (kind.Steps could_all) (steps_run no_modes labels goal.Nowhere 0 None s) (Some stop.Budget)) (steps_answer s could_all 0 q))
     (sym (ran-none s.images s.breaks s.machine none))
-    (record { state = λ i. record s { is_fresh = and_true s.is_fresh i; left = left i; last = Some stop.Budget }; text = refl })
+    (record { state = λ i. record s { is_fresh = sym (and-true s.is_fresh) i; left = left i; last = Some stop.Budget }; text = refl })
 steps_by labels s could_all (suc n) None none unhalted =
     let r = steps_run no_modes labels goal.Nowhere (suc n) None s in
     subst (λ (x : Option Stop). IsScriptAnswer (line.answer_unless None s (kind.Steps could_all) r x) (steps_answer s could_all (suc n) (script_run s (suc n))))

@@ -1,4 +1,5 @@
 -- What the machine's own run takes of a run at whose steps nothing looks.
+use Rattle.std.proofs.Math.Bool.{and-true}
 use Rattle.std.proofs.Common.{◌≡◌, ◌≤◌, ◌<◌, ℕ, zero, suc, ◌+◌, ◌-◌, ◌==◌, ◌&&◌, ◌++◌, ◌⊎◌, inl, inr, Bool, true, false, not, List, [], ◌∷◌, Option, Some, None, if◌then◌else◌, ap, arith, length, refl, subst, sym, ◌∙◌}
 use Rattle.std.proofs.lemmas.Bool.{and_parts, eqb-true, ltb-true, ne_eqb}
 use Rattle.std.proofs.lemmas.Bool.Decides.{nat_tests}
@@ -31,7 +32,7 @@ use Rattle.debug_runs.specs.declared.running.RunGoal.{RunGoal}
 use Rattle.debug_runs.specs.declared.running.RunGoal.TheVariants as goal
 use Rattle.debug_tables.specs.declared.modes.StepModes.{StepModes}
 use Rattle.debug_runs.proofs.CoreStepLemmas.{real_step, step_leads, with_stubs}
-use Rattle.debug_runs.proofs.PlainLemmas.{and_true, empty, ran_first, stale}
+use Rattle.debug_runs.proofs.PlainLemmas.{empty, ran_first, stale}
 use Rattle.debug_runs.specs.Reported.{IsAfterStepping}
 use Rattle.debug_runs.specs.declared.writer.TraceWriter.{TraceWriter}
 use Rattle.debug_runs.proofs.RunLemmas.{IsRest, first_step_of, rest_ends}
@@ -259,7 +260,7 @@ stubbed_run : (stubs : List Stub) (labels : List ImageLabels) (g : RunGoal) (rep
     → GoesOnAfter labels g reported most n s now (with_stubs stubs)
 stubbed_run stubs labels g reported stops P most zero s now x untold few unhalted still covers short holds steps is state =
     let same : s.machine ≡ now.machine = rested s.images stops s.machine now.machine x unhalted is in
-    let fresh : s.is_fresh ≡ (s.is_fresh && (0 == 0)) = and_true s.is_fresh in
+    let fresh : s.is_fresh ≡ (s.is_fresh && (0 == 0)) = sym (and-true s.is_fresh) in
     let left : s.left ≡ s.left - 0 = omega arith in
     let all : most ≡ most - 0 = omega arith in
     let start : s ≡ script_after_silent s now.machine 0 = λ i. record s { machine = same i; is_fresh = fresh i; left = left i } in

@@ -7,7 +7,7 @@ use Rattle.debug_labels.specs.Labels.{ImageLabels}
 use Rattle.command_shell.specs.Calls.{step_made}
 use Rattle.command_shell.specs.State.{ScriptState}
 use Rattle.trace_text.specs.Below.{prints_word}
-use Rattle.trace_text.specs.Columns.{below_text}
+use Rattle.trace_effects.specs.Columns.{below_text}
 use Rattle.debug_runs.specs.Runs.{SteppingRun, end_after, next_step, steps_run}
 use Rattle.debug_runs.specs.TraceWriter.{whole_step_text}
 use Rattle.debug_runs.specs.declared.running.RunEnd.{RunEnd}

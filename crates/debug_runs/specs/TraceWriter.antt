@@ -12,7 +12,7 @@ use Rattle.trace_effects.specs.changes.Status.{following_word}
 use Rattle.trace_effects.specs.Cause.{cause_of}
 use Rattle.trace_effects.specs.declared.cause.Cause.{Cause}
 use Rattle.trace_text.specs.Below.{prints_word}
-use Rattle.trace_text.specs.Columns.{below_text, columns_text}
+use Rattle.trace_effects.specs.Columns.{below_text, columns_text}
 use Rattle.trace_text.specs.Core.{core_words}
 use Rattle.trace_text.specs.Instruction.{branch_destination, front_text, what_text}
 use Rattle.trace_text.specs.Step.{known_outside, step_end_text, step_text}

@@ -14,8 +14,8 @@ use profile::{Sink, WriteFault, push_all};
 use std::alloc::Global;
 use trace_effects::Cause;
 use trace_effects::changes::following_word;
+use trace_effects::columns::push_line;
 use trace_effects::word_text::{push_stored_below, push_stored_here};
-use trace_text::columns::push_line;
 use trace_text::core_text::push_core;
 use trace_text::instruction::{push_front, text_of};
 

@@ -19,6 +19,7 @@ use command_shell::{Machine, OutsideCall, Session};
 use debug_tables::StubDeed;
 use image_loader::Images;
 use itoa::Buffer;
+use law_machine::other_bytes::laws::other_bytes_stay;
 use profile::text_sink::TextSink;
 use profile::{Sink, WriteFault, push_all, push_parts};
 use std::alloc::Global;
@@ -188,17 +189,15 @@ impl TraceWriter {
     {
         let alloc = self.alloc;
         let scratch = self.scratch.take();
-        let label = label_ahead(context.labels, session.machine());
-        let start = StepStart::print_step(
-            alloc,
-            session.machine(),
-            label,
-            scratch,
-            &mut self.text,
-        )?;
+        let machine = session.machine();
+        machine.known();
+        let label = label_ahead(context.labels, machine);
+        let start = StepStart::print_step(alloc, machine, label, scratch, &mut self.text)?;
         let mut printed = TextSink::new(alloc);
         session.take_step(context.images, &mut printed)?;
-        start.print_end(alloc, session.machine(), printed.bytes(), &mut self.text)?;
+        session.machine().known();
+        other_bytes_stay();
+        start.print_taken(alloc, session.machine(), printed.bytes(), &mut self.text)?;
         self.scratch = start.into_scratch();
         push_all(&mut self.printed, printed.bytes())
     }

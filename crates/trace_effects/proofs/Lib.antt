@@ -1,5 +1,5 @@
 pub mod ChangesLemmas
-pub mod StoreWordsLemmas
+pub mod EffectLemmas
 pub mod ShownWordsLemmas
 pub mod ShownRegistersLemmas
 pub mod RecordTextLemmas

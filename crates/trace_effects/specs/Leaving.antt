@@ -55,3 +55,16 @@ named_call_leaves r0 (Some other) = false
 -- by its number without the X bit
 abbrev pub call_leaves : ℕ → ℕ → Bool
 call_leaves r0 number = named_call_leaves r0 (swi_of number)
+
+-- Of which calls that is known where they write: OS_Heap writes in the heap that it is called on, words that its list spells
+-- before the call or after it, but where it moves a block, which reason 4 may.
+abbrev pub moves_no_block : Option HeapReason → Bool
+moves_no_block (Some heap.Resize) = false
+moves_no_block other = true
+
+abbrev pub named_call_stays : ℕ → Option SwiName → Bool
+named_call_stays r0 (Some swi.Heap) = moves_no_block (heap_reason r0)
+named_call_stays r0 other = false
+
+abbrev pub stays_in_heap : ℕ → ℕ → Bool
+stays_in_heap r0 number = named_call_stays r0 (swi_of number)

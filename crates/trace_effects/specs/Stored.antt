@@ -1,7 +1,7 @@
 -- The words that an instruction stores to (ARM2 data sheet, "Single data transfer" and "Block data
 -- transfer"): STR the word that its address lies in, STRB a byte of that word, STM one word for each
 -- register of its list.
-use Rattle.std.specs.Prelude.{ℕ, Result, Ok, Err, if◌then◌else◌}
+use Rattle.std.specs.Prelude.{Result, Ok, Err, if◌then◌else◌}
 use Rattle.profile.specs.declared.fault.Fault.{Fault}
 use Rattle.address_map.specs.Bytes.{word_start}
 use Rattle.arm_decode.specs.Decoded.{instruction_of_word}

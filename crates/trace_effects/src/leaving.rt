@@ -1,7 +1,7 @@
 //! Which store calls leave the machine's store as it is.
 
 ghost use Rattle.std.specs.Prelude.{◌≡◌};
-ghost use Rattle.trace_effects.specs.Leaving.{area_asks, call_leaves, heap_asks, module_asks};
+ghost use Rattle.trace_effects.specs.Leaving.{area_asks, call_leaves, heap_asks, module_asks, moves_no_block, stays_in_heap};
 
 use profile::{AreaReason, HeapReason, ModuleReason, SwiName};
 
@@ -51,4 +51,20 @@ fn module_asks(reason: Option<ModuleReason>) -> bool
         reason,
         None | Some(ModuleReason::DescribeArea | ModuleReason::Info | ModuleReason::Lookup)
     )
+}
+
+/// Whether a store call writes only words that the list of its heap spells; by the same.
+pub fn stays_in_heap(r0: u32, number: u32) -> bool
+    ensures value { result ≡ stays_in_heap r0 number }
+{
+    match SwiName::of(number) {
+        Some(SwiName::Heap) => moves_no_block(HeapReason::of(r0)),
+        _ => false,
+    }
+}
+
+fn moves_no_block(reason: Option<HeapReason>) -> bool
+    ensures { result ≡ moves_no_block reason }
+{
+    !matches!(reason, Some(HeapReason::Resize))
 }

@@ -6,18 +6,19 @@
 
 pub mod cause;
 pub mod changes;
+pub mod columns;
 pub mod effects;
 pub mod leaving;
 pub mod loaded;
+pub mod outside;
 pub mod record_text;
 pub mod shown_registers;
 pub mod shown_words;
-pub mod store_words;
 pub mod stored;
 pub mod word_text;
 
 pub use cause::{Cause, called_swi};
 pub use effects::{Effects, effects_of};
-pub use leaving::call_leaves;
+pub use leaving::{call_leaves, stays_in_heap};
 pub use loaded::loaded_words;
 pub use stored::{StoredWords, stored_words};

@@ -23,7 +23,7 @@ use Rattle.trace_moments.specs.law_trace.Laws.{PlainStepsStore, StoresWords, is_
 use Rattle.trace_moments.proofs.StoredLemmas.{renewed_after}
 use Rattle.trace_moments.specs.CoreFields.{AreCoreChanges, ShowsCore, core_fields}
 use Rattle.trace_effects.specs.shown_words.Replay.{words_after}
-use Rattle.trace_effects.specs.store_words.Copies.{kept_in}
+use Rattle.store_copies.specs.Copies.{kept_in}
 use Rattle.trace_json.specs.Moments.{ChangesKept, ChangesListed, IsKeptBefore, IsCopy, KeepsMemory, ShowsChanges, expected_at, is_copied, step_place, words_of}
 use Rattle.trace_moments.specs.WordFields.{AreWordChanges, ShowsWords, word_fields}
 use Rattle.trace_json.specs.declared.before.MemoryBefore.{MemoryBefore}

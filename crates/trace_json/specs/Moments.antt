@@ -9,7 +9,7 @@ use Rattle.trace_effects.specs.changes.Laws.{CoreChanges}
 use Rattle.trace_effects.specs.declared.cause.Cause.{Cause}
 use Rattle.trace_effects.specs.declared.record_text.text.RecordText.{RecordText}
 use Rattle.trace_effects.specs.declared.shown_words.words.ShownWord.{ShownWord}
-use Rattle.trace_effects.specs.store_words.Copies.{kept_in}
+use Rattle.store_copies.specs.Copies.{kept_in}
 use Rattle.trace_moments.specs.Stored.{AreListed, is_listed}
 use Rattle.trace_moments.specs.CoreFields.{AreCoreChanges, core_fields}
 use Rattle.trace_moments.specs.Fields.{HasMore}

@@ -4,7 +4,7 @@ ghost use Rattle.std.specs.Prelude.{◌≡◌, codes, IfOk, OnOk};
 ghost use Rattle.address_map.specs.Bytes.{word_at};
 ghost use Rattle.swi_dispatch.specs.GuestState.{state_of};
 ghost use Rattle.swi_dispatch.specs.MachineState.{MachineState};
-ghost use Rattle.trace_effects.specs.store_words.Copies.{kept_in};
+ghost use Rattle.store_copies.specs.Copies.{kept_in};
 ghost use Rattle.trace_json.specs.Moments.{IsCopy, ShowsChanges, words_of};
 ghost use Rattle.trace_moments.specs.WordFields.{ShowsWords};
 
@@ -17,7 +17,7 @@ use swi_dispatch::Machine;
 use trace_effects::record_text::RecordText;
 use trace_effects::shown_registers::WrittenRegisters;
 use trace_effects::shown_words::changed_words;
-use trace_effects::store_words::StoreCopy;
+use store_copies::StoreCopy;
 use trace_moments::{
     ShownAreas, changed_areas, changed_modules, push_core_changes, push_words, shown_areas,
 };

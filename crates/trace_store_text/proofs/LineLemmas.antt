@@ -3,9 +3,9 @@ use Rattle.std.proofs.Common.{◌≡◌, ℕ, Bool, List, [], ◌++◌, refl, sy
 use Rattle.std.proofs.lemmas.List.{append-nil}
 use Rattle.address_map.specs.Bytes.{Bytes}
 use Rattle.os_heap.specs.Store.{Store}
-use Rattle.trace_effects.specs.declared.store_words.changes.WordChange.{WordChange}
-use Rattle.trace_effects.specs.declared.store_words.changes.WordChanges.{WordChanges}
-use Rattle.trace_effects.specs.store_words.Words.{IsSummary, all_changes, is_shown_elsewhere}
+use Rattle.store_copies.specs.declared.changes.WordChange.{WordChange}
+use Rattle.store_copies.specs.declared.changes.WordChanges.{WordChanges}
+use Rattle.store_copies.specs.Words.{IsSummary, all_changes, is_shown_elsewhere}
 use Rattle.trace_store_text.specs.items.Changes.{IsItemSummary}
 use Rattle.trace_store_text.specs.declared.items.changes.ItemChange.{ItemChange}
 use Rattle.trace_store_text.specs.declared.items.changes.ItemChanges.{ItemChanges}

@@ -2,7 +2,8 @@
 pub use Rattle.debugger.specs.Memory
 pub use Rattle.debugger.specs.Registers
 pub use Rattle.debugger.specs.views
-pub use Rattle.trace_effects.specs.store_words.Copies
+pub use Rattle.store_copies.specs.Copies
+pub use Rattle.store_copies.specs.Words
 pub mod FlexLines
 pub mod FrameWords
 pub mod HeapLines

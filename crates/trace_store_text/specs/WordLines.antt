@@ -4,8 +4,8 @@ use Rattle.std.specs.Prelude.{ℕ, ◌-◌, ◌==◌, List, [], ◌++◌, codes,
 use Rattle.std.specs.Fmt.{decimal}
 use Rattle.std.specs.List.{flat_map}
 use Rattle.profile.specs.Digits.{hex_word}
-use Rattle.trace_effects.specs.declared.store_words.changes.WordChange.{WordChange}
-use Rattle.trace_effects.specs.declared.store_words.changes.WordChanges.{WordChanges}
+use Rattle.store_copies.specs.declared.changes.WordChange.{WordChange}
+use Rattle.store_copies.specs.declared.changes.WordChanges.{WordChanges}
 
 -- `[01C02000]=01800064 was 00000000`
 unfoldable pub word_line : WordChange → List ℕ

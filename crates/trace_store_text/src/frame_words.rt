@@ -10,7 +10,7 @@ use crate::modules::{InstanceMark, marks_of};
 use debugger::{CodeKind, Frame, FrameKind};
 use itoa::Buffer;
 use profile::{HexText, Sink, WriteFault, push_all, push_parts};
-use trace_effects::store_words::Instances;
+use store_copies::Instances;
 
 /// Writes ` leaves frame 1 SWI &40000 Low%Base`, where a step leaves the innermost of so many frames;
 /// the modules are those before it.

@@ -3,4 +3,4 @@
 
 pub mod limits;
 
-pub use limits::{HeapLimits, limits_of};
+pub use limits::{HeapLimits, heap_pages, limits_of};

@@ -18,5 +18,6 @@ pub mod word_lines;
 
 pub use debugger::views::{push_banked_name, push_quoted};
 pub use debugger::{Frame, Machine, mode_name, without_x_bit};
-pub use store_lines::push_store_lines;
-pub use trace_effects::store_words::StoreCopy;
+pub use heaps::heap_pages;
+pub use store_copies::{PageRange, StoreCopy};
+pub use store_lines::push_store_lines_in;

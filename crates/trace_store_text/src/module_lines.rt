@@ -8,7 +8,7 @@ ghost use Rattle.trace_store_text.specs.ModuleLines.{gone_instance_line, gone_in
 use crate::modules::{InstanceMark, has_same, is_preferred_anew, marks_of, old_address};
 use itoa::Buffer;
 use profile::{HexText, Sink, WriteFault, push_parts};
-use trace_effects::store_words::Instances;
+use store_copies::Instances;
 
 /// Writes a line for each instance of a module that is gone, new or moved, and for each that is
 /// preferred in place of another.

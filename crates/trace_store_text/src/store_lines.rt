@@ -3,7 +3,8 @@
 ghost use Rattle.std.specs.Prelude.{◌≡◌};
 ghost use Rattle.profile.specs.Output.{Writes};
 ghost use Rattle.debugger.specs.GuestState.{state_of};
-ghost use Rattle.trace_effects.specs.store_words.Copies.{kept_in, kept_of};
+ghost use Rattle.store_copies.specs.Copies.{kept_in, kept_of};
+ghost use Rattle.store_copies.specs.Words.{AreListedWithin, is_shown_elsewhere};
 ghost use Rattle.trace_store_text.specs.FlexLines.{flex_lines};
 ghost use Rattle.trace_store_text.specs.HeapLines.{heap_lines};
 ghost use Rattle.trace_store_text.specs.ImageLines.{image_lines};
@@ -17,16 +18,19 @@ use crate::module_lines::push_modules;
 use crate::word_lines::push_words;
 use debugger::Machine;
 use profile::{Sink, WriteFault};
-use trace_effects::store_words::{StoreCopy, changed_words};
+use store_copies::{PageRange, StoreCopy, changed_words_in};
 
-/// Writes a line for each thing that differs from the store as it was before a call.
+/// Writes a line for each thing that differs from the store before a call, whose words lie in some pages.
 #[tactic(auto, unfolding(crate::specs::StoreLines::store_lines))]
-pub fn push_store_lines<W: Sink>(
+pub fn push_store_lines_in<W: Sink>(
     sink: &mut W,
     before: &StoreCopy,
     machine: &Machine,
     has_error: bool,
+    pages: PageRange,
 ) -> Result<(), WriteFault>
+    requires { AreListedWithin (is_shown_elsewhere has_error) (kept_in before.now).store.bytes
+        (state_of machine.now.guest).store.bytes pages }
     ensures writes { Writes W.contents W.has_failed sink.old sink.new result
         (store_lines has_error (kept_in before.now) (kept_of (state_of machine.now.guest))) }
 {
@@ -34,7 +38,7 @@ pub fn push_store_lines<W: Sink>(
     push_changed_modules(sink, before, machine)?;
     push_changed_flex(sink, before, machine)?;
     push_changed_heaps(sink, before, machine)?;
-    push_changed_words(sink, before, machine, has_error)
+    push_changed_words(sink, before, machine, has_error, pages)
 }
 
 fn push_changed_images<W: Sink>(
@@ -94,10 +98,13 @@ fn push_changed_words<W: Sink>(
     before: &StoreCopy,
     machine: &Machine,
     has_error: bool,
+    pages: PageRange,
 ) -> Result<(), WriteFault>
+    requires { AreListedWithin (is_shown_elsewhere has_error) (kept_in before.now).store.bytes
+        (state_of machine.now.guest).store.bytes pages }
     ensures { Writes W.contents W.has_failed sink.old sink.new result
         (changed_word_lines has_error (kept_in before.now).store (state_of machine.now.guest).store) }
 {
-    let changes = changed_words(before.memory(), machine, has_error);
+    let changes = changed_words_in(before.memory(), machine, has_error, pages);
     push_words(sink, &changes)
 }

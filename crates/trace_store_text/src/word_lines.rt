@@ -7,7 +7,7 @@ ghost use Rattle.trace_store_text.specs.WordLines.{count_line, more_line, summar
 
 use itoa::Buffer;
 use profile::{HexText, Sink, WriteFault, push_parts};
-use trace_effects::store_words::{WordChange, WordChanges};
+use store_copies::{WordChange, WordChanges};
 
 /// How many words are shown.
 const MOST_WORDS: u32 = 16;

@@ -1,1 +1,2 @@
 pub mod StringLemmas
+pub mod InsideLemmas

@@ -1,14 +1,16 @@
 -- What a store call or the return gate leaves, a line below the step for each: the error and the core,
 -- what was printed, and the frames that were left and entered.
-use Rattle.std.specs.Prelude.{ℕ, Bool, ◌-◌, ◌==◌, ◌&&◌, List, [], ◌++◌, codes, length, Option, Some, None, if◌then◌else◌}
+use Rattle.std.specs.Prelude.{ℕ, Bool, true, false, ◌-◌, ◌==◌, ◌&&◌, List, [], ◌++◌, codes, length, Option, Some, None, if◌then◌else◌}
 use Rattle.profile.specs.declared.stop.Stop.{Stop}
 use Rattle.swi_dispatch_answers.specs.declared.frames.frame.Frame.{Frame}
 use Rattle.swi_dispatch_guest.specs.Errors.{error_number}
 use Rattle.swi_dispatch_guest.specs.MachineState.{MachineState, StepOutcome, stop_of}
 use Rattle.trace_store_text.specs.FrameWords.{left_word}
+use Rattle.trace_store_text.specs.Words.{AreListedWithin, all_pages, is_shown_elsewhere}
+use Rattle.trace_store_text.specs.heaps.Limits.{Pages, heap_pages}
 use Rattle.trace_store_text.specs.Copies.{KeptStore}
 use Rattle.trace_store_text.specs.views.Quoted.{quoted_text}
-use Rattle.trace_text.specs.Columns.{below_text}
+use Rattle.trace_effects.specs.Columns.{below_text}
 use Rattle.trace_text.specs.Core.{core_words}
 use Rattle.trace_text.specs.Errors.{error_word, stop_word}
 
@@ -31,3 +33,15 @@ has_error kept now = now.cpu.psr.overflow && length now.tables.frames == kept
 
 abbrev pub error_words : ℕ → MachineState → List ℕ
 error_words kept now = if has_error kept now then error_word (error_number now) else []
+
+-- The pages in which words are listed of a step that the machine took: of a call that writes in a heap alone
+-- those of the heap, before the call and after it. No step that enters a frame is one of these.
+abbrev pub pages_kept : Bool → ℕ → Option KeptStore → KeptStore → Pages
+pages_kept true start (Some k) k' = heap_pages k.store k'.store start
+pages_kept other start k k' = all_pages
+
+-- no word beyond some pages is one that is listed
+abbrev pub AreListedInside : Bool → Option KeptStore → KeptStore → Pages → Type 0
+AreListedInside has_error None k' pages = Unit {0}
+AreListedInside has_error (Some k) k' pages =
+    AreListedWithin (is_shown_elsewhere has_error) k.store.bytes k'.store.bytes pages

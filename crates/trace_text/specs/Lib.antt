@@ -1,8 +1,10 @@
--- The lines of a traced step. Begin with Columns, then Step.
+-- The lines of a traced step. Begin with Step.
+pub use Rattle.trace_store_text.specs.Copies
+pub use Rattle.trace_store_text.specs.Words
+pub use Rattle.trace_store_text.specs.heaps
 pub mod Areas
 pub mod Below
 pub mod Calls
-pub mod Columns
 pub mod Core
 pub mod Errors
 pub mod Instruction

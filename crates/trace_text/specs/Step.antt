@@ -1,8 +1,7 @@
 -- The lines of one step: what stands at the program counter, before the step is taken, and what the
 -- step leaves. They are a function of the machine before the step and of what the step leaves.
-use Rattle.std.specs.Prelude.{ℕ, ◌%◌, ◌^◌, Bool, true, false, List, [], ◌∷◌, ◌++◌, codes, length, Option, Some, None, if◌then◌else◌}
+use Rattle.std.specs.Prelude.{ℕ, ◌%◌, ◌^◌, ◌==◌, ◌&&◌, Bool, true, false, List, [], ◌∷◌, ◌++◌, codes, length, Option, Some, None, if◌then◌else◌}
 use Rattle.std.specs.Option.{option_map}
-use Rattle.profile.specs.Digits.{hex_number}
 use Rattle.profile.specs.Word.{bit_of}
 use Rattle.profile.specs.declared.stop.Stop.{Stop}
 use Rattle.address_map.specs.Bytes.{Bytes}
@@ -13,7 +12,7 @@ use Rattle.swi_dispatch_guest.specs.MachineState.{MachineState, StepOutcome, sto
 use Rattle.swi_dispatch_guest.specs.Step.{without_x}
 use Rattle.trace_effects.specs.changes.Status.{following_word}
 use Rattle.trace_effects.specs.Cause.{cause_of, swi_of_cause}
-use Rattle.trace_effects.specs.Leaving.{call_leaves}
+use Rattle.trace_effects.specs.Leaving.{call_leaves, stays_in_heap}
 use Rattle.trace_effects.specs.Loaded.{loaded_register, loaded_words}
 use Rattle.trace_effects.specs.Stored.{no_words, stored_words}
 use Rattle.trace_effects.specs.declared.cause.Cause.{Cause}
@@ -25,9 +24,11 @@ use Rattle.trace_store_text.specs.Copies.{KeptStore, kept_of}
 use Rattle.trace_text.specs.declared.areas.AreaMark.{AreaMark}
 use Rattle.dynamic_areas.specs.declared.area.Area.{Area}
 use Rattle.trace_text.specs.Areas.{area_lines, area_marks}
-use Rattle.trace_text.specs.Below.{error_words, frames_kept, has_error, left_word_kept, prints_word}
+use Rattle.trace_text.specs.Below.{AreListedInside, error_words, frames_kept, has_error, left_word_kept, pages_kept, prints_word}
+use Rattle.trace_store_text.specs.heaps.Limits.{Pages}
 use Rattle.trace_text.specs.Calls.{call_words}
-use Rattle.trace_text.specs.Columns.{below_text, columns_text, words_behind}
+use Rattle.trace_effects.specs.Columns.{below_text, words_behind}
+use Rattle.trace_effects.specs.Outside.{calling_text, loading_text, outside_line}
 use Rattle.trace_text.specs.Core.{core_words}
 use Rattle.trace_text.specs.Errors.{stop_word}
 use Rattle.trace_text.specs.Instruction.{front_text, named_text}
@@ -172,20 +173,27 @@ lines_after_step k taking.Gate o stop = lines_after_call true k o stop
 abbrev pub step_end_text : Known → StepOutcome → List ℕ
 step_end_text k o = lines_after_step k k.taking o (option_map stop_of o.now.halt)
 
+-- the pages in which words are listed of a step that was taken
+abbrev pub is_heap_call : ℕ → Taking → Bool
+is_heap_call r0 (taking.Call is_x number) = stays_in_heap r0 number
+is_heap_call r0 other = false
+
+abbrev pub pages_listed : Known → MachineState → Pages
+pages_listed k now = pages_kept (is_heap_call (register_of k.cpu 0) k.taking && length now.tables.frames == k.frames)
+    (register_of k.cpu 1) k.before (kept_of now)
+
+-- where so many frames were kept
+abbrev pub ListsWith : ℕ → Option KeptStore → MachineState → Pages → Type 0
+ListsWith kept before now pages = AreListedInside (has_error kept now) before (kept_of now) pages
+
+abbrev pub ListsInside : Known → MachineState → Type 0
+ListsInside k now = ListsWith k.frames k.before now (pages_listed k now)
+
 -- the lines of a step
 abbrev pub step_text : Option (List ℕ) → MachineState → StepOutcome → List ℕ
 step_text label s o = start_text label s.cpu s.store.bytes ++ step_end_text (known_of label s) o
 
--- A call from outside: `CALL &1D` and the call's words, `LOAD name text` and those of OS_Module 1.
-abbrev pub outside_line : List ℕ → List ℕ → List ℕ
-outside_line text words = columns_text (codes "-------- -------- ") text words
-
-abbrev pub calling_text : ℕ → List ℕ
-calling_text number = codes "CALL &" ++ hex_number number
-
-abbrev pub loading_text : List ℕ → List ℕ
-loading_text words = codes "LOAD " ++ words
-
+-- a call from outside
 abbrev pub call_start_text : State → Bytes → ℕ → List ℕ
 call_start_text s b number =
     outside_line (calling_text number) (call_words s b true (without_x (number % 2 ^ 24)))

@@ -5,28 +5,28 @@ ghost use Rattle.std.specs.Io.KnownBytes.{Appends};
 ghost use Rattle.profile.specs.Output.{Writes};
 ghost use Rattle.swi_dispatch_guest.specs.MachineState.{outcome_with};
 ghost use Rattle.swi_dispatch_guest.specs.GuestState.{state_of};
-ghost use Rattle.trace_store_text.specs.FrameWords.{entered_word};
-ghost use Rattle.trace_text.specs.Below.{error_words, frames_kept, has_error, left_word_kept, prints_word};
-ghost use Rattle.trace_text.specs.Columns.{below_text};
+ghost use Rattle.trace_text.specs.Below.{AreListedInside, error_words, frames_kept, has_error};
+ghost use Rattle.trace_effects.specs.Columns.{below_text};
 ghost use Rattle.trace_text.specs.Start.{store_kept};
 ghost use Rattle.trace_store_text.specs.Copies.{kept_of};
-ghost use Rattle.trace_text.specs.Step.{skipped_word, store_lines_below};
+ghost use Rattle.trace_text.specs.Step.{is_heap_call, skipped_word, store_lines_below};
 
 use crate::areas::push_areas;
-use crate::columns::{line_sink, push_behind, push_below};
+use crate::below::{push_entered_line, push_left_line, push_prints_line};
 use crate::core_text::push_core;
 use crate::errors::{push_error, push_stop};
 use crate::start::{StepStart, Taking};
 use profile::text_sink::TextSink;
 use profile::{Sink, Stop, WriteFault, push_all};
 use std::alloc::Global;
+use trace_effects::columns::{line_sink, push_behind, push_below};
+use trace_effects::stays_in_heap;
 use trace_effects::word_text::{push_loaded, push_stored_below, push_stored_here};
-use trace_store_text::frame_words::{push_entered, push_left};
-use trace_store_text::{Frame, Machine, StoreCopy, push_quoted, push_store_lines};
+use trace_store_text::{Frame, Machine, PageRange, StoreCopy, heap_pages, push_store_lines_in};
 
 impl StepStart {
     ghost use Rattle.trace_text.specs.Start.{known_in};
-    ghost use Rattle.trace_text.specs.Step.{lines_after_call, lines_with, frame_lines_below, core_line, step_end_text, instruction_below, instruction_end, instruction_words, lines_below, memory_lines_below};
+    ghost use Rattle.trace_text.specs.Step.{ListsInside, ListsWith, lines_after_call, lines_with, frame_lines_below, core_line, step_end_text, instruction_below, instruction_end, instruction_words, lines_below, memory_lines_below, pages_listed};
 
     /// Writes what the step left behind, by the machine after it and what it printed.
     ///
@@ -43,11 +43,63 @@ impl StepStart {
         ensures text { OnOk result (Appends (W.contents sink.old) (W.contents sink.new)
             (step_end_text (known_in self.now) (outcome_with (state_of machine.now.guest) printed.now))) }
     {
+        self.print_end_in(alloc, machine, printed, PageRange::all(), sink)
+    }
+
+    /// Writes the same of a step that the machine took, by what such a step writes.
+    ///
+    /// # Errors
+    ///
+    /// As `print_end`.
+    pub fn print_taken<W: Sink>(
+        &self,
+        alloc: Global,
+        machine: &Machine,
+        printed: &[u8],
+        sink: &mut W,
+    ) -> Result<(), WriteFault>
+        requires { ListsInside (known_in self.now) (state_of machine.now.guest) }
+        ensures text { OnOk result (Appends (W.contents sink.old) (W.contents sink.new)
+            (step_end_text (known_in self.now) (outcome_with (state_of machine.now.guest) printed.now))) }
+    {
+        let pages = self.pages_listed(machine);
+        self.print_end_in(alloc, machine, printed, pages, sink)
+    }
+
+    fn pages_listed(&self, machine: &Machine) -> PageRange
+        ensures { result ≡ pages_listed (known_in self.now) (state_of machine.now.guest) }
+    {
+        let is_heap = is_heap_call(self.cpu.register(0), self.taking);
+        if !is_heap || machine.frames() != self.frames {
+            return PageRange::all();
+        }
+        match &self.before {
+            Some(before) => { heap_pages(before.memory(), machine.memory(), self.cpu.register(1)) }
+            None => PageRange::all(),
+        }
+    }
+
+    // Where no word is listed beyond some pages.
+    fn print_end_in<W: Sink>(
+        &self,
+        alloc: Global,
+        machine: &Machine,
+        printed: &[u8],
+        pages: PageRange,
+        sink: &mut W,
+    ) -> Result<(), WriteFault>
+        requires { ListsWith self.now.frames (store_kept self.now.before) (state_of machine.now.guest) pages }
+        ensures { OnOk result (Appends (W.contents sink.old) (W.contents sink.new)
+            (step_end_text (known_in self.now) (outcome_with (state_of machine.now.guest) printed.now))) }
+    {
         let stop = machine.stop();
         match self.taking {
             Taking::Instruction => self.end_instruction(alloc, machine, stop, sink),
-            Taking::Call { .. } => self.end_call(alloc, machine, printed, false, stop, sink),
-            Taking::Gate => self.end_call(alloc, machine, printed, true, stop, sink),
+            Taking::Call { .. } => self.end_call(alloc, machine, printed, false, pages, stop, sink),
+            Taking::Gate => {
+                let pages = PageRange::all();
+                self.end_call(alloc, machine, printed, true, pages, stop, sink)
+            }
         }
     }
 
@@ -129,9 +181,12 @@ impl StepStart {
         machine: &Machine,
         printed: &[u8],
         leaves: bool,
+        pages: PageRange,
         stop: Option<Stop>,
         sink: &mut W,
     ) -> Result<(), WriteFault>
+        requires { let now = state_of machine.now.guest in
+            ListsWith (frames_kept leaves self.now.frames) (store_kept self.now.before) now pages }
         ensures { let o = outcome_with (state_of machine.now.guest) printed.now in
             OnOk result (Appends (W.contents sink.old) (W.contents sink.new)
             (lines_after_call leaves (known_in self.now) o stop)) }
@@ -142,7 +197,7 @@ impl StepStart {
                 push_stop(&mut words, stop)?;
                 push_below(sink, words.bytes())
             }
-            None => self.push_lines(alloc, machine, printed, leaves, sink),
+            None => self.push_lines(alloc, machine, printed, leaves, pages, sink),
         }
     }
 
@@ -152,14 +207,17 @@ impl StepStart {
         machine: &Machine,
         printed: &[u8],
         leaves: bool,
+        pages: PageRange,
         sink: &mut W,
     ) -> Result<(), WriteFault>
+        requires { let now = state_of machine.now.guest in
+            ListsWith (frames_kept leaves self.now.frames) (store_kept self.now.before) now pages }
         ensures { let o = outcome_with (state_of machine.now.guest) printed.now in
             OnOk result (Appends (W.contents sink.old) (W.contents sink.new)
             (lines_below leaves (known_in self.now) o)) }
     {
         let kept = frames_kept(leaves, self.frames);
-        self.push_lines_with(alloc, machine, printed, leaves, kept, sink)
+        self.push_lines_with(alloc, machine, printed, leaves, kept, pages, sink)
     }
 
     // The lines where so many frames were kept open.
@@ -170,8 +228,10 @@ impl StepStart {
         printed: &[u8],
         leaves: bool,
         kept: usize,
+        pages: PageRange,
         sink: &mut W,
     ) -> Result<(), WriteFault>
+        requires { ListsWith kept (store_kept self.now.before) (state_of machine.now.guest) pages }
         ensures { let o = outcome_with (state_of machine.now.guest) printed.now in
             OnOk result (Appends (W.contents sink.old) (W.contents sink.new)
             (lines_with leaves kept (known_in self.now) o)) }
@@ -179,7 +239,7 @@ impl StepStart {
         self.push_core_line(alloc, machine, kept, sink)?;
         push_prints_line(alloc, printed, sink)?;
         self.push_frame_lines(alloc, machine, leaves, kept, sink)?;
-        self.push_memory_lines(machine, kept, sink)
+        self.push_memory_lines(machine, kept, pages, sink)
     }
 
     // The lines of the areas, and of what is in them.
@@ -188,13 +248,15 @@ impl StepStart {
         &self,
         machine: &Machine,
         kept: usize,
+        pages: PageRange,
         sink: &mut W,
     ) -> Result<(), WriteFault>
+        requires { ListsWith kept (store_kept self.now.before) (state_of machine.now.guest) pages }
         ensures { Writes W.contents W.has_failed sink.old sink.new result
             (memory_lines_below kept (known_in self.now) (state_of machine.now.guest)) }
     {
         push_areas(sink, self.areas.as_slice(), machine.areas().list())?;
-        push_store(sink, &self.before, machine, has_error(kept, machine))
+        push_store(sink, &self.before, machine, has_error(kept, machine), pages)
     }
 
     // The lines of the frames that were left and entered.
@@ -243,13 +305,25 @@ fn push_store<W: Sink>(
     before: &Option<Box<StoreCopy>>,
     machine: &Machine,
     has_error: bool,
+    pages: PageRange,
 ) -> Result<(), WriteFault>
+    requires { AreListedInside has_error (store_kept before.now)
+        (kept_of (state_of machine.now.guest)) pages }
     ensures { Writes W.contents W.has_failed sink.old sink.new result
         (store_lines_below has_error (store_kept before.now) (kept_of (state_of machine.now.guest))) }
 {
     match before {
-        Some(before) => push_store_lines(sink, before, machine, has_error),
+        Some(before) => push_store_lines_in(sink, before, machine, has_error, pages),
         None => Ok(()),
+    }
+}
+
+fn is_heap_call(r0: u32, taking: Taking) -> bool
+    ensures { result ≡ is_heap_call r0 taking }
+{
+    match taking {
+        Taking::Call { number, .. } => stays_in_heap(r0, number),
+        Taking::Instruction | Taking::Gate => false,
     }
 }
 
@@ -288,79 +362,4 @@ fn has_error(kept: usize, machine: &Machine) -> bool
     ensures { result ≡ has_error kept (state_of machine.now.guest) }
 {
     machine.cpu().psr().overflow && machine.frames() == kept
-}
-
-/// Writes a line of what was printed, where something was.
-///
-/// # Errors
-///
-/// Where the sink failed, or memory ran out.
-pub fn push_prints_line<W: Sink>(
-    alloc: Global,
-    printed: &[u8],
-    sink: &mut W,
-) -> Result<(), WriteFault>
-    ensures text { OnOk result (Appends (W.contents sink.old) (W.contents sink.new)
-        (below_text (prints_word printed.now))) }
-{
-    let mut words = TextSink::new(alloc);
-    push_prints(&mut words, printed)?;
-    push_below(sink, words.bytes())
-}
-
-fn push_prints<W: Sink>(sink: &mut W, printed: &[u8]) -> Result<(), WriteFault>
-    ensures { Writes W.contents W.has_failed sink.old sink.new result (prints_word printed.now) }
-{
-    if printed.is_empty() {
-        return Ok(());
-    }
-    push_all(sink, b" prints ")?;
-    push_quoted(sink, printed)
-}
-
-fn push_left_line<W: Sink>(
-    alloc: Global,
-    leaves: bool,
-    count: usize,
-    innermost: Option<Frame>,
-    before: &Option<Box<StoreCopy>>,
-    sink: &mut W,
-) -> Result<(), WriteFault>
-    ensures { OnOk result (Appends (W.contents sink.old) (W.contents sink.new)
-        (below_text (left_word_kept leaves count innermost (store_kept before.now)))) }
-{
-    let mut words = TextSink::new(alloc);
-    push_left_kept(&mut words, leaves, count, innermost, before)?;
-    push_below(sink, words.bytes())
-}
-
-fn push_left_kept<W: Sink>(
-    sink: &mut W,
-    leaves: bool,
-    count: usize,
-    innermost: Option<Frame>,
-    before: &Option<Box<StoreCopy>>,
-) -> Result<(), WriteFault>
-    ensures { Writes W.contents W.has_failed sink.old sink.new result
-        (left_word_kept leaves count innermost (store_kept before.now)) }
-{
-    match before {
-        Some(before) => push_left(sink, leaves, count, innermost, before.instances()),
-        None => Ok(()),
-    }
-}
-
-fn push_entered_line<W: Sink>(
-    alloc: Global,
-    kept: usize,
-    machine: &Machine,
-    sink: &mut W,
-) -> Result<(), WriteFault>
-    ensures { let s = state_of machine.now.guest in
-        OnOk result (Appends (W.contents sink.old) (W.contents sink.new)
-        (below_text (entered_word kept s.tables.frames s.tables.modules))) }
-{
-    let mut words = TextSink::new(alloc);
-    push_entered(&mut words, kept, machine.open_frames(), machine.instances())?;
-    push_below(sink, words.bytes())
 }

@@ -8,7 +8,6 @@ ghost use Rattle.profile.specs.text_sink.TextSink.{sink_text_of};
 ghost use Rattle.swi_dispatch_guest.specs.Step.{without_x};
 ghost use Rattle.trace_text.specs.Instruction.{branch_destination, front_text, named_text, swi_standing, swi_of_word, destination_of_word, what_text, with_call, by_name, word_column};
 
-use crate::columns::line_sink;
 use assembler_text::disassemble;
 use profile::text_lines::cut;
 use profile::text_sink::TextSink;
@@ -16,6 +15,7 @@ use profile::word::is_bit_set;
 use profile::{HexText, Sink, SwiName, WriteFault, push_all, push_parts};
 use std::alloc::Global;
 use trace_effects::Cause;
+use trace_effects::columns::line_sink;
 use trace_store_text::without_x_bit;
 
 /// Writes the columns before an instruction's text: the address and the word that stand there.

@@ -5,16 +5,15 @@
 #![tactic(auto)]
 
 pub mod areas;
+pub mod below;
 pub mod calls;
-pub mod columns;
 pub mod core_text;
 pub mod end;
 pub mod errors;
 pub mod instruction;
-mod outside;
 pub mod start;
 pub mod strings;
 
-pub use end::push_prints_line;
+pub use below::push_prints_line;
 pub use start::StepStart;
 pub use trace_store_text::StoreCopy;

@@ -14,9 +14,7 @@ ghost use Rattle.trace_store_text.specs.Copies.{kept_in, kept_of};
 
 use crate::areas::{AreaMark, area_marks};
 use crate::calls::push_call;
-use crate::columns::{line_sink, push_behind};
 use crate::instruction::{named_text, push_front};
-use crate::outside::{calling_text, loading_text, push_outside};
 use address_map::AddressMap;
 use arm_core::Cpu;
 use arrayvec::ArrayVec;
@@ -25,6 +23,8 @@ use profile::word::is_bit_set;
 use profile::{Sink, WriteFault, push_all};
 use std::alloc::Global;
 use trace_effects::changes::following_word;
+use trace_effects::columns::{line_sink, push_behind};
+use trace_effects::outside::{calling_text, loading_text, push_outside};
 use trace_effects::word_text::{MOST_STORED, old_words};
 use trace_effects::{Cause, Effects, StoredWords, call_leaves, effects_of};
 use trace_store_text::frame_words::innermost;

@@ -20,8 +20,19 @@ pub struct RegisterChange {
     pub new: u32,
 }
 
-/// The registers of all banks that differ, in the order of their places.
+/// The registers of all banks that differ, in the order of their places. Most code runs in user mode,
+/// and there each register lies at a place that is known where this is compiled.
 pub fn changed_registers(before: &Cpu, after: &Cpu) -> ArrayVec<RegisterChange, REGISTERS>
+    ensures { result.items ≡ changes_of before.now after.now }
+{
+    match (before.psr().mode, after.psr().mode) {
+        (Mode::User, Mode::User) => changes_in_banks(before, after),
+        _ => changes_in_banks(before, after),
+    }
+}
+
+#[inline(always)]
+fn changes_in_banks(before: &Cpu, after: &Cpu) -> ArrayVec<RegisterChange, REGISTERS>
     ensures { result.items ≡ changes_of before.now after.now }
 {
     let mut changes = ArrayVec::new();

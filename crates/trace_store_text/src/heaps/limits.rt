@@ -3,10 +3,12 @@
 ghost use Rattle.std.specs.Prelude.{◌≡◌, ◌+◌, IsSome, IfSome};
 ghost use Rattle.address_map.specs.Items.{size_of};
 ghost use Rattle.os_heap.specs.Store.{IsSound, find_heap, store_of};
-ghost use Rattle.trace_store_text.specs.heaps.Limits.{limits_in};
+ghost use Rattle.trace_store_text.specs.heaps.Limits.{end_shown, heap_pages, limits_in};
 
 use address_map::AddressMap;
 use os_heap::Heaps;
+use profile::memory_map::PAGE_SIZE;
+use store_copies::PageRange;
 
 /// Where the words of a heap's descriptor stand that show its base and its end.
 const BASE: u32 = 8;
@@ -32,6 +34,32 @@ pub fn limits_of(memory: &AddressMap, heap: u32) -> Option<HeapLimits>
         base: base_of(memory, heap),
         end: end_of(memory, heap),
     })
+}
+
+/// The pages of the heap that starts at an address, before a call or after it. Where none starts there,
+/// it is the page of the address.
+pub fn heap_pages(before: &AddressMap, after: &AddressMap, heap: u32) -> PageRange
+    requires old { IsSound (store_of before.now) }
+    requires new { IsSound (store_of after.now) }
+    ensures { result ≡ heap_pages (store_of before.now) (store_of after.now) heap }
+{
+    let old = end_shown(limits_of(before, heap));
+    let new = end_shown(limits_of(after, heap));
+    let len = if old < new { new } else { old };
+    let end = u64::from(heap) + u64::from(len);
+    PageRange {
+        first: heap / PAGE_SIZE,
+        end: (end / u64::from(PAGE_SIZE) + 1) as u32,
+    }
+}
+
+fn end_shown(limits: Option<HeapLimits>) -> u32
+    ensures { result ≡ end_shown limits }
+{
+    match limits {
+        Some(limits) => limits.end,
+        None => 0,
+    }
 }
 
 // The base of a heap.

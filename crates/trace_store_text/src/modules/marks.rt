@@ -7,7 +7,7 @@ ghost use Rattle.trace_store_text.specs.modules.Marks.{instance_marks, mark_show
 
 use arrayvec::ArrayVec;
 use instances_table::{MOST_INSTANCES, Name};
-use trace_effects::store_words::{InstanceInfo, Instances, ModuleInfo};
+use store_copies::{InstanceInfo, Instances, ModuleInfo};
 
 /// An instance: its module's title, its own name, its slot, whether it is the preferred one of its
 /// module, and where its image stands, and how many bytes that has.

@@ -1,4 +1,4 @@
-use Rattle.std.proofs.Common.{◌≡◌, ◌<◌, length, arith}
+use Rattle.std.proofs.Common.{◌<◌, length, arith}
 use Rattle.trace_effects.proofs.ShownRegistersLemmas.ShownLemmas.{none_more, one_shown}
 use Rattle.trace_effects.proofs.shown_registers.registers.shown_registers.Goals as goal
 use Rattle.trace_effects.proofs.shown_registers.registers.shown_registers.Goals.{then-is_shown, else-is_shown}

@@ -1,7 +1,0 @@
-use Rattle.std.proofs.Common.{◌*◌}
-use Rattle.trace_effects.specs.store_words.Words.{AreSameBytes}
-use Rattle.trace_effects.proofs.store_words.lanes.has_same_page.Given as goal
-
--- the lanes of the rows that were passed
-abbrev pub invariant-loop-row : goal.invariant-loop-row
-invariant-loop-row l = AreSameBytes l.old l.new 0 (256 * l.row)

@@ -1,8 +1,0 @@
-use Rattle.std.proofs.Common.{sym, ap, ◌∙◌}
-use Rattle.trace_effects.specs.store_words.Copies.{CopiedParts, kept_in}
-use Rattle.os_heap.proofs.Frame.{store_bytes}
-use Rattle.trace_effects.proofs.store_words.store_copy.StoreCopy.memory.Goals as goal
-
-pub returns-clause-bytes : goal.returns-clause-bytes
-returns-clause-bytes c =
-    sym (store_bytes c.self.inside.memory) ∙ ap (λ (p : CopiedParts). (kept_in p).store.bytes) c.self.view_is
