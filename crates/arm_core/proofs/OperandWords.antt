@@ -6,8 +6,8 @@ use Rattle.std.proofs.lemmas.Bool.Decides.{nat_tests}
 use Rattle.std.proofs.lemmas.Int.{to_z_pos}
 use Rattle.std.proofs.lemmas.Nat.{pow-add, pow_pos, shr_below, shr_le, mul-add-lt}
 use Rattle.arm_decode.specs.Sums.{signed_value_of}
-use Rattle.arm_decode.specs.ProfileShift.{rotation_of}
-use Rattle.arm_decode.specs.Shifted.{Shifted}
+use Rattle.arm_decode.specs.Shifted.{rotation_of}
+use Rattle.arm_decode.specs.declared.shifted.Shifted.{Shifted}
 use Rattle.arm_decode.specs.Ranges.{FitsOperand}
 use Rattle.arm_decode.specs.declared.shift.Shift.{Shift}
 use Rattle.arm_decode.specs.declared.shift.Shift.TheVariants as shift

@@ -4,8 +4,8 @@ use Rattle.std.specs.Int.{from_bool}
 use Rattle.std.proofs.lemmas.Bool.Decides.{nat_tests}
 use Rattle.std.proofs.lemmas.Nat.{pow-add, shl-shr, shr-shr, mod-pow-add}
 use Rattle.std.proofs.Math.Nat.{mul-mod_left}
-use Rattle.arm_decode.specs.ProfileShift.{rotated_through}
-use Rattle.arm_decode.specs.Shifted.{Shifted}
+use Rattle.arm_decode.specs.Shifted.{rotated_through}
+use Rattle.arm_decode.specs.declared.shifted.Shifted.{Shifted}
 use Rattle.arm_core.specs.Operand.{unshifted_value}
 use Rattle.arm_core.specs.Laws.{turned_times, RotatesByShifting, TurnsRound}
 

@@ -2,7 +2,7 @@
 use Rattle.std.specs.Prelude.{◌≡◌, ◌↔◌, ◌≤◌, ◌<◌, ◌≤ℤ◌, ◌<ℤ◌, ◌+◌, ◌-◌, ◌*◌, ◌^◌, ◌==◌, ℕ, zero, suc, Bool, true, false, not, IsTrue}
 use Rattle.std.specs.Int.{bit_not, w32}
 use Rattle.arm_decode.specs.Sums.{signed_value_of}
-use Rattle.arm_decode.specs.Shifted.{Shifted}
+use Rattle.arm_decode.specs.declared.shifted.Shifted.{Shifted}
 use Rattle.arm_decode.specs.Names.{condition_of}
 use Rattle.arm_decode.specs.Ranges.{FitsOperand}
 use Rattle.arm_decode.specs.declared.action.Operate.{Operate}

@@ -1,7 +1,7 @@
 -- The second operand of data processing (ARM2 data sheet, "Shifts", "Immediate operand rotates"): a value and the carry of the shifter.
 use Rattle.std.specs.Prelude.{ℕ, Bool, ◌*◌, ◌%◌, ◌==◌, if◌then◌else◌}
-use Rattle.arm_decode.specs.ProfileShift.{shifted_left, shifted_right, shifted_signed, rotation_of, rotated_through}
-use Rattle.arm_decode.specs.Shifted.{Shifted}
+use Rattle.arm_decode.specs.Shifted.{shifted_left, shifted_right, shifted_signed, rotation_of, rotated_through}
+use Rattle.arm_decode.specs.declared.shifted.Shifted.{Shifted}
 use Rattle.arm_decode.specs.declared.shift.Shift.{Shift}
 use Rattle.arm_decode.specs.declared.shift.Shift.TheVariants as shift
 use Rattle.arm_decode.specs.declared.shift.ShiftedRegister.{ShiftedRegister}

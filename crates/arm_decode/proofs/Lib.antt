@@ -5,4 +5,5 @@ pub mod Placed
 pub mod Recut
 pub mod Respelled
 pub mod Rows
+pub mod Shifting
 pub mod Taken

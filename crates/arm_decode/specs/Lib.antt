@@ -1,11 +1,9 @@
 -- The instruction table of the ARM2, both ways. Begin with Table; Diagrams and Laws say it
 -- otherwise.
 pub use Rattle.profile.specs.MemoryMap
-pub use Rattle.profile.specs.Shift as ProfileShift
 pub use Rattle.profile.specs.Sums
 pub use Rattle.profile.specs.SwiNames
 pub use Rattle.profile.specs.Word
-pub use Rattle.profile.specs.declared.shift.Shifted
 pub use Rattle.profile.specs.declared.swi.SwiName
 pub use Rattle.profile.specs.declared.word.Sum
 pub mod Decoded
@@ -16,4 +14,5 @@ pub mod Names
 pub mod Places
 pub mod Ranges
 pub mod Refusals
+pub mod Shifted
 pub mod Table

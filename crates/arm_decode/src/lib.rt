@@ -22,6 +22,7 @@ pub mod operation;
 pub mod refusals;
 pub mod register;
 pub mod shift;
+pub mod shifted;
 
 pub use action::{Action, BlockTransfer, Multiply, Operate, Transfer};
 pub use address::{Address, BlockMode, Direction, Indexing, Offset};
@@ -34,8 +35,8 @@ pub use instr::Instr;
 pub use operand::Operand;
 pub use operation::Operation;
 pub use profile::memory_map::{ADDRESS_LIMIT, APPLICATION_START, SVC_STACK_END};
-pub use profile::shift::{Shifted, rotate, rotate_through, shift_left, shift_right, shift_signed};
 pub use profile::word::{Sum, add, is_bit_set, subtract};
 pub use profile::{Fault, SwiName};
 pub use register::{Register, RegisterList};
 pub use shift::{Shift, ShiftedRegister};
+pub use shifted::{Shifted, rotate, rotate_through, shift_left, shift_right, shift_signed};

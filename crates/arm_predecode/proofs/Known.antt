@@ -1,6 +1,6 @@
 -- What is known of a word whose form and fields the table allows.
 use Rattle.std.proofs.Common.{◌≡◌, ◌<◌, ◌+◌, ◌-◌, ◌*◌, ◌%◌, ◌^◌, ◌&&◌, ℕ, Bool, true, false, not, nat_eq, Result, Ok, Option, None, ap, subst, sym, ◌∙◌, refl, if◌then◌else◌}
-use Rattle.profile.specs.Shift.{rotated_right}
+use Rattle.arm_decode.specs.Shifted.{rotated_right}
 use Rattle.profile.specs.Word.{bit_of, field}
 use Rattle.profile.specs.declared.fault.Fault.{Fault}
 use Rattle.arm_decode.specs.Decoded.{instruction_of_word, decoded_as, unless_refused}

@@ -1,6 +1,6 @@
 -- MOV to R15 leads there.
 use Rattle.std.proofs.Common.{◌≡◌, ◌+◌, ◌*◌, ◌/◌, ◌%◌, ◌^◌, ℕ, Bool, true, false, Result, Ok, refl, sym, ◌∙◌, ap, subst, arith, if◌then◌else◌}
-use Rattle.profile.specs.declared.shift.Shifted.{Shifted}
+use Rattle.arm_decode.specs.declared.shifted.Shifted.{Shifted}
 use Rattle.profile.specs.declared.word.Sum.{Sum}
 use Rattle.address_map.specs.Bytes.{Bytes}
 use Rattle.arm_decode.specs.Fields.{shifted_in, operate_in}

@@ -1,9 +1,9 @@
 -- Second operands as ops give them.
 use Rattle.std.proofs.Common.{◌≡◌, ◌<◌, ◌*◌, ℕ, Bool, true, false, not, nat_eq, refl, sym, ◌∙◌, ap, subst, arith, if◌then◌else◌}
 use Rattle.std.proofs.lemmas.Bool.Decides.{nat_tests}
-use Rattle.profile.specs.Shift.{rotated_right, rotation_of}
+use Rattle.arm_decode.specs.Shifted.{rotated_right, rotation_of}
 use Rattle.profile.specs.Word.{field, bit_of}
-use Rattle.profile.specs.declared.shift.Shifted.{Shifted}
+use Rattle.arm_decode.specs.declared.shifted.Shifted.{Shifted}
 use Rattle.arm_decode.specs.Fields.{shifted_in}
 use Rattle.arm_decode.specs.Names.{shift_of}
 use Rattle.arm_decode.specs.declared.operand.Operand.TheVariants as operand

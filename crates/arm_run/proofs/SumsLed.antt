@@ -1,7 +1,7 @@
 -- Data processing leads on.
 use Rattle.std.proofs.Common.{◌≡◌, ◌<◌, ◌+◌, ℕ, Bool, true, false, not, ◌&&◌, nat_eq, Result, Ok, refl, sym, ◌∙◌, ap, subst}
 use Rattle.profile.specs.Word.{field}
-use Rattle.profile.specs.declared.shift.Shifted.{Shifted}
+use Rattle.arm_decode.specs.declared.shifted.Shifted.{Shifted}
 use Rattle.profile.specs.declared.word.Sum.{Sum}
 use Rattle.address_map.specs.Bytes.{Bytes}
 use Rattle.arm_decode.specs.Fields.{immediate_in, shifted_in, operate_in}

@@ -1,6 +1,6 @@
 -- What data processing and MUL leave of the core, but for its position, where neither the first operand nor the destination is R15.
 use Rattle.std.specs.Prelude.{ℕ, Bool, true, false, ◌+◌, ◌*◌, ◌%◌, ◌^◌, if◌then◌else◌}
-use Rattle.profile.specs.declared.shift.Shifted.{Shifted}
+use Rattle.arm_decode.specs.declared.shifted.Shifted.{Shifted}
 use Rattle.profile.specs.declared.word.Sum.{Sum}
 use Rattle.arm_decode.specs.Refusals.{is_test}
 use Rattle.arm_decode.specs.declared.operation.Operation.{Operation}

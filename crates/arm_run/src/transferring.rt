@@ -17,7 +17,7 @@ use address_map::AddressMap;
 use arm_core::Cpu;
 use arm_decode::Indexing;
 use arm_predecode::Op;
-use profile::shift::rotate_right;
+use arm_decode::shifted::rotate_right;
 
 /// The byte at an address, or the word there, rotated so that the byte at the address is lowest.
 #[inline(always)]

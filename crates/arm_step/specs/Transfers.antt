@@ -1,7 +1,7 @@
 -- LDR and STR (ARM2 data sheet, "Single data transfer").
 use Rattle.std.specs.Prelude.{ℕ, Bool, true, false, ◌+◌, ◌-◌, ◌*◌, ◌%◌, ◌^◌, if◌then◌else◌, Result, Ok}
 use Rattle.profile.specs.Outcome.{bind}
-use Rattle.profile.specs.Shift.{rotated_right}
+use Rattle.arm_decode.specs.Shifted.{rotated_right}
 use Rattle.profile.specs.declared.fault.Fault.{Fault}
 use Rattle.address_map.specs.Bytes.{Bytes, byte_loaded, word_loaded, byte_stored, word_stored}
 use Rattle.arm_decode.specs.Refusals.{writes_base}

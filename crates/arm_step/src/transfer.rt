@@ -9,7 +9,7 @@ use address_map::AddressMap;
 use arm_core::Cpu;
 use arm_decode::{Address, Direction, Indexing, Offset, Transfer};
 use profile::Fault;
-use profile::shift::rotate_right;
+use arm_decode::shifted::rotate_right;
 
 /// The byte at an address, or the word there, rotated so that the byte at the address is lowest.
 #[inline(always)]

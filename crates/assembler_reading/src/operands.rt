@@ -10,7 +10,7 @@ use assembler_text::naming::names::{register, shift_named};
 use assembler_text::naming::words::{after_word, byte, comma, is_name, spaces, word};
 use assembler_text::naming::{Labels, Read, Reason, Value, expression};
 use assembler_text::numbers::least_rotation;
-use profile::shift::rotate_right;
+use arm_decode::shifted::rotate_right;
 
 /// What a piece of the operands stands for, or why there is none.
 pub type ReadOutcome<A> = Result<A, Reason>;

@@ -3,7 +3,7 @@
 use Rattle.std.specs.Prelude.{ℕ, Bool, false, ◌-◌, ◌*◌, ◌==◌, nat_le, List, ◌++◌, codes, decimal, Option, Some, None, find, if◌then◌else◌}
 use Rattle.std.specs.List.{range_with_len}
 use Rattle.profile.specs.Digits.{hex_number}
-use Rattle.profile.specs.Shift.{rotated_right}
+use Rattle.arm_decode.specs.Shifted.{rotated_right}
 
 abbrev pub number_text : ℕ → List ℕ
 number_text n = codes "&" ++ hex_number n

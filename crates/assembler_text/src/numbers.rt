@@ -5,7 +5,7 @@ ghost use Rattle.profile.specs.Output.{Writes};
 ghost use Rattle.assembler_text.specs.Numbers.{gives, immediate_text, is_field, least_rotation, rotated_back};
 
 use itoa::Buffer;
-use profile::shift::rotate_right;
+use arm_decode::shifted::rotate_right;
 use profile::{HexText, Sink, WriteFault, push_parts};
 
 /// Writes `#v` where the rotation field is the least that gives v, else `#b,r`.

@@ -1,5 +1,4 @@
 pub mod FirstLemmas
 pub mod OutputLemmas
 pub mod KnownLemmas
-pub mod Shifting
 pub mod TextLinesLemmas

@@ -11,7 +11,6 @@ pub mod Outcome
 pub mod Output
 pub mod Pulls
 pub mod Reasons
-pub mod Shift
 pub mod Sizes
 pub mod Status
 pub mod Sums

@@ -13,7 +13,6 @@ pub mod fault;
 pub mod image;
 pub mod memory_map;
 pub mod reason;
-pub mod shift;
 pub mod sink;
 pub mod source;
 pub mod stop;

@@ -1,8 +1,8 @@
 -- Data processing, products, branches and SWIs.
 use Rattle.std.proofs.Common.{◌≡◌, ◌+◌, ◌*◌, ◌/◌, ◌%◌, ◌^◌, ℕ, Bool, true, false, not, nat_eq, Result, Ok, refl, ◌∙◌, ap, arith, if◌then◌else◌}
-use Rattle.profile.specs.Shift.{rotated_right}
+use Rattle.arm_decode.specs.Shifted.{rotated_right}
 use Rattle.profile.specs.Word.{bit_of, field}
-use Rattle.profile.specs.declared.shift.Shifted.{Shifted}
+use Rattle.arm_decode.specs.declared.shifted.Shifted.{Shifted}
 use Rattle.address_map.specs.Bytes.{Bytes}
 use Rattle.arm_decode.specs.declared.action.Action.TheVariants as action
 use Rattle.arm_decode.specs.declared.condition.Condition.{Condition}

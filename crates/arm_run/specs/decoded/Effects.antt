@@ -4,7 +4,7 @@
 use Rattle.std.specs.Prelude.{◌≡◌, ◌+◌, ◌*◌, ◌/◌, ◌%◌, ◌^◌, if◌then◌else◌, ℕ, Bool, true, false, length, map, Result, Ok, Err}
 use Rattle.profile.specs.Outcome.{bind}
 use Rattle.profile.specs.Word.{bit_of, field}
-use Rattle.profile.specs.declared.shift.Shifted.{Shifted}
+use Rattle.arm_decode.specs.declared.shifted.Shifted.{Shifted}
 use Rattle.address_map.specs.Bytes.{Bytes}
 use Rattle.arm_decode.specs.declared.address.Indexing.{Indexing}
 use Rattle.arm_decode.specs.declared.condition.Condition.{Condition}

@@ -5,7 +5,7 @@ use Rattle.std.proofs.lemmas.Bool.{ne_eqb}
 use Rattle.std.proofs.lemmas.Int.{ints}
 use Rattle.std.proofs.lemmas.List.{get_or-set_same}
 use Rattle.arm_decode.specs.Sums.{signed_value_of}
-use Rattle.arm_decode.specs.Shifted.{Shifted}
+use Rattle.arm_decode.specs.declared.shifted.Shifted.{Shifted}
 use Rattle.arm_decode.specs.Sum.{Sum}
 use Rattle.arm_decode.specs.Refusals.{is_test}
 use Rattle.arm_decode.specs.declared.action.Operate.{Operate}

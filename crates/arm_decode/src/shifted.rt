@@ -1,9 +1,9 @@
 //! Shifts of words by every amount, with the bit that is shifted out.
 
 ghost use Rattle.std.specs.Prelude.{◌≡◌, ◌≤◌, ◌<◌, ◌^◌};
-ghost use Rattle.profile.specs.Shift.{shifted_left, shifted_right, shifted_signed, rotated_right, rotation_of, rotated_through};
+ghost use Rattle.arm_decode.specs.Shifted.{shifted_left, shifted_right, shifted_signed, rotated_right, rotation_of, rotated_through};
 
-use crate::word::is_bit_set;
+use profile::word::is_bit_set;
 
 /// A shifted word and the last bit that was shifted out.
 #[derive(Clone, Copy, Debug, PartialEq, Eq)]

@@ -6,7 +6,7 @@ use Rattle.std.specs.Int.Bits.{or_self, or_shifted_r as or_high}
 use Rattle.std.proofs.lemmas.Int.{to_z_pos}
 use Rattle.std.proofs.lemmas.Bool.{le-ltb}
 use Rattle.std.proofs.Math.Nat.{mul-mod_left, div-eq_of_lt, pow-le-pow_right}
-use Rattle.profile.specs.Shift.{rotated_right}
+use Rattle.arm_decode.specs.Shifted.{rotated_right}
 use Rattle.profile.specs.Sums.{signed_value_of}
 
 -- what a shift to the left by n pushes out at the top

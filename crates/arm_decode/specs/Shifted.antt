@@ -6,7 +6,7 @@ use Rattle.std.specs.Prelude.{ℕ, Bool, ◌+◌, ◌-◌, ◌*◌, ◌/◌, ◌
 use Rattle.std.specs.Int.{cast_unsigned, int_shr, from_bool, w32}
 use Rattle.profile.specs.Word.{bit_of}
 use Rattle.profile.specs.Sums.{signed_value_of}
-use Rattle.profile.specs.declared.shift.Shifted.{Shifted}
+use Rattle.arm_decode.specs.declared.shifted.Shifted.{Shifted}
 
 abbrev pub shifted_left : ℕ → ℕ → Shifted
 shifted_left x n = record { value = x * 2 ^ n % 2 ^ 32; carry = bit_of (x * 2 ^ n) 32 }
