@@ -3,7 +3,7 @@ use Rattle.std.proofs.Common.{◌≡◌, ◌∙◌, ℕ, List, [], ◌++◌, Opt
 use Rattle.std.proofs.lemmas.List.{append-nil}
 use Rattle.profile.proofs.OutputLemmas.{AddsAllBut-start}
 use Rattle.profile.specs.Output.{AddsAllBut, AddsFront}
-use Rattle.image_loader.specs.Entries.{Entry}
+use Rattle.profile.specs.images.Entries.{Entry}
 use Rattle.command_shell.specs.Fronts.{IsFront}
 
 pub AddsFront-from_all_but : (a b : Option (List ℕ)) (rest all : List ℕ) → AddsAllBut a b rest all

@@ -7,8 +7,8 @@ use Rattle.profile.specs.Sizes.{Sizes}
 use Rattle.profile.specs.declared.fault.Fault.{Fault}
 use Rattle.profile.specs.declared.stop.Stop.{Stop}
 use Rattle.profile.specs.declared.stop.Stop.TheVariants as stop
-use Rattle.image_loader.specs.Entries.{Entry, bytes_of_image, refusal_for}
-use Rattle.image_loader.specs.declared.error.ImageError.{ImageError}
+use Rattle.profile.specs.images.Entries.{Entry, bytes_of_image, refusal_for}
+use Rattle.profile.specs.declared.images.error.ImageError.{ImageError}
 use Rattle.assembler.specs.Passes.{means_lines}
 use Rattle.assembler.specs.declared.error.AsmError.{AsmError}
 use Rattle.debugger.specs.Flex.{flex_text}

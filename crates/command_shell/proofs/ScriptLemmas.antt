@@ -7,7 +7,7 @@ use Rattle.profile.specs.Sizes.{Sizes}
 use Rattle.profile.specs.text_lines.Lines.{ReadingPlace}
 use Rattle.command_shell_lines.specs.Blocks.{block_lines, after_block, lines_in_block, lines_after, lines_taken}
 use Rattle.command_shell_lines.specs.Requests.{Request, Nothing, Hex, Asm, Boot, Run, Regs, Set, Poke, Call, Load, Step, Break, Unbreak, Mem, Code, Heap, Areas, Modules, Flex, Unknown, opens_block, request_of, is_end_of_block}
-use Rattle.image_loader.specs.Entries.{Entry}
+use Rattle.profile.specs.images.Entries.{Entry}
 use Rattle.swi_dispatch_guest.specs.MachineState.{machine_start}
 use Rattle.swi_dispatch.specs.Value.{MachineValue}
 use Rattle.command_shell.specs.declared.session.Session.{Session}

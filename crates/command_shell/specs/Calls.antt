@@ -1,7 +1,7 @@
 -- The lines CALL and LOAD: a store call or the loading of a module, made from outside, and then the
 -- steps of the module code that it enters, until that code has come back.
 use Rattle.std.specs.Prelude.{ℕ, zero, suc, false, ◌-◌, ◌==◌, List, length, Option, Some, None, if◌then◌else◌}
-use Rattle.image_loader.specs.Entries.{Entry}
+use Rattle.profile.specs.images.Entries.{Entry}
 use Rattle.profile.specs.declared.stop.Stop.{Stop}
 use Rattle.profile.specs.declared.stop.Stop.TheVariants as stop
 use Rattle.swi_dispatch_guest.specs.declared.halt.Halt.{Halt}

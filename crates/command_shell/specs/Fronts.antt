@@ -1,6 +1,6 @@
 -- Which of the images that a script adds are there where it ends before its last line.
 use Rattle.std.specs.Prelude.{◌≡◌, ◌++◌, ◌⊎◌, List}
-use Rattle.image_loader.specs.Entries.{Entry}
+use Rattle.profile.specs.images.Entries.{Entry}
 use Rattle.command_shell.specs.State.{Answered}
 
 -- A list begins with a front of it.

@@ -1,8 +1,8 @@
 -- The lines that hand in an image and boot one: HEX, ASM and BOOT.
 use Rattle.std.specs.Prelude.{ℕ, false, List, length, codes, Option, Some, None, Result, Ok, Err}
-use Rattle.image_loader.specs.Entries.{bytes_of_image, refusal_for, with_entry}
-use Rattle.image_loader.specs.declared.error.ImageError.{ImageError}
-use Rattle.image_loader.specs.ErrorNames.{image_error_name}
+use Rattle.profile.specs.images.Entries.{bytes_of_image, refusal_for, with_entry}
+use Rattle.profile.specs.declared.images.error.ImageError.{ImageError}
+use Rattle.profile.specs.images.ErrorNames.{image_error_name}
 use Rattle.swi_dispatch_guest.specs.MachineState.{MachineState}
 use Rattle.swi_dispatch.specs.Boot.{machine_after_boot}
 use Rattle.swi_dispatch.specs.declared.boot_error.BootError.{BootError}

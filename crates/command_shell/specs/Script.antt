@@ -2,7 +2,7 @@
 use Rattle.std.specs.Prelude.{ℕ, Bool, true, false, ◌+◌, List, [], ◌∷◌, ◌++◌, Option, Some, None, is_none}
 use Rattle.std.specs.Str.Lines.{lines}
 use Rattle.profile.specs.Sizes.{Sizes}
-use Rattle.image_loader.specs.Entries.{Entry, refusal_for}
+use Rattle.profile.specs.images.Entries.{Entry, refusal_for}
 use Rattle.command_shell.specs.Answers.{unknown_text}
 use Rattle.command_shell.specs.Calls.{outside_call_answer, load_answer}
 use Rattle.command_shell.specs.Images.{hex_answer, asm_answer, boot_answer}

@@ -1,6 +1,6 @@
 -- The state of a script, as the code holds it: the session and the images.
 use Rattle.std.specs.Prelude.{ℕ, List, [], None}
-use Rattle.image_loader.specs.Entries.{Entry}
+use Rattle.profile.specs.images.Entries.{Entry}
 use Rattle.swi_dispatch.specs.Value.{MachineValue}
 use Rattle.command_shell.specs.declared.session.Session.{Session}
 use Rattle.command_shell.specs.State.{ScriptState}

@@ -1,7 +1,7 @@
 -- What a call leaves that reads a script whole and answers its lines.
 use Rattle.std.specs.Prelude.{◌≡◌, ◌<◌, ℕ, Bool, true, false, List, length, Option, Result, Err, IfSome, IsErr, OnErr, OnOk}
 use Rattle.std.specs.Io.KnownBytes.{Appends}
-use Rattle.image_loader.specs.Entries.{Entry}
+use Rattle.profile.specs.images.Entries.{Entry}
 use Rattle.profile.specs.Output.{AddsFront}
 use Rattle.profile.specs.Pulls.{PullsAtMost}
 use Rattle.command_shell.specs.Fronts.{HasSome}

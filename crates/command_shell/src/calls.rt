@@ -12,7 +12,7 @@ ghost use Rattle.swi_dispatch_guest.specs.GuestState.{state_of};
 
 use crate::answers::{print_error, print_ok, print_stop};
 use crate::session::Session;
-use image_loader::Images;
+use profile::images::Images;
 use profile::{Sink, Stop, WriteFault, push_all};
 use swi_dispatch::Machine;
 
@@ -52,7 +52,7 @@ pub enum CallEnd {
 }
 
 impl Session {
-    ghost use Rattle.image_loader.specs.Entries.{Entry};
+    ghost use Rattle.profile.specs.images.Entries.{Entry};
     ghost use Rattle.swi_dispatch_guest.specs.Step.{machine_step};
     ghost use Rattle.command_shell.specs.Calls.{call_made, call_done, call_end, call_text, end_answer, answer_after_steps};
     ghost use Rattle.command_shell.specs.Calls.{first_step, step_made, stop_answer, stop_before_step};

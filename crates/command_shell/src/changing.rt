@@ -11,7 +11,7 @@ use swi_dispatch::{BreakError, Machine};
 use swi_dispatch_guest::{Mode, Psr};
 
 impl Session {
-    ghost use Rattle.image_loader.specs.Entries.{Entry};
+    ghost use Rattle.profile.specs.images.Entries.{Entry};
     ghost use Rattle.command_shell.specs.Memory.{script_after_poke, script_at, script_unhalted, script_started_anew, script_with_bank_register};
     ghost use Rattle.command_shell.specs.Memory.{script_with_budget, script_with_last, script_with_register, script_with_status};
     ghost use Rattle.command_shell.specs.Session.{script_state};

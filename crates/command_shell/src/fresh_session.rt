@@ -8,7 +8,7 @@ use std::alloc::{AllocError, Global};
 use swi_dispatch::Machine;
 
 impl Session {
-    ghost use Rattle.image_loader.specs.Entries.{Entry};
+    ghost use Rattle.profile.specs.images.Entries.{Entry};
     ghost use Rattle.command_shell.specs.Session.{script_state};
     ghost use Rattle.command_shell.specs.State.{script_start_state};
 

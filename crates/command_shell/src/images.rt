@@ -12,13 +12,13 @@ use crate::error::RunError;
 use crate::session::Session;
 use assembler::{AsmError, Program, Reason, assemble_lines};
 use command_shell_lines::{Block, Origin, read_block, skip_block};
-use image_loader::{ImageError, Images};
+use profile::images::{ImageError, Images};
 use profile::text_lines::Lines;
 use profile::{Sink, WriteFault};
 use swi_dispatch::BootError;
 
 impl Session {
-    ghost use Rattle.image_loader.specs.Entries.{refusal_for};
+    ghost use Rattle.profile.specs.images.Entries.{refusal_for};
     ghost use Rattle.command_shell.specs.Images.{asm_answer, asm_block, hex_answer, hex_block, image_sized, boot_answer};
     ghost use Rattle.command_shell.specs.Session.{script_state};
     ghost use Rattle.command_shell.specs.State.{IsAnswered};

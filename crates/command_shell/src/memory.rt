@@ -8,7 +8,7 @@ use command_shell_lines::{RegisterNumber, WordAddress};
 use profile::{Sink, WriteFault};
 
 impl Session {
-    ghost use Rattle.image_loader.specs.Entries.{Entry};
+    ghost use Rattle.profile.specs.images.Entries.{Entry};
     ghost use Rattle.command_shell.specs.Memory.{set_answer, poke_answer};
     ghost use Rattle.command_shell.specs.Session.{script_state};
     ghost use Rattle.command_shell.specs.State.{IsAnswered};

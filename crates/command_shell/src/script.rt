@@ -10,7 +10,7 @@ ghost use Rattle.command_shell.specs.Whole.{AnswersWhole};
 use crate::error::RunError;
 use crate::session::Session;
 use command_shell_lines::{command_of, read_script};
-use image_loader::Images;
+use profile::images::Images;
 use profile::text_lines::Lines;
 use profile::{Config, Sink, Source, Stop};
 use std::alloc::Global;

@@ -9,7 +9,7 @@ use crate::answers::print_unknown;
 use crate::calls::OutsideCall;
 use crate::error::RunError;
 use command_shell_lines::{ScriptCommand, command_of};
-use image_loader::Images;
+use profile::images::Images;
 use profile::text_lines::Lines;
 use profile::{Sink, Stop};
 use std::alloc::Global;
@@ -27,7 +27,7 @@ pub struct Session {
 }
 
 impl Session {
-    ghost use Rattle.image_loader.specs.Entries.{Entry};
+    ghost use Rattle.profile.specs.images.Entries.{Entry};
     ghost use Rattle.command_shell_lines.specs.Requests.{opens_block, request_of, request_of_command};
     ghost use Rattle.command_shell.specs.Script.{request_answer, takes_memory};
     ghost use Rattle.command_shell.specs.Session.{script_state, state_on};

@@ -7,12 +7,12 @@ ghost use Rattle.command_shell.specs.Stepping.{break_refusal_name};
 
 use crate::answers::{print_break, print_refused, print_stepped, print_stop, print_unbreak};
 use crate::session::Session;
-use image_loader::Images;
+use profile::images::Images;
 use profile::{Sink, WriteFault};
 use swi_dispatch::{BreakError, Ran};
 
 impl Session {
-    ghost use Rattle.image_loader.specs.Entries.{Entry};
+    ghost use Rattle.profile.specs.images.Entries.{Entry};
     ghost use Rattle.command_shell.specs.Session.{script_state};
     ghost use Rattle.command_shell.specs.State.{IsAnswered};
     ghost use Rattle.command_shell.specs.Stepping.{run_answer, step_answer, break_answer, unbreak_answer};

@@ -12,7 +12,7 @@ use debugger::{
 use profile::{Sink, WriteFault};
 
 impl Session {
-    ghost use Rattle.image_loader.specs.Entries.{Entry};
+    ghost use Rattle.profile.specs.images.Entries.{Entry};
     ghost use Rattle.command_shell.specs.Session.{script_state};
     ghost use Rattle.command_shell.specs.State.{IsAnswered};
     ghost use Rattle.command_shell.specs.Views.{regs_answer, mem_answer, code_answer, heap_answer, areas_answer, modules_answer};

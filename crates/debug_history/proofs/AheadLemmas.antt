@@ -4,7 +4,7 @@ use Rattle.std.specs.Prelude.{nat_le, set}
 use Rattle.std.proofs.Math.Seq.{drop-append_seam, take-append_seam, take-length}
 use Rattle.std.proofs.lemmas.Bool.Decides.{nat_tests}
 use Rattle.std.proofs.lemmas.List.{append-nil, drop_all, drop_more, length-take-le, set_at, take-append-drop}
-use Rattle.image_loader.specs.Entries.{Entry}
+use Rattle.profile.specs.images.Entries.{Entry}
 use Rattle.command_shell_lines.specs.declared.debug_words.stubs.Stub.{Stub}
 use Rattle.profile.specs.Sizes.{Sizes}
 use Rattle.debug_history.specs.Acts.{PastMoment, moment_after_acts, moment_after_deed, moment_after_steps, steps_act, steps_of_acts, steps_of_deed, stubs_of_deed}

@@ -9,7 +9,7 @@ use Rattle.profile.specs.Sizes.{Sizes}
 use Rattle.debug_history.specs.declared.act.Act.{Act}
 use Rattle.arm_core.specs.declared.breaks.breaks.BreakError.{BreakError}
 use Rattle.arm_core.specs.breaks.Breaks.{with_break, without_break}
-use Rattle.image_loader.specs.Entries.{Entry, bytes_of_image, can_name_image, refusal_for, with_entry, without_entry}
+use Rattle.profile.specs.images.Entries.{Entry, bytes_of_image, can_name_image, refusal_for, with_entry, without_entry}
 use Rattle.profile.specs.declared.fault.Fault.{Fault}
 use Rattle.command_shell.specs.Boot.{machine_after_boot}
 use Rattle.command_shell.specs.BootError.{BootError}
@@ -17,8 +17,8 @@ use Rattle.command_shell.specs.MachineState.{MachineState, StepOutcome}
 use Rattle.command_shell.specs.Step.{module_loaded, store_called}
 use Rattle.command_shell.specs.Writes.{machine_after_poke}
 use Rattle.command_shell.specs.Halt.{Halt}
-use Rattle.image_loader.specs.declared.error.ImageError.{ImageError}
-use Rattle.image_loader.specs.declared.error.ImageError.TheVariants.{BadName, NameTaken, TooLarge, TableFull}
+use Rattle.profile.specs.declared.images.error.ImageError.{ImageError}
+use Rattle.profile.specs.declared.images.error.ImageError.TheVariants.{BadName, NameTaken, TooLarge, TableFull}
 use Rattle.debug_lines.specs.LineKinds.{is_refused_block}
 use Rattle.assembler.specs.declared.error.AsmError.{AsmError}
 use Rattle.assembler.specs.Passes.{means_lines}

@@ -2,7 +2,7 @@
 use Rattle.std.proofs.Common.{◌≡◌, ◌<◌, ◌≤◌, ℕ, Bool, true, false, zero, suc, ◌+◌, Option, Some, None, List, [], ◌∷◌, ◌++◌, length, take, drop, refl, sym, ◌∙◌, ap, arith}
 use Rattle.std.specs.Prelude.{MatchOption, nat_lt}
 use Rattle.std.specs.Option.{option_or}
-use Rattle.image_loader.specs.Entries.{Entry}
+use Rattle.profile.specs.images.Entries.{Entry}
 use Rattle.profile.specs.Sizes.{Sizes}
 use Rattle.debug_history.specs.Acts.{PastMoment, moment_after_acts, moment_after_deed, steps_of_acts, steps_of_deed}
 use Rattle.debug_history.specs.Laws.{IsFoundAt, LastIsTheGreatest, passes_at, passes_first}

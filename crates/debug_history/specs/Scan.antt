@@ -1,7 +1,7 @@
 -- How far a search is, which goes from the start to the end.
 use Rattle.std.specs.Prelude.{ℕ, ◌+◌, List, Option}
 use Rattle.std.specs.Option.{option_or}
-use Rattle.image_loader.specs.Entries.{Entry}
+use Rattle.profile.specs.images.Entries.{Entry}
 use Rattle.profile.specs.Sizes.{Sizes}
 use Rattle.debug_history.specs.Acts.{PastMoment, moment_after_acts, steps_of_acts}
 use Rattle.debug_history.specs.Search.{last_found, value_in}

@@ -1,7 +1,7 @@
 -- The machine after so many steps, with stubs for SWIs that it doesn't have, if there are some. A machine
 -- that is halted stays as it is.
 use Rattle.std.specs.Prelude.{◌≡◌, ℕ, zero, suc, ◌-◌, List, []}
-use Rattle.image_loader.specs.Entries.{Entry}
+use Rattle.profile.specs.images.Entries.{Entry}
 use Rattle.command_shell_lines.specs.declared.debug_words.stubs.Stub.{Stub}
 use Rattle.command_shell.specs.MachineState.{MachineState}
 use Rattle.command_shell.specs.Run.{ran}

@@ -13,8 +13,8 @@ use crate::kept_stubs::KeptStubs;
 use command_shell::{Nowhere, OutsideCall, RunError, Session};
 use command_shell_lines::ScriptCommand;
 use debug_tables::byte_writes::put_bytes;
-use image_loader::Images;
 use profile::WriteFault;
+use profile::images::Images;
 use profile::text_lines::Lines;
 
 // Takes so many steps again, past all breaks: with stubs one by one.

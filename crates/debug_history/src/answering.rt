@@ -7,7 +7,7 @@ ghost use Rattle.debug_history.specs.Answers.{back_until, last_in_past, past_aft
 ghost use Rattle.debug_history.specs.Past.{line_of_last_act};
 ghost use Rattle.debug_history.specs.declared.search.Sought.TheVariants.{Stood};
 ghost use Rattle.debug_labels.specs.place_views.Places.{where_text};
-ghost use Rattle.image_loader.specs.Entries.{Entry};
+ghost use Rattle.profile.specs.images.Entries.{Entry};
 ghost use Rattle.command_shell.specs.GuestState.{state_of};
 
 use crate::lines::{PastCommand, past_line};
@@ -18,8 +18,8 @@ use command_shell::{Machine, RunError, Session};
 use command_shell_lines::debug_words::{no_history, push_step, undone_line, when_line};
 use debug_labels::LabelTable;
 use debug_labels::place_views::{line_on, show_where};
-use image_loader::Images;
 use profile::Config;
+use profile::images::Images;
 use profile::text_sink::TextSink;
 use std::alloc::{AllocError, Global};
 

@@ -5,7 +5,7 @@ ghost use Rattle.command_shell.specs.Session.{script_state};
 ghost use Rattle.command_shell_lines.specs.Requests.{request_of_command};
 ghost use Rattle.debug_lines.specs.SteppingRequests.{stepping_request_of};
 ghost use Rattle.debug_history.specs.Noted.{has_returned, is_faulted, past_after_request, past_after_stepping, past_with_call, past_with_deed, past_with_gosub, past_with_steps, past_with_stubbed, steps_before};
-ghost use Rattle.image_loader.specs.Entries.{Entry};
+ghost use Rattle.profile.specs.images.Entries.{Entry};
 
 use crate::act::{Act, PastDeed};
 use crate::kept_stubs::KeptStubs;

@@ -11,7 +11,7 @@ ghost use Rattle.debug_history.specs.Past.{acts_before_line, acts_from, acts_unt
 use crate::act::Act;
 use crate::again::acts_again;
 use command_shell::{RunError, Session};
-use image_loader::Images;
+use profile::images::Images;
 use profile::{Config, Stop};
 use std::alloc::{AllocError, Global};
 use std::marker::Model;

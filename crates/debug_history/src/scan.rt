@@ -16,7 +16,7 @@ use crate::past::{Past, count_steps};
 use crate::search::{PastFound, Sought};
 use command_shell::{Machine, Nowhere, RunError, Session};
 use debug_tables::Stubs;
-use image_loader::Images;
+use profile::images::Images;
 use profile::{Config, WriteFault};
 use std::alloc::Global;
 

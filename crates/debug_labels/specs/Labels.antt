@@ -1,8 +1,8 @@
 -- The labels of images that were assembled, image by image, in the order in which they were.
 use Rattle.std.specs.Prelude.{ℕ, ◌-◌, not, List, filter, length, map, Option, Some, None, Result, Ok, Err}
 use Rattle.std.specs.Str.{bytes_eq}
-use Rattle.image_loader.specs.module_header.Header.{header_of}
-use Rattle.image_loader.specs.declared.module_header.header.Header.{Header}
+use Rattle.profile.specs.images.module_header.Header.{header_of}
+use Rattle.profile.specs.declared.images.module_header.header.Header.{Header}
 use Rattle.assembler_text.specs.naming.Labels.{Entries}
 
 -- An image's name, its header where it is a module, where it was assembled and how many bytes it

@@ -2,10 +2,10 @@
 
 ghost use Rattle.std.specs.Prelude.{◌≡◌, ◌++◌, ◌∷◌, [], bytes_eq, IfOk, OnOk, OnErr};
 ghost use Rattle.debug_labels.specs.Labels.{labels_behind, labels_of_image, ok_of, without_labels};
-ghost use Rattle.image_loader.specs.module_header.Header.{header_of};
+ghost use Rattle.profile.specs.images.module_header.Header.{header_of};
 
 use assembler_text::naming::Labels;
-use image_loader::module_header::Header;
+use profile::images::module_header::Header;
 use std::alloc::{AllocError, Global};
 use std::marker::Model;
 

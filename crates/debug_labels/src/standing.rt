@@ -6,8 +6,8 @@ ghost use Rattle.debug_labels.specs.Standing.{is_titled};
 ghost use Rattle.instances_table.specs.Lookup.{shown_of_module};
 
 use crate::labels::LabelledImage;
-use image_loader::module_header::Header;
 use instances::{Instances, ModuleInfo};
+use profile::images::module_header::Header;
 
 impl LabelledImage {
     ghost use Rattle.debug_labels.specs.Standing.{is_loaded_from, place_now, start_as, module_start, start_now};

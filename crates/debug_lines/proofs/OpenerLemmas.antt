@@ -6,7 +6,7 @@ use Rattle.std.specs.Prelude.{◌==◌, ◌&&◌, ◌||◌, not, nat_lt, codes, 
 use Rattle.command_shell_lines.specs.Numbers.{script_number}
 use Rattle.command_shell_lines.specs.Operands.{cpu_register_named, word_address, count_up_to}
 use Rattle.command_shell_lines.specs.Requests.{Request, Nothing, Boot, Run, Regs, Areas, Modules, Flex, Unknown, Load, Call, Step, Break, Unbreak, Heap, Set, Poke, Mem, Code, both_numbered, is_load, is_same_word, opens_block, request_if_named, request_if_number, request_of, request_of_number, request_of_three, request_of_two, request_of_word, request_of_words, words}
-use Rattle.image_loader.specs.Entries.{can_name_image}
+use Rattle.profile.specs.images.Entries.{can_name_image}
 use Rattle.debug_lines.specs.DebugRequests.{DebugRequest, Script, Remark, NotKnown, bytes_request, debug_opens_block, debug_request, is_remark, is_script_request, own_request_behind, own_request_by, repeated_line, simple_request, simple_request_behind, trace_of_own, trace_of_words, traced_request, traced_script, untraced_request}
 use Rattle.command_shell_lines.specs.debug_words.Texts.{text_behind}
 use Rattle.debug_lines.specs.Openers.{is_opener_letter, may_open_block}

@@ -5,7 +5,7 @@ use Rattle.command_shell_lines.specs.Numbers.{script_number}
 use Rattle.command_shell_lines.specs.Operands.{word_address, origin_of, count_up_to}
 use Rattle.command_shell_lines.specs.Requests.{Poke, Set, is_same_word, opens_block, words}
 use Rattle.command_shell_lines.specs.Requests as script
-use Rattle.image_loader.specs.Entries.{can_name_image}
+use Rattle.profile.specs.images.Entries.{can_name_image}
 use Rattle.debug_lines.specs.DebugRequests.{DebugRequest, Script, Stepping, Mode, Counts, Forget, Reset, Quit, View, NotKnown, expect_line, own_request_behind, Banks, Frames, Help, Labels, Stack, Where, Why, named_call, dump_at, gosub_to, help_of, script_of_two, is_frames_word, mode_line, of_image, put_at, Write, bytes_request, bytes_request_by, fill_of, find_of, poke_by, poke_of, write_at, own_request_of_four, own_request_of_three, own_request_of_two, own_request_of_word, own_request_of_words, set_pc_to, set_psr_to, set_request, stack_of, words_at, trace_last, trace_of_words, trace_limit, trace_step}
 use Rattle.debug_lines.specs.Expectations.{ExpectRequest, expect_request}
 use Rattle.command_shell_lines.specs.debug_words.SwiNames.{swi_named}

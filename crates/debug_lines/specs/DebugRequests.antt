@@ -2,7 +2,7 @@
 -- none is made tidy and looked at further. Command words may be in upper or lower case.
 use Rattle.std.specs.Prelude.{ℕ, Bool, true, false, ◌==◌, ◌&&◌, ◌||◌, ◌+◌, nat_lt, not, List, [], ◌∷◌, codes, drop, take, is_some, Option, Some, None, if◌then◌else◌}
 use Rattle.std.specs.List.{position}
-use Rattle.image_loader.specs.Entries.{can_name_image}
+use Rattle.profile.specs.images.Entries.{can_name_image}
 use Rattle.command_shell_lines.specs.Numbers.{script_number}
 use Rattle.command_shell_lines.specs.Operands.{word_address, origin_of, count_up_to}
 use Rattle.command_shell_lines.specs.Requests.{Request, Call, Poke, Set, Unknown, opens_block, request_of, request_of_command, is_same_word, words}

@@ -5,7 +5,7 @@ ghost use Rattle.command_shell_lines.specs.Requests.{opens_block, request_of_com
 ghost use Rattle.debug_lines.specs.LineKinds.{asks_nothing, is_named_image, takes_steps};
 
 use command_shell_lines::ScriptCommand;
-use image_loader::Images;
+use profile::images::Images;
 
 /// Whether a line asks for nothing.
 pub fn asks_nothing(command: &ScriptCommand) -> bool

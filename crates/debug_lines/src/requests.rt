@@ -4,7 +4,7 @@ ghost use Rattle.std.specs.Prelude.{◌≡◌, option_map};
 ghost use Rattle.command_shell_lines.specs.Numbers.{script_number};
 ghost use Rattle.command_shell_lines.specs.Operands.{word_address, count_up_to, origin_of};
 ghost use Rattle.command_shell_lines.specs.Requests.{request_of, request_of_command, words};
-ghost use Rattle.image_loader.specs.Entries.{can_name_image};
+ghost use Rattle.profile.specs.images.Entries.{can_name_image};
 ghost use Rattle.debug_lines.specs.DebugRequests.{is_script_request, is_remark, untraced_request, expect_line, own_request_of_words, of_image, is_frames_word, own_request_of_word, own_request_of_two, own_request_of_three, own_request_of_four, named_call, dump_at, gosub_to, help_of, mode_line, put_at, stack_of, words_at, debug_request_of_command};
 ghost use Rattle.debug_lines.specs.Expectations.{expect_request};
 ghost use Rattle.command_shell_lines.specs.debug_words.Forms.{form_of_word};
@@ -20,7 +20,7 @@ use crate::status::StatusPattern;
 use crate::stepping::SteppingCommand;
 use command_shell_lines::debug_words::{form_of_word, swi_named, text_behind};
 use command_shell_lines::{Origin, ScriptCommand, WordAddress, command_of, count_up_to, number_of};
-use image_loader::is_image_name;
+use profile::images::is_image_name;
 
 /// The most words that a line shows.
 const MAX_WORDS_SHOWN: u32 = 1024;

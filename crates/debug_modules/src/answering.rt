@@ -1,7 +1,7 @@
 //! Lines that enter the code of modules are answered.
 
 ghost use Rattle.std.specs.Prelude.{◌≡◌, List, option_map, IfOk, OnOk};
-ghost use Rattle.image_loader.specs.Entries.{Entry};
+ghost use Rattle.profile.specs.images.Entries.{Entry};
 ghost use Rattle.command_shell.specs.Session.{script_state};
 ghost use Rattle.debug_modules.specs.Answers.{IsModuleAnswered, command_answered, command_called, command_put, code_error_text, module_line_answered, modes_after_modules, past_after_modules, script_after_modules, service_answered, shown_of};
 ghost use Rattle.debug_modules.specs.Taking.{HasLineSteps};
@@ -18,7 +18,7 @@ use debug_modes::{DebugModes, form_line, refused_line, view_text};
 use debug_runs::LineAnswer;
 use debug_tables::byte_writes::put_bytes;
 use debug_tables::run_meter::Session;
-use image_loader::Images;
+use profile::images::Images;
 use std::alloc::{AllocError, Global};
 
 /// What such a line is answered.

@@ -1,7 +1,7 @@
 //! The code of a module is entered from outside, as a routine.
 
 ghost use Rattle.std.specs.Prelude.{◌≡◌, ◌≤◌, List, IfOk, OnOk};
-ghost use Rattle.image_loader.specs.Entries.{Entry};
+ghost use Rattle.profile.specs.images.Entries.{Entry};
 ghost use Rattle.command_shell.specs.Memory.{script_with_register, script_with_status};
 ghost use Rattle.command_shell.specs.Session.{script_state};
 ghost use Rattle.debug_history.specs.Noted.{past_with_deed};
@@ -18,7 +18,7 @@ use debug_lines::SteppingCommand;
 use debug_modes::DebugModes;
 use debug_runs::LineAnswer;
 use debug_tables::run_meter::Session;
-use image_loader::Images;
+use profile::images::Images;
 use std::alloc::{AllocError, Global};
 
 /// Code that is to be entered, and what R0, R1 and R12 are there.

@@ -7,7 +7,7 @@ ghost use Rattle.command_shell.specs.Session.{script_state};
 ghost use Rattle.command_shell.specs.State.{ScriptState};
 ghost use Rattle.debug_history.specs.Past.{PastState};
 ghost use Rattle.debug_modes.specs.declared.modes.DebugModes.{DebugModes};
-ghost use Rattle.image_loader.specs.Entries.{Entry};
+ghost use Rattle.profile.specs.images.Entries.{Entry};
 ghost use Rattle.debug_modules.specs.Services.{claimed_text, is_service_meant, is_served, served_at, served_by, service_called, service_code, service_ended, service_state};
 ghost use Rattle.debug_modules.specs.Taking.{HasLineSteps};
 
@@ -20,8 +20,8 @@ use debug_labels::{Instances, LabelTable, ModuleInfo};
 use debug_modes::DebugModes;
 use debug_runs::LineAnswer;
 use debug_tables::run_meter::{Machine, Session};
-use image_loader::Images;
 use instances_table::Name;
+use profile::images::Images;
 use profile::memory_map::PRIVATE_WORDS;
 use std::alloc::{AllocError, Global};
 

@@ -1,7 +1,7 @@
 //! Steps that a line takes, and what is kept of them.
 
 ghost use Rattle.std.specs.Prelude.{◌≡◌, List, IfOk};
-ghost use Rattle.image_loader.specs.Entries.{Entry};
+ghost use Rattle.profile.specs.images.Entries.{Entry};
 ghost use Rattle.command_shell.specs.Session.{script_state};
 ghost use Rattle.debug_lines.specs.SteppingRequests.{stepping_request_of};
 ghost use Rattle.debug_modules.specs.Taking.{HasLineSteps, line_steps};
@@ -12,7 +12,7 @@ use debug_lines::SteppingCommand;
 use debug_modes::DebugModes;
 use debug_runs::{LineAnswer, answer_stepping};
 use debug_tables::run_meter::Session;
-use image_loader::Images;
+use profile::images::Images;
 use std::alloc::{AllocError, Global};
 
 /// Takes the steps of a line, traced or not, as many as are left of the budget, and keeps what they did.

@@ -6,7 +6,7 @@ use Rattle.std.proofs.lemmas.Bool.{cases_order}
 use Rattle.std.proofs.Math.Seq.{take-append_seam, drop-append_seam}
 use Rattle.std.specs.Io.KnownBytes.{Appends}
 use Rattle.std.specs.Str.Lines.{lines}
-use Rattle.image_loader.specs.Entries.{Entry}
+use Rattle.profile.specs.images.Entries.{Entry}
 use Rattle.profile.proofs.OutputLemmas.{AddsAllBut-start, Appends-join}
 use Rattle.profile.specs.Output.{AddsFront}
 use Rattle.profile.specs.text_lines.WholeLines.{line_of_some, unended_line, whole_lines}

@@ -6,7 +6,7 @@ use Rattle.std.specs.Str.Lines.{lines}
 use Rattle.std.proofs.KnownBytes.{Consumes-nil, Consumes-trans}
 use Rattle.debug_session.specs.RunError.{RunError}
 use Rattle.debug_session.specs.RunError.TheVariants.{WriteFault}
-use Rattle.image_loader.specs.Entries.{Entry}
+use Rattle.profile.specs.images.Entries.{Entry}
 use Rattle.profile.specs.Devices.{device_inner}
 use Rattle.profile.specs.Output.{AddsAllBut, AddsFront}
 use Rattle.profile.specs.declared.device.Device.{Device}

@@ -9,7 +9,7 @@ use Rattle.std.specs.Io.KnownBytes.{Appends}
 use Rattle.std.specs.List.{flat_map}
 use Rattle.std.specs.Str.Lines.{lines}
 use Rattle.profile.proofs.OutputLemmas.{Appends-join, Appends-nothing}
-use Rattle.image_loader.specs.Entries.{Entry}
+use Rattle.profile.specs.images.Entries.{Entry}
 use Rattle.profile.specs.text_lines.Lines.{ReadingPlace}
 use Rattle.debug_session.specs.Error.{IsLineError}
 use Rattle.debug_session.specs.RunError.{RunError}

@@ -2,7 +2,7 @@
 -- on in what is typed.
 use Rattle.std.specs.Prelude.{◌≡◌, ℕ, ◌==◌, not, Bool, true, false, List, [], ◌∷◌, ◌++◌, Option, None, IfSome, if◌then◌else◌}
 use Rattle.std.specs.Io.KnownBytes.{Appends}
-use Rattle.image_loader.specs.Entries.{Entry}
+use Rattle.profile.specs.images.Entries.{Entry}
 use Rattle.debug_lines.specs.DebugRequests.{DebugRequest, Script, Stepping}
 use Rattle.debug_lines.specs.SteppingRequests as stepping
 use Rattle.command_shell_lines.specs.Requests as script

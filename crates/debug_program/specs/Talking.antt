@@ -3,7 +3,7 @@
 use Rattle.std.specs.Prelude.{◌≡◌, ◌⊎◌, ℕ, Bool, true, false, List, ◌++◌, Option, IfSome}
 use Rattle.std.specs.Io.KnownBytes.{Appends, Consumes}
 use Rattle.std.specs.Str.Lines.{lines}
-use Rattle.image_loader.specs.Entries.{Entry}
+use Rattle.profile.specs.images.Entries.{Entry}
 use Rattle.profile.specs.Output.{AddsAllBut, AddsFront}
 use Rattle.debug_session.specs.DebugScript.{debug_lines_answer, debug_script_answer, then_summary}
 use Rattle.debug_session.specs.DebugState.{DebugAnswered}

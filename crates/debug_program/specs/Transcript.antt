@@ -3,7 +3,7 @@ use Rattle.std.specs.Prelude.{◌≡◌, ◌⊎◌, ℕ, true, List, [], ◌++�
 use Rattle.std.specs.Io.KnownBytes.{Appends}
 use Rattle.std.specs.List.{flat_map}
 use Rattle.std.specs.Str.Lines.{lines}
-use Rattle.image_loader.specs.Entries.{Entry}
+use Rattle.profile.specs.images.Entries.{Entry}
 use Rattle.debug_session.specs.DebugScript.{debug_lines_answer}
 use Rattle.debug_session.specs.DebugState.{DebugAnswered, debug_start_state}
 use Rattle.debug_session.specs.Reports.{summary_text}

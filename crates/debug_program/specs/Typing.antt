@@ -2,7 +2,7 @@
 use Rattle.std.specs.Prelude.{◌≡◌, ◌<◌, ◌≤◌, ℕ, ◌+◌, ◌^◌, ◌⊎◌, true, false, List, ◌++◌, length, take, drop, IfSome, Option}
 use Rattle.profile.specs.Output.{AddsFront}
 use Rattle.std.specs.Str.Lines.{lines}
-use Rattle.image_loader.specs.Entries.{Entry}
+use Rattle.profile.specs.images.Entries.{Entry}
 use Rattle.debug_lines.specs.BlockEnds.{missing_ends_if, shown_beyond}
 use Rattle.debug_lines.specs.WholeDebugRequests.{AreWholeDebugRequests}
 use Rattle.debug_session.specs.DebugScript.{debug_lines_answer}

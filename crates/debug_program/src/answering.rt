@@ -10,7 +10,7 @@ ghost use Rattle.debug_program.specs.Answering.{place_of_answering, shown_with_b
 
 use crate::front_lines::cut_lines;
 use debug_session::DebugSession;
-use image_loader::Images;
+use profile::images::Images;
 use profile::text_lines::Lines;
 use profile::text_sink::TextSink;
 use std::alloc::{AllocError, Global};

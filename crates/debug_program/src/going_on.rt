@@ -8,7 +8,7 @@ use crate::talk::{answer_pieces, talk};
 use crate::typing::DebugTyping;
 use crate::whole_lines::WholeLines;
 use debug_session::RunError;
-use image_loader::Images;
+use profile::images::Images;
 use profile::{Device, Sink, Source};
 use std::io::Write;
 

@@ -11,7 +11,7 @@ ghost use Rattle.debug_program.specs.Talking.{BeginsInput, DebugsInput, HasTalke
 
 use crate::typing::DebugTyping;
 use debug_session::{ReportForm, RunError, push_missing_end};
-use image_loader::Images;
+use profile::images::Images;
 use profile::{Device, Sink, Source, WriteFault, push_all};
 use std::io::Write;
 

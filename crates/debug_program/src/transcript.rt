@@ -14,7 +14,7 @@ use crate::answering::{AnsweredLine, ScriptAnswering};
 use crate::spelling::{Side, push_side};
 use command_shell_lines::read_script;
 use debug_session::{DebugSession, DebugSettings, RunError};
-use image_loader::Images;
+use profile::images::Images;
 use profile::text_sink::TextSink;
 use profile::{Sink, Source, WriteFault};
 use std::alloc::{AllocError, Global};

@@ -11,8 +11,8 @@ ghost use Rattle.profile.specs.Output.{AddsFront};
 
 use debug_lines::{missing_ends, read_requests};
 use debug_session::{DebugSession, DebugSettings, RunError};
-use image_loader::Images;
 use profile::Sink;
+use profile::images::Images;
 use profile::text_lines::{Lines, cut_line};
 use std::alloc::{AllocError, Global};
 
@@ -51,7 +51,7 @@ impl TypedPiece {
 }
 
 impl DebugTyping {
-    ghost use Rattle.image_loader.specs.Entries.{Entry};
+    ghost use Rattle.profile.specs.images.Entries.{Entry};
     ghost use Rattle.debug_session.specs.DebugScript.{debug_lines_answer};
     ghost use Rattle.debug_session.specs.DebugState.{IsDebugged, debug_start_state};
     ghost use Rattle.debug_program.specs.Typing.{HasTooLong, IsTakenInPart};

@@ -19,7 +19,7 @@ use Rattle.debug_session.specs.DebugScript.{debug_line_answer}
 use Rattle.debug_session.specs.DebugState.{DebugState, debug_start_state}
 use Rattle.debug_session.specs.Naming.{if_repeatable, meant_request, naming_of, repeated_now, repeated_with_places}
 use Rattle.debug_session.specs.declared.session.DebugSettings.{DebugSettings}
-use Rattle.image_loader.specs.Entries.{Entry}
+use Rattle.profile.specs.images.Entries.{Entry}
 use Rattle.debug_records.specs.AnsweredLines.{RecordedLine, answer_by, AreLinesBetween, RecordingState, again_or_next, answered_state, behind, limit_after, next_answered, next_line, no_more, once, request_meant, state_behind, step_number, steps_asked, steps_of_line, then_line, this_time, typed_line}
 use Rattle.debug_records.specs.LineRecords.{Adds, AreRecorded, AreRecords, RecordForm, forms_of, line_forms, no_records}
 use Rattle.debug_records.specs.Recording.{recording_start, without_past}

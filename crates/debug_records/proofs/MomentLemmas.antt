@@ -4,7 +4,7 @@ use Rattle.std.specs.Prelude.{◌||◌, codes, not, IfSome}
 use Rattle.std.proofs.lemmas.Bool.{cases_Bool, false≢true, le-ltb, lt-ltb}
 use Rattle.std.proofs.lemmas.List.{append-nil}
 use Rattle.arm_core.specs.State.{State}
-use Rattle.image_loader.specs.Entries.{Entry}
+use Rattle.profile.specs.images.Entries.{Entry}
 use Rattle.command_shell.specs.MachineState.{MachineState, StepOutcome}
 use Rattle.command_shell.specs.Step.{machine_step}
 use Rattle.command_shell_lines.specs.declared.debug_words.stubs.Stub.{Stub}

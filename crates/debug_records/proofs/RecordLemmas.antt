@@ -6,7 +6,7 @@ use Rattle.profile.specs.text_sink.Safe.{AddsSafe, is_safe}
 use Rattle.trace_effects.specs.record_text.Spelling.{comma_before}
 use Rattle.trace_effects.proofs.RecordTextLemmas.WritingLemmas.{nothing_adds, then_added, then_adds}
 use Rattle.std.specs.Str.Lines.{lines}
-use Rattle.image_loader.specs.Entries.{Entry}
+use Rattle.profile.specs.images.Entries.{Entry}
 use Rattle.debug_session.specs.DebugState.{DebugState}
 use Rattle.debug_session.specs.declared.session.DebugSettings.{DebugSettings}
 use Rattle.debug_records.specs.AnsweredLines.{RecordingState}

@@ -1,6 +1,6 @@
 -- What a step of the twin leaves of its machine.
 use Rattle.std.proofs.Common.{◌≡◌, ◌∙◌, ℕ, List, Option, Some, None, refl, sym, ap}
-use Rattle.image_loader.specs.Entries.{Entry}
+use Rattle.profile.specs.images.Entries.{Entry}
 use Rattle.command_shell.specs.Calls.{first_step, outside_called, step_made}
 use Rattle.command_shell.specs.MachineState.{MachineState, StepOutcome}
 use Rattle.command_shell.specs.Memory.{script_with_budget}

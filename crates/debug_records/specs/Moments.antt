@@ -4,7 +4,7 @@
 -- of the machine after.
 use Rattle.std.specs.Prelude.{◌≡◌, ℕ, ◌+◌, min, ◌-◌, ◌%◌, ◌<◌, ◌^◌, ◌==◌, nat_lt, Bool, true, false, is_some, List, [], ◌∷◌, ◌++◌, codes, Option, Some, None, IfSome}
 use Rattle.std.specs.Fmt.{decimal}
-use Rattle.image_loader.specs.Entries.{Entry}
+use Rattle.profile.specs.images.Entries.{Entry}
 use Rattle.command_shell.specs.Calls.{outside_called}
 use Rattle.command_shell.specs.MachineState.{MachineState}
 use Rattle.command_shell.specs.declared.calls.OutsideCall.{OutsideCall}

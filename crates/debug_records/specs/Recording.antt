@@ -1,6 +1,6 @@
 -- How far a script is recorded, as the code holds it.
 use Rattle.std.specs.Prelude.{false, List, ℕ}
-use Rattle.image_loader.specs.Entries.{Entry}
+use Rattle.profile.specs.images.Entries.{Entry}
 use Rattle.profile.specs.text_lines.Lines.{ReadingPlace}
 use Rattle.debug_session.specs.DebugState.{debug_start_state}
 use Rattle.debug_session.specs.Session.{debug_state}

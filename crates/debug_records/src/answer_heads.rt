@@ -3,7 +3,7 @@
 ghost use Rattle.std.specs.Prelude.{◌≡◌, ◌==◌, ◌++◌, List, true, codes, IfOk, OnOk};
 ghost use Rattle.std.specs.List.{position};
 ghost use Rattle.trace_effects.specs.record_text.Spelling.{string_text};
-ghost use Rattle.image_loader.specs.Entries.{Entry};
+ghost use Rattle.profile.specs.images.Entries.{Entry};
 ghost use Rattle.debug_session.specs.Session.{debug_state};
 ghost use Rattle.debug_records.specs.AnswerHeads.{answer_fields, answer_head, expect_field, is_remark_use, is_stepping_use, reason_from, reason_in, refused_field, steps_field, text_field, without_end};
 

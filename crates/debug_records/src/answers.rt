@@ -1,7 +1,7 @@
 //! The answer to a line, recorded.
 
 ghost use Rattle.std.specs.Prelude.{◌≡◌, ◌==◌, ◌&&◌, not, List, OnOk};
-ghost use Rattle.image_loader.specs.Entries.{Entry};
+ghost use Rattle.profile.specs.images.Entries.{Entry};
 ghost use Rattle.debug_session.specs.Session.{debug_state};
 ghost use Rattle.debug_records.specs.AnswerHeads.{answer_fields, answer_head, is_remark_use, is_reset_use, is_stepping_use};
 ghost use Rattle.debug_records.specs.LineRecords.{Adds, Changes, IsOfForm, IsRecord, answer_form};
@@ -15,8 +15,8 @@ use crate::records::{push_moment, push_record, push_whole};
 use command_shell::RunError;
 use command_shell_lines::skip_block;
 use debug_session::DebugSession;
-use image_loader::Images;
 use profile::Sink;
+use profile::images::Images;
 use profile::text_lines::{Lines, cut};
 use std::alloc::{AllocError, Global};
 use trace_effects::record_text::{Bracket, RecordText};

@@ -1,7 +1,7 @@
 //! How the records of a script begin and end.
 
 ghost use Rattle.std.specs.Prelude.{◌≡◌, ◌++◌, List, [], true, false, codes, IfOk, OnOk};
-ghost use Rattle.image_loader.specs.Entries.{Entry};
+ghost use Rattle.profile.specs.images.Entries.{Entry};
 ghost use Rattle.debug_records.specs.LineRecords.{Adds, IsRecord};
 ghost use Rattle.debug_records.specs.Records.{IsLastRecord, first_head, last_record, record_sizes};
 ghost use Rattle.debug_session.specs.Session.{debug_state};

@@ -1,7 +1,7 @@
 //! One line of a script, recorded.
 
 ghost use Rattle.std.specs.Prelude.{◌≡◌, ◌<◌, ◌-◌, ◌++◌, ◌==◌, false, true, take, List, Some, IfOk, OnOk, option_map, is_some, if◌then◌else◌};
-ghost use Rattle.image_loader.specs.Entries.{Entry};
+ghost use Rattle.profile.specs.images.Entries.{Entry};
 ghost use Rattle.command_shell_lines.specs.Blocks.{lines_in_block};
 ghost use Rattle.command_shell_lines.specs.Requests.{opens_block, request_of_command};
 ghost use Rattle.debug_lines.specs.DebugRequests.{Script, debug_opens_block};

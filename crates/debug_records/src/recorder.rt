@@ -6,7 +6,7 @@ ghost use Rattle.debug_records.specs.Recording.{recording_start, recording_state
 use crate::ends::FIRST_LIMIT;
 use crate::images::KnownImage;
 use debug_session::{DebugSession, DebugSettings};
-use image_loader::Images;
+use profile::images::Images;
 use std::alloc::{AllocError, Global};
 use trace_effects::record_text::RecordText;
 

@@ -12,8 +12,8 @@ use crate::ends::{record_end, record_start};
 use crate::recorder::Recorder;
 use command_shell::RunError;
 use debug_session::DebugSettings;
-use image_loader::Images;
 use profile::Sink;
+use profile::images::Images;
 use profile::text_lines::Lines;
 use std::alloc::Global;
 

@@ -13,7 +13,7 @@ use Rattle.profile.specs.declared.reason.HeapReason.{HeapReason}
 use Rattle.profile.specs.declared.reason.HeapReason.TheVariants as reason
 use Rattle.profile.specs.declared.swi.SwiName.{SwiName}
 use Rattle.profile.specs.declared.swi.SwiName.TheVariants as swi
-use Rattle.image_loader.specs.Entries.{Entry}
+use Rattle.profile.specs.images.Entries.{Entry}
 use Rattle.address_map.specs.Bytes.{Bytes, in_range, word_at, word_loaded, word_start}
 use Rattle.address_map.specs.Items.{is_heap_word, is_head, size_of}
 use Rattle.arm_core.specs.Conditions.{condition_holds}

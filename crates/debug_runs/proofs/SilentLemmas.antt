@@ -9,7 +9,7 @@ use Rattle.profile.specs.MemoryMap.{return_gate}
 use Rattle.profile.specs.declared.stop.Stop.{Stop}
 use Rattle.profile.specs.declared.stop.Stop.TheVariants as stop
 use Rattle.debug_labels.specs.Labels.{ImageLabels}
-use Rattle.image_loader.specs.Entries.{Entry}
+use Rattle.profile.specs.images.Entries.{Entry}
 use Rattle.swi_dispatch_guest.proofs.LawFramesLemmas.Keeping.{only_the_gate_closes}
 use Rattle.swi_dispatch_guest.specs.SwiDispatchAnswersFrame.{Frame}
 use Rattle.swi_dispatch_guest.specs.declared.halt.Halt.{Halt}

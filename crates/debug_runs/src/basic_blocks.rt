@@ -2,7 +2,7 @@
 //! last of them at least, so that no watched word changes, and where each step begins is known.
 
 ghost use Rattle.std.specs.Prelude.{◌≡◌, ◌≤◌, ◌<◌, ◌+◌, ◌*◌, ◌-◌, ◌^◌, ℕ, Option, None, false, List, IfOk, OnOk};
-ghost use Rattle.image_loader.specs.Entries.{Entry};
+ghost use Rattle.profile.specs.images.Entries.{Entry};
 ghost use Rattle.command_shell.specs.Session.{script_state};
 ghost use Rattle.debug_tables.specs.counts.Counts.{steps_counted};
 ghost use Rattle.debug_labels.specs.Labels.{ImageLabels};

@@ -2,7 +2,7 @@
 
 use debug_labels::LabelTable;
 use debug_tables::StepModes;
-use image_loader::Images;
+use profile::images::Images;
 
 /// What the steps of a line are taken with: the images that SWIs load, the stubs and watches, and
 /// the labels that a trace names.

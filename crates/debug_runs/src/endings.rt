@@ -1,7 +1,7 @@
 //! How the end of a line that takes steps is shown.
 
 ghost use Rattle.std.specs.Prelude.{◌≡◌, List, OnOk};
-ghost use Rattle.image_loader.specs.Entries.{Entry};
+ghost use Rattle.profile.specs.images.Entries.{Entry};
 ghost use Rattle.profile.specs.Output.{Writes};
 ghost use Rattle.command_shell.specs.Answers.{refused_text};
 ghost use Rattle.command_shell.specs.Session.{script_state};

@@ -1,7 +1,7 @@
 //! The lines of a debugging script that take steps, traced or not, with stubs and watches.
 
 ghost use Rattle.std.specs.Prelude.{◌≡◌, ◌≤◌, ◌<◌, ◌-◌, ◌%◌, ◌^◌, [], List, length, IfOk, OnOk};
-ghost use Rattle.image_loader.specs.Entries.{Entry};
+ghost use Rattle.profile.specs.images.Entries.{Entry};
 ghost use Rattle.command_shell.specs.Calls.{first_step, stop_before_step_by};
 ghost use Rattle.command_shell.specs.Session.{script_state};
 ghost use Rattle.debug_runs.specs.Calls.{outside_start_text};
@@ -25,7 +25,7 @@ use debug_lines::SteppingCommand;
 use debug_tables::StepModes;
 use debug_tables::counts::StepCounts;
 use debug_tables::routines::{caller_of, enter};
-use image_loader::Images;
+use profile::images::Images;
 use profile::text_sink::TextSink;
 use profile::{Stop, WriteFault};
 use std::alloc::{AllocError, Global};

@@ -1,7 +1,7 @@
 //! Runs of a debugger, step by step.
 
 ghost use Rattle.std.specs.Prelude.{◌≡◌, ◌≤◌, ◌<◌, ◌-◌, ℕ, List, None, IfOk, OnOk};
-ghost use Rattle.image_loader.specs.Entries.{Entry};
+ghost use Rattle.profile.specs.images.Entries.{Entry};
 ghost use Rattle.command_shell.specs.Calls.{first_step};
 ghost use Rattle.command_shell.specs.Session.{script_state};
 ghost use Rattle.command_shell.specs.State.{ScriptState};

@@ -2,7 +2,7 @@
 
 ghost use Rattle.std.specs.Prelude.{◌≡◌, ◌≤◌, ◌<◌, ◌-◌, ◌++◌, ◌∷◌, [], ℕ, Option, None, true, false, List};
 ghost use Rattle.debug_labels.specs.Labels.{ImageLabels};
-ghost use Rattle.image_loader.specs.Entries.{Entry};
+ghost use Rattle.profile.specs.images.Entries.{Entry};
 ghost use Rattle.command_shell.specs.Session.{script_state};
 ghost use Rattle.debug_runs.specs.Silent.{IsAfterSilentUpTo, stay_open};
 ghost use Rattle.debug_runs.specs.Runs.{are_unseen, end_of_unseen, run_unless, steps_run};

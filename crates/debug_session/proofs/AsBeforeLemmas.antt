@@ -4,7 +4,7 @@ use Rattle.std.specs.Prelude.{◌&&◌, is_none, nat_lt, if◌then◌else◌}
 use Rattle.std.proofs.lemmas.Bool.{cases_Bool}
 use Rattle.std.proofs.lemmas.List.{append-nil}
 use Rattle.assembler.specs.declared.error.AsmError.{AsmError}
-use Rattle.image_loader.specs.Entries.{Entry}
+use Rattle.profile.specs.images.Entries.{Entry}
 use Rattle.debug_tables.specs.BlockErrors.{block_errors, further_errors, is_assembled, next_error, with_others}
 use Rattle.debug_tables.specs.BlockErrorTexts.{text_with_errors}
 use Rattle.debug_tables.proofs.BlockErrorLemmas.{nothing_behind}

@@ -22,7 +22,7 @@ use Rattle.debug_history.specs.Noted.{is_faulted, past_after_request, past_with_
 use Rattle.debug_history.specs.Past.{PastState, past_from_start}
 use Rattle.debug_history.specs.declared.act.PastDeed.{PastDeed}
 use Rattle.debug_history.specs.declared.act.PastDeed.TheVariants.{Anew}
-use Rattle.image_loader.specs.Entries.{Entry}
+use Rattle.profile.specs.images.Entries.{Entry}
 use Rattle.debug_tables.specs.run_meter.Session.{script_state}
 use Rattle.debug_session.specs.DebugState.{DebugAnswered, DebugState, IsDebugged, debug_answer}
 use Rattle.debug_session.specs.Session.{debug_state}

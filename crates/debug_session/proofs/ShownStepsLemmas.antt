@@ -4,7 +4,7 @@ use Rattle.std.specs.Prelude.{codes, is_some}
 use Rattle.std.specs.Option.{option_map}
 use mir.Val.{bool_byte}
 use Rattle.std.proofs.lemmas.List.{append-nil, drop_all, drop_more}
-use Rattle.image_loader.specs.Entries.{Entry}
+use Rattle.profile.specs.images.Entries.{Entry}
 use Rattle.profile.specs.declared.stop.Stop.{Stop}
 use Rattle.command_shell_lines.specs.declared.debug_words.stubs.Stub.{Stub}
 use Rattle.debug_labels.specs.Labels.{ImageLabels}

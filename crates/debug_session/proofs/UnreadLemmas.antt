@@ -9,8 +9,8 @@ use Rattle.debug_tables.specs.run_meter.Boot.{machine_after_boot}
 use Rattle.debug_tables.specs.run_meter.BootError.{BootError}
 use Rattle.arm_core.specs.breaks.Breaks.{with_break, without_break}
 use Rattle.arm_core.specs.declared.breaks.breaks.BreakError.{BreakError}
-use Rattle.image_loader.specs.Entries.{bytes_of_image, refusal_for}
-use Rattle.image_loader.specs.declared.error.ImageError.{ImageError}
+use Rattle.profile.specs.images.Entries.{bytes_of_image, refusal_for}
+use Rattle.profile.specs.declared.images.error.ImageError.{ImageError}
 use Rattle.profile.specs.declared.fault.Fault.{Fault}
 use Rattle.debug_tables.specs.run_meter.MachineState.{MachineState}
 use Rattle.debug_tables.specs.run_meter.Writes.{machine_after_poke}

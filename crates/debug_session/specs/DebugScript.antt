@@ -2,7 +2,7 @@
 -- line of a script is answered as in a script, but that each line may take the whole budget.
 use Rattle.std.specs.Prelude.{ℕ, zero, suc, ◌+◌, ◌-◌, ◌&&◌, ◌||◌, Bool, true, false, not, List, [], ◌∷◌, ◌++◌, length, codes, Option, Some, None, Result, Ok, Err, is_some, nat_lt, option_map, if◌then◌else◌}
 use Rattle.std.specs.Str.Lines.{lines}
-use Rattle.image_loader.specs.Entries.{Entry, bytes_of_image, without_entry}
+use Rattle.profile.specs.images.Entries.{Entry, bytes_of_image, without_entry}
 use Rattle.debug_tables.specs.byte_writes.Put.{script_after_put}
 use Rattle.command_shell_lines.specs.debug_words.NamedBytes.{bytes_written, named_bytes, or_no_bytes}
 use Rattle.profile.specs.FaultNames.{fault_name}

@@ -2,7 +2,7 @@
 -- is that line, and any other is read with the numbers of the places.
 use Rattle.std.specs.Prelude.{ℕ, List, ◌++◌, ◌∷◌, [], Option, Some, None, Result, Ok, if◌then◌else◌}
 use Rattle.std.specs.Option.{option_or}
-use Rattle.image_loader.specs.Entries.{Entry, bytes_of_image}
+use Rattle.profile.specs.images.Entries.{Entry, bytes_of_image}
 use Rattle.assembler.specs.Passes.{labels_of_lines}
 use Rattle.assembler.specs.declared.error.AsmError.{AsmError}
 use Rattle.assembler_text.specs.naming.Labels.{Entries}

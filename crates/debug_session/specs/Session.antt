@@ -1,6 +1,6 @@
 -- The state of a debugging script, as the code holds it: the session and the images.
 use Rattle.std.specs.Prelude.{List}
-use Rattle.image_loader.specs.Entries.{Entry}
+use Rattle.profile.specs.images.Entries.{Entry}
 use Rattle.debug_tables.specs.run_meter.Session.{script_state}
 use Rattle.debug_session.specs.DebugState.{DebugState}
 use Rattle.debug_session.specs.declared.session.DebugSession.{DebugSession}

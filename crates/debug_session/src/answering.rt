@@ -15,13 +15,13 @@ use debug_lines::{
     repeated_line, repeated_text, simple_command, tidied,
 };
 use debug_tables::run_meter::RunError;
-use image_loader::Images;
 use profile::Sink;
+use profile::images::Images;
 use profile::text_lines::Lines;
 use std::alloc::AllocError;
 
 impl DebugSession {
-    ghost use Rattle.image_loader.specs.Entries.{Entry};
+    ghost use Rattle.profile.specs.images.Entries.{Entry};
     ghost use Rattle.debug_lines.specs.DebugRequests.{debug_opens_block, debug_request_of_command, is_known, is_repeatable, own_request, simple_request};
     ghost use Rattle.debug_lines.specs.Repeats.{count_and_line};
     ghost use Rattle.debug_session.specs.DebugScript.{debug_line_answer, line_opens, repeated_answer, simple_line_answer, simple_request_answer, tidy_line_answer};

@@ -14,8 +14,8 @@ use debug_modes::refused_line;
 use debug_runs::{StepCounts, answer_stepping};
 use debug_tables::StepModes;
 use debug_tables::run_meter::{RunError, Session};
-use image_loader::Images;
 use profile::Stop;
+use profile::images::Images;
 
 impl DebugSession {
     /// The last so many of the steps that were taken, as TRACE shows them. All that was done to the machine

@@ -12,7 +12,7 @@ use std::alloc::{AllocError, Global};
 
 impl DebugSession {
     ghost use Rattle.debug_modes.specs.Modes.{answer_of_line};
-    ghost use Rattle.image_loader.specs.Entries.{Entry};
+    ghost use Rattle.profile.specs.images.Entries.{Entry};
     ghost use Rattle.debug_session.specs.Looking.{words_meant};
     ghost use Rattle.debug_session.specs.Naming.{naming_of};
     ghost use Rattle.debug_session.specs.Session.{debug_state};

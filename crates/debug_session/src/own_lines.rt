@@ -13,13 +13,13 @@ use debug_modes::expectations::{SeenMachine, check, halting_fault, push_halted, 
 use debug_modes::{forget_text, form_line, put_text, refused_line, text_of, view_text};
 use debug_tables::byte_writes::{find_text, put_bytes};
 use debug_tables::run_meter::RunError;
-use image_loader::Images;
+use profile::images::Images;
 use profile::text_sink::TextSink;
 use profile::{Sink, WriteFault};
 use std::alloc::AllocError;
 
 impl DebugSession {
-    ghost use Rattle.image_loader.specs.Entries.{Entry};
+    ghost use Rattle.profile.specs.images.Entries.{Entry};
     ghost use Rattle.debug_history.specs.Past.{past_from_start};
     ghost use Rattle.debug_history.specs.declared.act.PastDeed.TheVariants.{Place};
     ghost use Rattle.debug_tables.specs.run_meter.Memory.{script_at, script_started_anew};

@@ -7,7 +7,7 @@ use debug_labels::ImagePlace;
 use debug_labels::place_views::names_on;
 use debug_lines::RepeatedLine;
 use debug_tables::Stubs;
-use image_loader::Images;
+use profile::images::Images;
 use profile::{Sink, WriteFault};
 use std::alloc::AllocError;
 
@@ -16,7 +16,7 @@ impl DebugSession {
     ghost use Rattle.debug_session.specs.Naming.{naming_of, repeated_now};
     ghost use Rattle.debug_session.specs.Session.{debug_state};
     ghost use Rattle.debug_tables.specs.run_meter.Session.{script_state};
-    ghost use Rattle.image_loader.specs.Entries.{Entry};
+    ghost use Rattle.profile.specs.images.Entries.{Entry};
 
     /// Where the image of a name stands now, of those that were assembled.
     pub fn image_place(&self, name: &[u8]) -> Option<ImagePlace> {

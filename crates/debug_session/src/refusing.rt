@@ -11,13 +11,13 @@ use debug_modes::expectations::reports::push_refusal;
 use debug_modes::{refusal_line, unknown_line};
 use debug_modules::{ModuleAnswer, answer_module_line};
 use debug_tables::run_meter::RunError;
-use image_loader::Images;
 use profile::Sink;
+use profile::images::Images;
 use profile::text_sink::TextSink;
 use std::alloc::AllocError;
 
 impl DebugSession {
-    ghost use Rattle.image_loader.specs.Entries.{Entry};
+    ghost use Rattle.profile.specs.images.Entries.{Entry};
     ghost use Rattle.debug_session.specs.DebugScript.{module_line_answer, past_line_answer, unknown_answer};
     ghost use Rattle.debug_session.specs.DebugState.{IsDebugged};
     ghost use Rattle.debug_session.specs.Naming.{naming_of};

@@ -21,7 +21,7 @@ use debug_modes::expectations::reports::{push_answer, push_refusal};
 use debug_modes::expectations::{answer_parts, push_line_answer};
 use debug_tables::run_meter::{RunError, answer_metered};
 use debug_tables::with_errors;
-use image_loader::Images;
+use profile::images::Images;
 use profile::text_lines::Lines;
 use profile::text_sink::TextSink;
 use profile::{Sink, WriteFault};
@@ -32,7 +32,7 @@ impl DebugSession {
     ghost use Rattle.debug_tables.specs.run_meter.Memory.{script_with_budget};
     ghost use Rattle.debug_tables.specs.run_meter.Session.{script_state};
     ghost use Rattle.debug_tables.specs.run_meter.State.{IsAnswered};
-    ghost use Rattle.image_loader.specs.Entries.{Entry};
+    ghost use Rattle.profile.specs.images.Entries.{Entry};
     ghost use Rattle.debug_session.specs.DebugScript.{plain_line_answer, script_line_answer_by, answer_or_refused};
     ghost use Rattle.debug_session.specs.DebugState.{IsDebugged};
     ghost use Rattle.debug_session.specs.Session.{debug_state};

@@ -10,7 +10,7 @@ use debug_labels::LabelTable;
 use debug_modes::DebugModes;
 use debug_modes::expectations::reports::{CheckTally, ReportForm, push_summary};
 use debug_tables::run_meter::{RunError, RunMeter, Session};
-use image_loader::Images;
+use profile::images::Images;
 use profile::stop::stop_status;
 use profile::text_lines::Lines;
 use profile::{Config, Sink, WriteFault};
@@ -55,7 +55,7 @@ pub struct DebugSession {
 
 impl DebugSession {
     ghost use Rattle.debug_tables.specs.run_meter.Memory.{script_with_budget};
-    ghost use Rattle.image_loader.specs.Entries.{Entry};
+    ghost use Rattle.profile.specs.images.Entries.{Entry};
     ghost use Rattle.debug_session.specs.DebugScript.{debug_lines_answer};
     ghost use Rattle.debug_session.specs.DebugState.{IsDebugged, debug_start_state};
     ghost use Rattle.debug_session.specs.Failing.{ReportsWriteFault};

@@ -14,13 +14,13 @@ use debug_modes::expectations::reports::push_answer;
 use debug_modules::take_steps;
 use debug_tables::block_errors::errors_of_block;
 use debug_tables::run_meter::RunError;
-use image_loader::Images;
+use profile::images::Images;
 use profile::text_lines::Lines;
 use profile::{Sink, WriteFault};
 use std::alloc::AllocError;
 
 impl DebugSession {
-    ghost use Rattle.image_loader.specs.Entries.{Entry};
+    ghost use Rattle.profile.specs.images.Entries.{Entry};
     ghost use Rattle.debug_session.specs.DebugScript.{counts_answer, line_in_modes_answer, mode_line_answer, script_line_answer, with_block_noted, stepping_line_answer, stepping_now, stepping_answer_by};
     ghost use Rattle.debug_session.specs.DebugState.{IsDebugged};
     ghost use Rattle.debug_session.specs.Session.{debug_state};

@@ -27,7 +27,7 @@ use Rattle.arm_decode.specs.declared.action.Action.TheVariants as action
 use Rattle.arm_decode.specs.declared.condition.Condition.{Condition}
 use Rattle.arm_decode.specs.declared.form.Form.{Form}
 use Rattle.arm_decode.specs.declared.form.Form.TheVariants as form
-use Rattle.image_loader.specs.Entries.{Entry}
+use Rattle.profile.specs.images.Entries.{Entry}
 use Rattle.instances_table.specs.Lookup.{handler_of}
 use Rattle.command_shell.specs.MachineState.{MachineState, StepOutcome, silent, with_memory}
 use Rattle.command_shell.specs.Step.{machine_step, result_of_instruction, without_x}

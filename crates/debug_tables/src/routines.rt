@@ -1,7 +1,7 @@
 //! A routine of the guest's that is called from outside.
 
 ghost use Rattle.std.specs.Prelude.{◌≡◌, ◌<◌, ◌%◌, ◌^◌, List};
-ghost use Rattle.image_loader.specs.Entries.{Entry};
+ghost use Rattle.profile.specs.images.Entries.{Entry};
 ghost use Rattle.profile.specs.Output.{Writes};
 ghost use Rattle.command_shell.specs.Session.{script_state};
 ghost use Rattle.debug_tables.specs.Routines.{caller_in, returned_text, script_at_routine, script_back, step_count_text};

@@ -2,7 +2,7 @@
 
 ghost use Rattle.std.specs.Prelude.{◌≡◌, ◌<◌, true, List, OnOk, OnErr};
 ghost use Rattle.std.specs.Io.KnownBytes.{Appends};
-ghost use Rattle.image_loader.specs.Entries.{Entry};
+ghost use Rattle.profile.specs.images.Entries.{Entry};
 ghost use Rattle.command_shell.specs.Calls.{step_made};
 ghost use Rattle.command_shell.specs.Session.{script_state};
 ghost use Rattle.debug_tables.specs.Stubs.{script_after_deed, script_with_settings, stubbed_step};
@@ -11,7 +11,7 @@ use crate::byte_writes::put_bytes;
 use crate::stub_deeds::{BankSetting, StubDeed};
 use crate::stubs::Stubs;
 use command_shell::Session;
-use image_loader::Images;
+use profile::images::Images;
 use profile::{Sink, WriteFault};
 
 impl Stubs {

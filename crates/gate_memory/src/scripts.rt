@@ -3,7 +3,7 @@
 use crate::outcome::{CallOutcome, take_and_give_back};
 use crate::rows::Row;
 use command_shell::{RunError, run_script};
-use image_loader::Images;
+use profile::images::Images;
 use profile::{Config, MemorySink, MemorySource};
 use std::alloc::Global;
 

@@ -5,7 +5,7 @@ use crate::outcome::{CallOutcome, take_and_give_back};
 use debugger::{
     show_areas, show_blocks, show_code, show_flex, show_memory, show_modules, show_regs,
 };
-use image_loader::Images;
+use profile::images::Images;
 use profile::{Config, MemorySink, WriteFault};
 use std::alloc::Global;
 use swi_dispatch::Machine;

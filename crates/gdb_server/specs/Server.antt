@@ -1,7 +1,7 @@
 -- The state of a server, as the code holds it.
 use Rattle.std.specs.Prelude.{◌≡◌, ℕ, List, Option}
 use Rattle.std.specs.Io.KnownBytes.{Appends}
-use Rattle.image_loader.specs.Entries.{Entry}
+use Rattle.profile.specs.images.Entries.{Entry}
 use Rattle.gdb_machine.specs.Loads.{load_state}
 use Rattle.gdb_server.specs.Serving.{ServerState, Served}
 use Rattle.gdb_server.specs.declared.server.GdbServer.{GdbServer}

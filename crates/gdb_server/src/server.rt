@@ -12,7 +12,7 @@ use crate::session::{GdbAnswer, GdbSession};
 use command_shell::RunError;
 use gdb_machine::Loads;
 use gdb_packets::{PacketReader, Piece, extends, is_taken_so, keeps_acks, push_packet, request_in};
-use image_loader::Images;
+use profile::images::Images;
 use profile::text_sink::TextSink;
 use profile::{Sink, WriteFault, push_all};
 use std::alloc::Global;
@@ -39,7 +39,7 @@ pub struct GdbServer {
 }
 
 impl GdbServer {
-    ghost use Rattle.image_loader.specs.Entries.{Entry};
+    ghost use Rattle.profile.specs.images.Entries.{Entry};
     ghost use Rattle.gdb_server.specs.Server.{IsServed, server_state};
     ghost use Rattle.gdb_packets.specs.Ahead.{is_run_ahead};
     ghost use Rattle.gdb_server.specs.Serving.{byte_served, packet_served, bytes_served, spoilt_served, stop_served, unasked_served};

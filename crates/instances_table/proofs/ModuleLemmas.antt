@@ -4,7 +4,7 @@ use Rattle.std.specs.Prelude.{Option, slice_get, nat_lt, codes}
 use Rattle.std.specs.List.{list_any}
 use Rattle.std.specs.Str.{str_eq_ignore_ascii_case}
 use Rattle.std.proofs.lemmas.Bool.{cases_Bool, eqb-true, eq-eqb, or_parts, lt-ltb, ltb-true}
-use Rattle.image_loader.specs.declared.module_header.header.Header.{Header}
+use Rattle.profile.specs.declared.images.module_header.header.Header.{Header}
 use Rattle.instances_table.specs.declared.parts.Image.{Image}
 use Rattle.instances_table.specs.Modules.{Instance, Module, has_title, has_name, has_slot, has_instance, number_passing, slot_count, IsModule, EachIsModule, AreModules, changed_at}
 use Rattle.instances_table.specs.Changes.{is_slot_held, is_new, is_named, module_has_slot, new_module, with_instance, with_preferred, with_image_at}

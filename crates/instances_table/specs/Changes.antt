@@ -3,10 +3,10 @@
 -- project's own).
 use Rattle.std.specs.Prelude.{ℕ, ◌≡◌, ◌≤◌, ◌<◌, Bool, false, filter, not, length, ◌+◌, ◌==◌, ◌&&◌, nat_lt, List, [], ◌∷◌, ◌++◌, map, Option, Some, None, ok_or, slice_get, Result, Ok, Err, zero, suc, codes, if◌then◌else◌}
 use Rattle.std.specs.List.{list_any}
-use Rattle.image_loader.specs.module_header.Outcome.{bind}
-use Rattle.image_loader.specs.module_header.ProfileErrorNumber.{ErrorNumber}
-use Rattle.image_loader.specs.module_header.ProfileErrorNumber.TheVariants.{ModuleNotFound, InstanceExists, InstanceTableFull}
-use Rattle.image_loader.specs.declared.module_header.header.Header.{Header}
+use Rattle.profile.specs.images.module_header.Outcome.{bind}
+use Rattle.profile.specs.images.module_header.ProfileErrorNumber.{ErrorNumber}
+use Rattle.profile.specs.images.module_header.ProfileErrorNumber.TheVariants.{ModuleNotFound, InstanceExists, InstanceTableFull}
+use Rattle.profile.specs.declared.images.module_header.header.Header.{Header}
 use Rattle.instances_table.specs.declared.parts.Image.{Image}
 use Rattle.instances_table.specs.declared.parts.NewInstance.{NewInstance}
 use Rattle.instances_table.specs.Modules.{Instance, Module, has_title, has_name, has_slot, has_instance, changed_at}

@@ -3,9 +3,9 @@
 -- title is this project's own.
 use Rattle.std.specs.Prelude.{ℕ, Bool, ◌+◌, ◌==◌, ◌&&◌, nat_le, List, length, take, drop, Option, Some, None, Result, Ok, Err, if◌then◌else◌}
 use Rattle.std.specs.List.{position, list_all}
-use Rattle.image_loader.specs.module_header.ProfileErrorNumber.{ErrorNumber}
-use Rattle.image_loader.specs.module_header.ProfileErrorNumber.TheVariants.{BadString}
-use Rattle.image_loader.specs.module_header.Title.{is_title_byte}
+use Rattle.profile.specs.images.module_header.ProfileErrorNumber.{ErrorNumber}
+use Rattle.profile.specs.images.module_header.ProfileErrorNumber.TheVariants.{BadString}
+use Rattle.profile.specs.images.module_header.Title.{is_title_byte}
 
 -- no name stands after a title alone
 pub record FullName : Type 0 where

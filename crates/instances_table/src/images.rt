@@ -10,7 +10,7 @@ ghost use Rattle.instances_table.specs.Table.{Names, modules_of};
 use crate::loaded::{Loaded, MOST_INSTANCES, loaded_at, number_of_slot};
 use crate::parts::Image;
 use crate::table::InstanceTable;
-use image_loader::module_header::{RMA_MAXIMUM, RMA_START};
+use profile::images::module_header::{RMA_MAXIMUM, RMA_START};
 
 impl InstanceTable {
     /// The image that goes with the instance of a slot, if there is one: its module's, where it has

@@ -10,7 +10,7 @@ ghost use Rattle.instances_table.specs.Lookup.{handled_in, shown_of_module, inst
 use crate::names::name_of;
 use crate::parts::{Handler, Image, ModuleInfo, Name};
 use arrayvec::ArrayVec;
-use image_loader::module_header::Header;
+use profile::images::module_header::Header;
 
 /// The most instances of all modules, and so the most modules.
 pub const MOST_INSTANCES: usize = 64;

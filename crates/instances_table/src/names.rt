@@ -1,11 +1,11 @@
 //! Full names.
 ghost use Rattle.std.specs.Prelude.{◌≡◌, ◌≤◌, length, option_map};
 ghost use Rattle.std.specs.List.{list_all, position};
-ghost use Rattle.image_loader.specs.module_header.Title.{is_title_byte};
+ghost use Rattle.profile.specs.images.module_header.Title.{is_title_byte};
 ghost use Rattle.instances_table.specs.Names.{FullName, full_name_parts, is_percent, is_instance_name};
 
 use crate::parts::{MOST_NAME_BYTES, Name};
-use image_loader::module_header::is_title_byte;
+use profile::images::module_header::is_title_byte;
 
 /// A full name: a title, and the instance's name after the first `%`, if there is one.
 #[derive(Clone, Copy)]

@@ -12,5 +12,5 @@ pub mod plan;
 pub use action::PlanAction;
 pub use code::{Advance, Code, CodeKind, Ended, Outcome, private_word};
 pub use given::Given;
-pub use image_loader::module_header::{Header, HeaderFault};
 pub use plan::Plan;
+pub use profile::images::module_header::{Header, HeaderFault};

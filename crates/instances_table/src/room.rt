@@ -8,7 +8,7 @@ use crate::names::{FullName, is_instance_name, name_of};
 use crate::parts::NewInstance;
 use crate::table::InstanceTable;
 use arrayvec::ArrayVec;
-use image_loader::module_header::ErrorNumber;
+use profile::images::module_header::ErrorNumber;
 
 impl InstanceTable {
     /// Where a new instance of a module, `Title%Name`, is to go: it takes the lowest free slot.

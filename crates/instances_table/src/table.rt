@@ -14,7 +14,7 @@ use crate::loaded::{
 use crate::names::{FullName, name_of};
 use crate::parts::{Handler, Information, InstanceInfo, ModuleInfo, Name, Place};
 use arrayvec::ArrayVec;
-use image_loader::module_header::{ErrorNumber, Header};
+use profile::images::module_header::{ErrorNumber, Header};
 use std::array;
 use std::marker::Model;
 

@@ -18,3 +18,4 @@ pub mod SwiNames
 pub mod Word
 pub mod text_lines
 pub mod text_sink
+pub mod images

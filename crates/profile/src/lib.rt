@@ -11,6 +11,7 @@ pub mod digits;
 pub mod error;
 pub mod fault;
 pub mod image;
+pub mod images;
 pub mod memory_map;
 pub mod reason;
 pub mod sink;

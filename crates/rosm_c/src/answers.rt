@@ -6,7 +6,7 @@ ghost use Rattle.command_shell.specs.Script.{script_answer};
 ghost use Rattle.rosm_c.specs.Answers.{ShowsAnswersUnlessNone, room_with};
 
 use command_shell::{RunError, run_script};
-use image_loader::Images;
+use profile::images::Images;
 use profile::stop::stop_status;
 use profile::text_sink::TextSink;
 use profile::{Config, Device, Stop};

@@ -9,13 +9,13 @@ mod records;
 
 ghost use Rattle.std.specs.Prelude.{◌≡◌, ◌<◌, [], None, length, IfSome};
 ghost use Rattle.profile.specs.Sizes.{config_of};
-ghost use Rattle.image_loader.specs.Entries.{refusal_for, with_entry};
+ghost use Rattle.profile.specs.images.Entries.{refusal_for, with_entry};
 ghost use Rattle.command_shell.specs.Script.{script_answer};
 ghost use Rattle.rosm_c.specs.Answers.{ShowsAnswersUnlessNone, ShowsNothing, ShowsRecordsUnlessNone};
 
 use answers::{NOT_RUN, SIZES_REFUSED, refuse, write_answers};
-use image_loader::Images;
 use profile::Config;
+use profile::images::Images;
 use records::write_records;
 use std::alloc::Global;
 

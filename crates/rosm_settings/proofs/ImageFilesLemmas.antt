@@ -3,9 +3,9 @@ use Rattle.std.proofs.Common.{◌≡◌, ◌≤◌, ◌<◌, ◌∙◌, ◌+◌,
 use Rattle.std.proofs.lemmas.Bool.Decides.{nat_tests}
 use Rattle.std.proofs.lemmas.List.{append-nil, length-take, map-append, take_all, take_more}
 use Rattle.std.proofs.lemmas.Option.{get_or_from_slice_get, slice_get_within}
-use Rattle.image_loader.specs.Entries.{Entry, refusal_for, with_entry}
-use Rattle.image_loader.specs.declared.error.ImageError.{ImageError}
-use Rattle.image_loader.specs.declared.error.ImageError.TheVariants as image
+use Rattle.profile.specs.images.Entries.{Entry, refusal_for, with_entry}
+use Rattle.profile.specs.declared.images.error.ImageError.{ImageError}
+use Rattle.profile.specs.declared.images.error.ImageError.TheVariants as image
 use Rattle.std.specs.Path.{path_file_name}
 use Rattle.rosm_settings.specs.ImageFiles.{AddsFile, AddsFiles, AddsImageFile, RefusesImage, front_of, is_host_error, names_for, names_of}
 use Rattle.rosm_settings.specs.declared.image_files.FileError.TheVariants as file

@@ -4,8 +4,8 @@ use Rattle.std.specs.Prelude.{◌≡◌, ℕ, Bool, true, false, List, [], ◌�
 use Rattle.std.specs.Path.{path_file_name}
 use Rattle.std.specs.declared.io.ErrorKind.{ErrorKind}
 use Rattle.std.specs.declared.io.ErrorKind.TheVariants as kind
-use Rattle.image_loader.specs.Entries.{Entry, refusal_for, with_entry}
-use Rattle.image_loader.specs.declared.error.ImageError.TheVariants as image
+use Rattle.profile.specs.images.Entries.{Entry, refusal_for, with_entry}
+use Rattle.profile.specs.declared.images.error.ImageError.TheVariants as image
 use Rattle.rosm_settings.specs.declared.image_files.FileError.{FileError}
 use Rattle.rosm_settings.specs.declared.image_files.FileError.TheVariants as file
 use Rattle.rosm_settings.specs.declared.refusal.SettingsRefusal.{SettingsRefusal}

@@ -1,9 +1,9 @@
 -- What is shown of a refusal, in one line, for the person who ran the program.
 use Rattle.std.specs.Prelude.{ℕ, List, ◌++◌, Option, Some, codes, option_map, string_bytes}
 use Rattle.std.specs.Fmt.{debug_str}
-use Rattle.image_loader.specs.ErrorNames.{image_error_name}
-use Rattle.image_loader.specs.declared.error.ImageError.{ImageError}
-use Rattle.image_loader.specs.declared.error.ImageError.TheVariants as image
+use Rattle.profile.specs.images.ErrorNames.{image_error_name}
+use Rattle.profile.specs.declared.images.error.ImageError.{ImageError}
+use Rattle.profile.specs.declared.images.error.ImageError.TheVariants as image
 use Rattle.rosm_settings.specs.command_line.Texts.{usage_text}
 use Rattle.command_shell.specs.Error.{run_error_text}
 use Rattle.rosm_settings.specs.declared.image_files.FileError.{FileError}

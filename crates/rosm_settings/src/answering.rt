@@ -10,7 +10,7 @@ use crate::command_line::Settings;
 use crate::image_files::add_files;
 use crate::refusal::SettingsRefusal;
 use command_shell::{RunError, run_script};
-use image_loader::Images;
+use profile::images::Images;
 use profile::{Device, Sink, Source, Stop};
 use std::alloc::Global;
 use std::fs;

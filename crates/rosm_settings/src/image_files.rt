@@ -7,7 +7,7 @@ ghost use Rattle.rosm_settings.specs.Texts.{rule_text};
 
 use crate::command_line::Files;
 use crate::refusal::SettingsRefusal;
-use image_loader::{ImageError, Images};
+use profile::images::{ImageError, Images};
 use profile::memory_map::MOST_BYTES;
 use std::alloc::Global;
 use std::error::Error;

@@ -1,7 +1,7 @@
 //! The machine: how it is made and booted, one step of it, and calls from outside.
 
 ghost use Rattle.std.specs.Prelude.{◌≡◌, ◌&&◌, ◌==◌, ◌<◌, ◌≤◌, false, true, None, [], List, IfOk, IsSome, OnErr, OnOk, is_err};
-ghost use Rattle.image_loader.specs.Entries.{Entry};
+ghost use Rattle.profile.specs.images.Entries.{Entry};
 ghost use Rattle.std.specs.Option.{option_map};
 ghost use Rattle.profile.specs.Outcome.{Leaves};
 ghost use Rattle.swi_dispatch_guest.specs.Ending.{Ends, StandsAfter};
@@ -11,7 +11,7 @@ ghost use Rattle.swi_dispatch_guest.specs.Step.{machine_step, module_loaded, sto
 use crate::boot_error::BootError;
 use arm_core::breaks::Breaks;
 use arrayvec::ArrayVec;
-use image_loader::Images;
+use profile::images::Images;
 use profile::memory_map::PAGE_SIZE;
 use profile::{Config, Sink, Stop, WriteFault};
 use std::alloc::{AllocError, Global};

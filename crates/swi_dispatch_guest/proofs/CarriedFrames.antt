@@ -3,8 +3,8 @@
 use Rattle.std.proofs.Common.{◌≡◌, false, Option, Some, None, Ok, Err, List, ◌∷◌, refl, sym, ap, ◌∙◌}
 use Rattle.std.specs.Prelude.{IfSome, Result, is_some, if◌then◌else◌}
 use Rattle.arm_core.specs.State.{State}
-use Rattle.image_loader.specs.declared.module_header.fault.HeaderFault.{HeaderFault}
-use Rattle.image_loader.specs.declared.module_header.header.Header.{Header}
+use Rattle.profile.specs.declared.images.module_header.fault.HeaderFault.{HeaderFault}
+use Rattle.profile.specs.declared.images.module_header.header.Header.{Header}
 use Rattle.instances_table.specs.declared.plans.code.Code.{Code}
 use Rattle.instances_table.specs.plans.Plans.{Plan, first_action}
 use Rattle.instances_table.specs.Changes.{modules_of_title}

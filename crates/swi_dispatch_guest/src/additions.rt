@@ -2,7 +2,7 @@
 //! (RISC OS 3 Programmer's Reference Manual, "OS_Module", reasons 0, 1, 10 and 11).
 
 ghost use Rattle.std.specs.Prelude.{◌≡◌, ◌<◌, ◌^◌, false, true, Ok, OnErr};
-ghost use Rattle.image_loader.specs.module_header.Header.{header_of};
+ghost use Rattle.profile.specs.images.module_header.Header.{header_of};
 ghost use Rattle.instances.specs.Copies.{may_be_copied};
 ghost use Rattle.instances.specs.NewImages.{may_be_in_place};
 

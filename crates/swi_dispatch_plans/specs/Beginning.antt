@@ -7,8 +7,8 @@ use Rattle.instances_table.specs.plans.Doable.{is_used}
 use Rattle.instances_table.specs.plans.Plans.{Plan}
 use Rattle.instances.specs.Changes.{modules_of_title}
 use Rattle.instances.specs.Modules.{Module, slots_of}
-use Rattle.image_loader.specs.declared.module_header.fault.HeaderFault.{HeaderFault}
-use Rattle.image_loader.specs.declared.module_header.header.Header.{Header}
+use Rattle.profile.specs.declared.images.module_header.fault.HeaderFault.{HeaderFault}
+use Rattle.profile.specs.declared.images.module_header.header.Header.{Header}
 use Rattle.swi_dispatch_answers.specs.frames.Busy.{has_swi_of, is_swi}
 use Rattle.swi_dispatch_answers.specs.declared.frames.frame.Frame.{Frame}
 use Rattle.instances.specs.Naming.{slots_of_plan}

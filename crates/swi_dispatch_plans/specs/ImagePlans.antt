@@ -8,15 +8,15 @@ use Rattle.profile.specs.declared.error.ErrorNumber.{ErrorNumber}
 use Rattle.profile.specs.declared.error.ErrorNumber.TheVariants.{BadPointer, BadString, ImageUnknown, ModuleNotFound}
 use Rattle.address_map.specs.Bytes.{bytes_between}
 use Rattle.swi_dispatch_answers.specs.State.{register_of}
-use Rattle.image_loader.specs.Entries.{Entry, bytes_of_image}
+use Rattle.profile.specs.images.Entries.{Entry, bytes_of_image}
 use Rattle.instances.specs.Copies.{may_be_copied}
 use Rattle.instances.specs.NewImages.{may_be_in_place}
 use Rattle.instances_table.specs.plans.Plans.{Plan}
 use Rattle.instances.specs.Changes.{modules_of_title}
 use Rattle.instances.specs.Modules.{slots_of}
-use Rattle.image_loader.specs.declared.module_header.fault.HeaderFault.{HeaderFault}
-use Rattle.image_loader.specs.declared.module_header.header.Header.{Header}
-use Rattle.image_loader.specs.module_header.Header.{header_of}
+use Rattle.profile.specs.declared.images.module_header.fault.HeaderFault.{HeaderFault}
+use Rattle.profile.specs.declared.images.module_header.header.Header.{Header}
+use Rattle.profile.specs.images.module_header.Header.{header_of}
 use Rattle.swi_dispatch_answers.specs.Words.{name_part, text_part}
 use Rattle.instances.specs.Adding.{good_header, instantiation}
 use Rattle.swi_dispatch_plans.specs.Beginning.{SparesTitle}

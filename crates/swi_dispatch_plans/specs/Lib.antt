@@ -1,6 +1,6 @@
 -- OS_Module, what is refused first and what is planned. Begin with ModulePlans and ImagePlans.
 pub use Rattle.dynamic_areas.specs.Ground
-pub use Rattle.image_loader.specs.Entries
+pub use Rattle.profile.specs.images.Entries
 pub use Rattle.instances.specs.Reading
 pub use Rattle.instances.specs.declared.answers.Start
 pub use Rattle.instances.specs.module_state

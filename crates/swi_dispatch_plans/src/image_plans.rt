@@ -4,7 +4,7 @@
 ghost use Rattle.std.specs.Prelude.{◌≡◌, ◌≤◌, length, true, IfOk, Ok};
 ghost use Rattle.profile.specs.Outcome.{bind};
 ghost use Rattle.address_map.specs.Bytes.{AreMapped};
-ghost use Rattle.image_loader.specs.module_header.Header.{header_of};
+ghost use Rattle.profile.specs.images.module_header.Header.{header_of};
 ghost use Rattle.instances.specs.Copies.{may_be_copied};
 ghost use Rattle.instances.specs.NewImages.{may_be_in_place};
 ghost use Rattle.swi_dispatch_plans.specs.Beginning.{CanBegin, IsFree, SparesTitle};
@@ -12,11 +12,11 @@ ghost use Rattle.swi_dispatch_plans.specs.ImagePlans.{SparesRange, copy_asked, i
 ghost use Rattle.swi_dispatch_plans.specs.PlannerInput.{setting_in};
 
 use crate::planner::Planner;
-use image_loader::Images;
-use image_loader::module_header::Header;
 use instances::Rma;
 use instances_table::plans::Plan;
 use profile::ErrorNumber;
+use profile::images::Images;
+use profile::images::module_header::Header;
 use swi_dispatch_answers::words::{name_part, text_part};
 
 /// What a load is given.

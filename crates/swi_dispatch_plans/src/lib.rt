@@ -21,8 +21,8 @@ pub mod refusals;
 pub mod scratch;
 pub mod store;
 
-pub use image_loader::Images;
 pub use image_plans::{ImageFound, ImageRange, Load};
 pub use openings::{Opening, enter_as_user};
 pub use planner::Planner;
+pub use profile::images::Images;
 pub use scratch::Scratch;

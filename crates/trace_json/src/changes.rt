@@ -13,11 +13,11 @@ use crate::heaps::{BlockFate, push_changed_heaps};
 use crate::lists::{push_areas, push_modules};
 use arm_core::Cpu;
 use std::alloc::{AllocError, Global};
+use store_copies::StoreCopy;
 use swi_dispatch::Machine;
 use trace_effects::record_text::RecordText;
 use trace_effects::shown_registers::WrittenRegisters;
 use trace_effects::shown_words::changed_words;
-use store_copies::StoreCopy;
 use trace_moments::{
     ShownAreas, changed_areas, changed_modules, push_core_changes, push_words, shown_areas,
 };

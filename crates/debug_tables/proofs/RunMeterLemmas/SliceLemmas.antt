@@ -7,7 +7,7 @@ use Rattle.profile.proofs.OutputLemmas.{Appends-join}
 use Rattle.command_shell.specs.Answers.{stepped_text, stop_text}
 use Rattle.command_shell.specs.State.{IsAnswered, ScriptState}
 use Rattle.command_shell.specs.Stepping.{IsAfterRun, run_answer, script_after_run, script_run, step_answer}
-use Rattle.image_loader.specs.Entries.{Entry}
+use Rattle.profile.specs.images.Entries.{Entry}
 use Rattle.profile.specs.declared.stop.Stop.{Stop}
 use Rattle.profile.specs.declared.stop.Stop.TheVariants as stop
 use Rattle.command_shell.specs.Halt.{Halt}

@@ -5,7 +5,7 @@ ghost use Rattle.address_map.specs.Bytes.{store_fault as store_fault_shown, with
 ghost use Rattle.address_map.specs.Memory.{byte_at, bytes_of, is_owned};
 ghost use Rattle.debug_tables.specs.byte_writes.Put.{IsWordOf, bytes_fit, put_fault as put_fault_shown, script_after_put, script_with_bytes, word_count as word_count_shown, words_fault as words_fault_shown};
 ghost use Rattle.command_shell.specs.Session.{script_state};
-ghost use Rattle.image_loader.specs.Entries.{Entry};
+ghost use Rattle.profile.specs.images.Entries.{Entry};
 ghost use Rattle.profile.specs.Outcome.{Leaves};
 ghost use Rattle.command_shell.specs.GuestState.{state_of};
 

@@ -10,12 +10,12 @@ ghost use Rattle.command_shell.specs.State.{IsAnswered};
 ghost use Rattle.command_shell.specs.Stepping.{IsAfterRun, run_answer, script_run, step_answer};
 ghost use Rattle.command_shell_lines.specs.Blocks.{block_lines, lines_after, lines_taken};
 ghost use Rattle.command_shell_lines.specs.Requests.{opens_block, request_of_command};
-ghost use Rattle.image_loader.specs.Entries.{Entry};
+ghost use Rattle.profile.specs.images.Entries.{Entry};
 
 use crate::run_meter::meter::RunMeter;
 use command_shell::{RunError, Session, print_stepped, print_stop};
 use command_shell_lines::ScriptCommand;
-use image_loader::Images;
+use profile::images::Images;
 use profile::text_lines::Lines;
 use profile::{Sink, Stop, WriteFault};
 

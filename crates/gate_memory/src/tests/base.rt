@@ -1,7 +1,7 @@
 //! Sources and sinks, in memory and over readers and writers that fail, are interrupted or take
 //! nothing; and the texts of a module header's faults, which no program prints.
 
-use image_loader::module_header::HeaderFault;
+use profile::images::module_header::HeaderFault;
 use profile::{
     Device, MemorySink, MemorySource, ReadFault, Sink, Source, WriteFault, push_all, push_parts,
 };

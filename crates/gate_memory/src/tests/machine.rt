@@ -1,6 +1,6 @@
 //! A run whose writer fails loses the step that it was in, and no other.
 
-use image_loader::Images;
+use profile::images::Images;
 use profile::{Config, MemorySink, Stop};
 use std::alloc::Global;
 use std::test::Fail;

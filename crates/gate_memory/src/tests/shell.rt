@@ -1,7 +1,7 @@
 //! Scripts that can't be read, also where a reader never ends, or whose answers can't be written.
 
 use command_shell::{RunError, run_script};
-use image_loader::Images;
+use profile::images::Images;
 use profile::{Config, Device, MemorySink, MemorySource, Source};
 use std::alloc::Global;
 use std::io;

@@ -1,6 +1,6 @@
 -- The state of a session with GDB, as the code holds it: the session and the images.
 use Rattle.std.specs.Prelude.{◌≡◌, ℕ, List, ◌++◌, option_map}
-use Rattle.image_loader.specs.Entries.{Entry}
+use Rattle.profile.specs.images.Entries.{Entry}
 use Rattle.debug_session.specs.Session.{debug_state}
 use Rattle.gdb_machine.specs.declared.stops.GdbStop.{GdbStop}
 use Rattle.gdb_server.specs.session.Steps.{StepsTaken}

@@ -1,6 +1,6 @@
 -- What a session with GDB works on, and what a request is answered with.
 use Rattle.std.specs.Prelude.{ℕ, ◌-◌, Bool, false, true, List, [], Option, Some, None}
-use Rattle.image_loader.specs.Entries.{Entry}
+use Rattle.profile.specs.images.Entries.{Entry}
 use Rattle.command_shell.specs.State.{ScriptState}
 use Rattle.debug_session.specs.PastNoted.{is_faulted, past_with_steps}
 use Rattle.debug_session.specs.Past.{PastState}

@@ -8,12 +8,12 @@ use crate::session::session::{GdbAnswer, GdbSession};
 use command_shell::RunError;
 use gdb_machine::{GdbStop, UnderWay};
 use gdb_packets::{Going, Request};
-use image_loader::Images;
 use profile::Stop;
+use profile::images::Images;
 use profile::text_sink::TextSink;
 
 impl GdbSession {
-    ghost use Rattle.image_loader.specs.Entries.{Entry};
+    ghost use Rattle.profile.specs.images.Entries.{Entry};
     ghost use Rattle.gdb_server.specs.session.Requests.{act_shown, gdb_change_shown, host_answered};
     ghost use Rattle.gdb_server.specs.session.Session.{gdb_state, IsGdbAnswered};
     ghost use Rattle.gdb_server.specs.session.State.{GdbAnswered};

@@ -12,7 +12,7 @@ use gdb_machine::{
     BackEnd, BackGoal, BackSearch, GdbStop, SeenByte, UnderWay, all_goals, first_changed,
     piece_before,
 };
-use image_loader::Images;
+use profile::images::Images;
 use profile::text_sink::TextSink;
 use std::alloc::AllocError;
 
@@ -22,7 +22,7 @@ impl GdbSession {
     ghost use Rattle.gdb_server.specs.session.Back.{search_shown, step_back_shown, stepped_back, steps_back};
     ghost use Rattle.gdb_server.specs.session.Runs.{stop_here};
     ghost use Rattle.gdb_server.specs.session.Session.{gdb_state, IsGdbAnswered};
-    ghost use Rattle.image_loader.specs.Entries.{Entry};
+    ghost use Rattle.profile.specs.images.Entries.{Entry};
 
     /// Takes a step back, unless a watch that was struck has had it taken already.
     pub(crate) fn step_back(&mut self, images: &mut Images) -> Result<GdbAnswer, RunError>

@@ -15,7 +15,7 @@ use gdb_packets::{ByteRange, PointKind};
 use std::alloc::AllocError;
 
 impl GdbSession {
-    ghost use Rattle.image_loader.specs.Entries.{Entry};
+    ghost use Rattle.profile.specs.images.Entries.{Entry};
     ghost use Rattle.gdb_server.specs.session.Changes.{add_break_shown, add_watch_shown, remove_break_shown, remove_watch_shown, with_change};
     ghost use Rattle.gdb_server.specs.session.Changes.{set_register_shown, store_pairs_shown};
     ghost use Rattle.gdb_server.specs.session.Requests.{add_point_shown, remove_point_shown};

@@ -7,12 +7,12 @@ use crate::session::session::{GdbAnswer, GdbSession};
 use command_shell::RunError;
 use gdb_machine::{GdbStop, is_own_signal, last_stop, push_halted};
 use gdb_packets::Going;
-use image_loader::Images;
+use profile::images::Images;
 use profile::text_sink::TextSink;
 use profile::{Fault, Stop};
 
 impl GdbSession {
-    ghost use Rattle.image_loader.specs.Entries.{Entry};
+    ghost use Rattle.profile.specs.images.Entries.{Entry};
     ghost use Rattle.gdb_server.specs.session.Runs.{unhalted_answer, fault_shown, going_shown, halt_shown, step_taken, stop_here, unless_stepped, with_whole_budget};
     ghost use Rattle.gdb_server.specs.session.Session.{gdb_state, IsGdbAnswered};
 

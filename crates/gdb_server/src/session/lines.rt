@@ -7,12 +7,12 @@ ghost use Rattle.profile.specs.text_sink.TextSink.{sink_text_of};
 use crate::session::session::{GdbAnswer, GdbSession};
 use command_shell::RunError;
 use gdb_machine::{GdbStop, decoded};
-use image_loader::Images;
+use profile::images::Images;
 use profile::text_lines::Lines;
 use profile::text_sink::TextSink;
 
 impl GdbSession {
-    ghost use Rattle.image_loader.specs.Entries.{Entry};
+    ghost use Rattle.profile.specs.images.Entries.{Entry};
     ghost use Rattle.gdb_server.specs.session.Runs.{after_begin, begin_shown, begun_anew, line_decoded, monitor_shown};
     ghost use Rattle.gdb_server.specs.session.Runs.{restart_shown, run_program_shown};
     ghost use Rattle.gdb_server.specs.session.Session.{gdb_state, IsGdbAnswered};

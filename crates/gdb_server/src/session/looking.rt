@@ -11,7 +11,7 @@ use gdb_packets::{Request, fixed_reply, threads};
 use std::alloc::AllocError;
 
 impl GdbSession {
-    ghost use Rattle.image_loader.specs.Entries.{Entry};
+    ghost use Rattle.profile.specs.images.Entries.{Entry};
     ghost use Rattle.gdb_server.specs.session.Looks.{look_reply};
     ghost use Rattle.gdb_server.specs.session.Session.{gdb_state};
 

@@ -7,10 +7,10 @@ ghost use Rattle.gdb_packets.specs.Requests.{gdb_request};
 use crate::session::session::{GdbAnswer, GdbSession};
 use command_shell::RunError;
 use gdb_packets::{Request, is_run_request, request_of};
-use image_loader::Images;
+use profile::images::Images;
 
 impl GdbSession {
-    ghost use Rattle.image_loader.specs.Entries.{Entry};
+    ghost use Rattle.profile.specs.images.Entries.{Entry};
     ghost use Rattle.gdb_server.specs.session.Programs.{after_packets, request_answered, run_answered, program_run_unless};
     ghost use Rattle.gdb_server.specs.session.Session.{gdb_state, IsGdbAnswered};
 

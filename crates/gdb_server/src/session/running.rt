@@ -12,7 +12,7 @@ use crate::session::session::{GdbAnswer, GdbSession};
 use command_shell::{RunError, print_stop};
 use gdb_machine::{GdbStop, UnderWay, library_lines, may_go_on, stepped, stop_packet, was_library};
 use gdb_packets::Going;
-use image_loader::Images;
+use profile::images::Images;
 use profile::text_sink::TextSink;
 use profile::{Sink, Stop, WriteFault, push_all};
 
@@ -23,7 +23,7 @@ const SLICE: u64 = 100_000;
 const ASK: &[u8] = b"Fisatty,0";
 
 impl GdbSession {
-    ghost use Rattle.image_loader.specs.Entries.{Entry};
+    ghost use Rattle.profile.specs.images.Entries.{Entry};
     ghost use Rattle.gdb_server.specs.session.Runs.{asking, first_slice_shown, gdb_step_shown, gdb_stop_shown, has_break_due, slice_shown, stands_at_break, stop_asked, stop_shown_with};
     ghost use Rattle.gdb_server.specs.session.Session.{gdb_state, IsGdbAnswered};
 

@@ -8,7 +8,7 @@ use command_shell::RunError;
 use debug_session::{DebugSession, DebugSettings, ReportForm, RunMeter};
 use gdb_machine::{GdbBreaks, GdbStop, UnderWay, Watches};
 use gdb_packets::Request;
-use image_loader::Images;
+use profile::images::Images;
 use profile::{Config, Stop};
 use std::alloc::{AllocError, Global};
 
@@ -58,7 +58,7 @@ pub struct GdbAnswer {
 }
 
 impl GdbSession {
-    ghost use Rattle.image_loader.specs.Entries.{Entry};
+    ghost use Rattle.profile.specs.images.Entries.{Entry};
     ghost use Rattle.gdb_packets.specs.Requests.{gdb_request};
     ghost use Rattle.gdb_server.specs.session.Requests.{gdb_answered};
     ghost use Rattle.gdb_server.specs.session.Session.{gdb_state, IsGdbAnswered};

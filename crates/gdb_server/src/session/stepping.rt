@@ -12,13 +12,13 @@ use gdb_machine::{
     library_lines, may_change_list, struck_after,
 };
 use gdb_packets::{Going, has_left};
-use image_loader::Images;
 use profile::Stop;
+use profile::images::Images;
 use profile::text_sink::TextSink;
 use std::alloc::AllocError;
 
 impl GdbSession {
-    ghost use Rattle.image_loader.specs.Entries.{Entry};
+    ghost use Rattle.profile.specs.images.Entries.{Entry};
     ghost use Rattle.gdb_server.specs.session.Session.{gdb_state, IsAfterLooked, IsAfterSteps};
     ghost use Rattle.gdb_server.specs.session.State.{with_noted};
     ghost use Rattle.gdb_server.specs.session.Steps.{ahead_of, end_beside, end_of_step, gdb_steps, is_other_list, stays_here, struck_ahead};

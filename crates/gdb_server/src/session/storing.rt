@@ -9,7 +9,7 @@ use gdb_packets::ByteRange;
 use std::alloc::AllocError;
 
 impl GdbSession {
-    ghost use Rattle.image_loader.specs.Entries.{Entry};
+    ghost use Rattle.profile.specs.images.Entries.{Entry};
     ghost use Rattle.gdb_server.specs.session.Session.{gdb_state};
     ghost use Rattle.gdb_server.specs.session.State.{packet_reply};
     ghost use Rattle.gdb_server.specs.session.Stores.{store_shown, with_bytes_noted};

@@ -3,7 +3,7 @@
 ghost use Rattle.std.specs.Prelude.{◌≡◌, ◌<◌};
 ghost use Rattle.instances_table.specs.plans.Code.{private_of};
 
-use image_loader::module_header::{ErrorNumber, PRIVATE_WORDS};
+use profile::images::module_header::{ErrorNumber, PRIVATE_WORDS};
 
 /// Which of its entries a module is entered at.
 #[derive(Clone, Copy, Debug, PartialEq, Eq)]

@@ -1,7 +1,7 @@
 //! What a module call is given that its later actions need.
 
 use arrayvec::ArrayVec;
-use image_loader::module_header::Header;
+use profile::images::module_header::Header;
 
 /// The most bytes of an instance's name.
 pub const MOST_NAME_BYTES: usize = 31;

@@ -11,7 +11,7 @@ use Rattle.profile.specs.declared.reason.ModuleReason.TheVariants as reason
 use Rattle.profile.specs.declared.swi.SwiName.TheVariants as swi
 use Rattle.arm_core.specs.declared.psr.Psr.{Psr}
 use Rattle.arm_core.specs.State.{State, register_of}
-use Rattle.image_loader.specs.Entries.{Entry}
+use Rattle.profile.specs.images.Entries.{Entry}
 use Rattle.instances_table.specs.plans.Plans.{Plan}
 use Rattle.dynamic_areas.specs.Ground.{AreaStore}
 use Rattle.dynamic_areas.specs.Areas.{find_area}

@@ -20,7 +20,7 @@ use Rattle.dynamic_areas.specs.Areas.{extent_asked}
 use Rattle.dynamic_areas.specs.declared.area.Extent.{Extent}
 use Rattle.swi_dispatch_plans.specs.flex_frame.Ground.{with_flex_record}
 use Rattle.flex_store.specs.Calls.{FlexState, flex_after_alloc, flex_after_init, flex_after_extend, mid_extended, flex_after_release, flex_block_size}
-use Rattle.image_loader.specs.Entries.{Entry}
+use Rattle.profile.specs.images.Entries.{Entry}
 use Rattle.instances_table.specs.Lookup.{handler_of}
 use Rattle.instances_table.specs.declared.parts.Handler.{Handler}
 use Rattle.os_heap_words.specs.lists.Heap.{HeapList}

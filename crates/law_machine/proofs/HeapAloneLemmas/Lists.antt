@@ -2,7 +2,7 @@
 use Rattle.swi_dispatch_guest.specs.Moves.{Move, machine_after_event, moved_all}
 use Rattle.std.proofs.Common.{ℕ, ◌≡◌, ◌++◌, ◌∙◌, Bool, true, false, List, [], ◌∷◌, Some, refl, sym, ap, subst, inl, inr, if◌then◌else◌}
 use Rattle.std.proofs.lemmas.Bool.{cases_Bool}
-use Rattle.image_loader.specs.Entries.{Entry}
+use Rattle.profile.specs.images.Entries.{Entry}
 use Rattle.os_heap_words.specs.lists.Heap.{HeapList}
 use Rattle.law_machine.specs.heap_calls.Alone.{Alone, HeapCall, alone_in}
 use Rattle.law_machine.proofs.HeapCallsLemmas.NoHeapInside.{whole_alone}

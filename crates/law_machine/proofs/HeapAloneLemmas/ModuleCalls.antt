@@ -10,7 +10,7 @@ use Rattle.profile.specs.declared.reason.ModuleReason.{ModuleReason}
 use Rattle.profile.specs.declared.reason.ModuleReason.TheVariants as reason
 use Rattle.profile.specs.declared.swi.SwiName.TheVariants as swi
 use Rattle.arm_core.specs.State.{State, register_of, with_register}
-use Rattle.image_loader.specs.Entries.{Entry}
+use Rattle.profile.specs.images.Entries.{Entry}
 use Rattle.os_heap_words.specs.lists.Heap.{HeapList}
 use Rattle.dynamic_areas.specs.Ground.{AreaStore}
 use Rattle.rma.specs.Calls.{rma_claimed, rma_extended, rma_freed}

@@ -8,12 +8,12 @@ use Rattle.profile.specs.declared.error.ErrorNumber.TheVariants.{BadString, Inst
 use Rattle.address_map.specs.Bytes.{Bytes, bytes_between}
 use Rattle.address_map.specs.declared.region.Kind.TheVariants as kind
 use Rattle.arm_core.specs.State.{register_of}
-use Rattle.image_loader.specs.Entries.{Entry}
+use Rattle.profile.specs.images.Entries.{Entry}
 use Rattle.dynamic_areas.specs.Ground.{AreaStore}
 use Rattle.rma.specs.Copies.{may_be_copied}
 use Rattle.rma.specs.NewImages.{image_copied, image_made, may_be_in_place}
-use Rattle.image_loader.specs.module_header.Header.{header_of}
-use Rattle.image_loader.specs.declared.module_header.header.Header.{Header}
+use Rattle.profile.specs.images.module_header.Header.{header_of}
+use Rattle.profile.specs.declared.images.module_header.header.Header.{Header}
 use Rattle.instances.proofs.GoingOn.{bound as bound_any}
 use Rattle.instances.specs.Adding.{adding_plan, copying, good_header, inserting, instantiation, loading, slot_for}
 use Rattle.instances.specs.Given.{given_module}

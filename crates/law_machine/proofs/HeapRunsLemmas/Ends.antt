@@ -6,7 +6,7 @@ use Rattle.std.proofs.Math.Seq.{take-length}
 use Rattle.std.proofs.lemmas.Bool.Decides.{nat_tests}
 use Rattle.std.proofs.lemmas.List.{length-map}
 use Rattle.profile.specs.declared.stop.Stop.{Stop}
-use Rattle.image_loader.specs.Entries.{Entry}
+use Rattle.profile.specs.images.Entries.{Entry}
 use Rattle.law_machine.specs.heap_calls.Turns.{Reply as WrittenReply}
 use Rattle.swi_dispatch.specs.MachineState.{MachineState, stop_of}
 use Rattle.swi_dispatch.specs.Value.{IsMachine, MachineValue}

@@ -2,7 +2,7 @@
 use Rattle.swi_dispatch.specs.Moves.{Move as WrittenEvent, machine_after_event, moved_all}
 use Rattle.std.proofs.Common.{ℕ, ◌≡◌, ◌<◌, ◌+◌, ◌++◌, ◌∙◌, Bool, true, false, List, [], ◌∷◌, length, get_or, map, take, append_assoc, refl, sym, ap, subst, if◌then◌else◌}
 use Rattle.std.proofs.lemmas.List.{map_more, take-map}
-use Rattle.image_loader.specs.Entries.{Entry}
+use Rattle.profile.specs.images.Entries.{Entry}
 use Rattle.law_machine.specs.heap_calls.Turns.{Reply as WrittenReply}
 use Rattle.swi_dispatch.specs.MachineState.{MachineState}
 use Rattle.law_machine.specs.heap_alone.Moves.{answers_in, is_own, reply_of_machine}

@@ -1,7 +1,7 @@
 -- What a heap answers by itself over the moves of a list that were done.
 use Rattle.swi_dispatch.specs.Moves.{Move, machine_after_event}
 use Rattle.std.proofs.Common.{ℕ, ◌≡◌, ◌∙◌, List, [], ◌∷◌, map, Some, None, refl, sym, ap, subst}
-use Rattle.image_loader.specs.Entries.{Entry}
+use Rattle.profile.specs.images.Entries.{Entry}
 use Rattle.os_heap_words.specs.lists.Heap.{HeapList}
 use Rattle.os_heap.specs.Store.{find_heap}
 use Rattle.law_machine.specs.heap_calls.Alone.{Alone, HeapCall, alone_in}

@@ -10,7 +10,7 @@ use Rattle.profile.specs.declared.error.ErrorNumber.TheVariants.{FrameLimit, Swi
 use Rattle.profile.specs.declared.swi.SwiName.{SwiName}
 use Rattle.profile.specs.declared.swi.SwiName.TheVariants as swi
 use Rattle.arm_core.specs.State.{register_of, with_register}
-use Rattle.image_loader.specs.Entries.{Entry}
+use Rattle.profile.specs.images.Entries.{Entry}
 use Rattle.os_heap.specs.Store.{Store}
 use Rattle.dynamic_areas.specs.Areas.{extent_asked}
 use Rattle.dynamic_areas.specs.Ground.{AreaStore}

@@ -10,7 +10,7 @@ use Rattle.profile.specs.declared.swi.SwiName.{SwiName}
 use Rattle.profile.specs.declared.swi.SwiName.TheVariants as swi
 use Rattle.address_map.specs.Bytes.{word_at, word_start}
 use Rattle.address_map.specs.Items.{is_heap_word}
-use Rattle.image_loader.specs.Entries.{Entry}
+use Rattle.profile.specs.images.Entries.{Entry}
 use Rattle.os_heap.specs.Store.{Store, is_in_flex_store, owned_in}
 use Rattle.flex_store.specs.Blocks.{Block, has_anchor, is_header, bytes_taken_by}
 use Rattle.flex_store.specs.Listed.{all_listed, blocks_with_places}

@@ -9,7 +9,7 @@ use Rattle.profile.specs.declared.reason.ModuleReason.{ModuleReason}
 use Rattle.profile.specs.declared.reason.ModuleReason.TheVariants as reason
 use Rattle.profile.specs.declared.swi.SwiName.TheVariants as swi
 use Rattle.arm_core.specs.State.{State, register_of}
-use Rattle.image_loader.specs.Entries.{Entry}
+use Rattle.profile.specs.images.Entries.{Entry}
 use Rattle.os_heap.specs.Store.{Store}
 use Rattle.instances.specs.module_state.ModuleState.{ModuleState}
 use Rattle.instances_table.specs.plans.Plans.{Plan}

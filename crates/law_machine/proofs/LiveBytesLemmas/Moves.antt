@@ -11,7 +11,7 @@ use Rattle.address_map.specs.Bytes.{Bytes, in_range}
 use Rattle.arm_core.specs.State.{State}
 use Rattle.arm_core.specs.declared.turn.StepEnd.{StepEnd}
 use Rattle.arm_core.specs.declared.turn.StepEnd.TheVariants as turn
-use Rattle.image_loader.specs.Entries.{Entry}
+use Rattle.profile.specs.images.Entries.{Entry}
 use Rattle.os_heap.proofs.Anchored.{header_outside}
 use Rattle.os_heap.specs.Store.{IsSound, Store, find_heap, is_in_flex_store}
 use Rattle.swi_dispatch_guest.proofs.NextTurn.{unhalted_step, outside_call}

@@ -17,7 +17,7 @@ use Rattle.swi_dispatch_guest.specs.MachineState.{MachineState, StepOutcome, wit
 use Rattle.swi_dispatch_guest.specs.Step.{outcome_of_planned, module_loaded, unless_halted}
 use Rattle.swi_dispatch_guest.specs.GuestState.{IsState}
 use Rattle.swi_dispatch_guest.specs.Writes.{machine_after_poke}
-use Rattle.image_loader.specs.Entries.{Entry}
+use Rattle.profile.specs.images.Entries.{Entry}
 use Rattle.law_machine.proofs.HeapAloneLemmas.ModuleCalls.{loaded_keeps}
 use Rattle.law_machine.proofs.HeapAloneLemmas.Storing.{word_past}
 use Rattle.law_machine.proofs.LiveBytesLemmas.Heaps.{KeepsBlocks, all_kept, has_heaps, held_all}

@@ -5,7 +5,7 @@ use Rattle.std.proofs.Common.{ℕ, ◌≡◌, ◌∙◌, Bool, false, List, [], 
 use Rattle.profile.specs.ErrorNames.{error_code, error_name}
 use Rattle.profile.specs.SwiNames.{swi_of}
 use Rattle.address_map.specs.Bytes.{in_range, with_word_at}
-use Rattle.image_loader.specs.Entries.{Entry}
+use Rattle.profile.specs.images.Entries.{Entry}
 use Rattle.os_heap_words.specs.lists.Heap.{HeapList}
 use Rattle.os_heap.specs.Store.{Store}
 use Rattle.dynamic_areas.specs.Ground.{AreaStore}

@@ -5,8 +5,8 @@ use Rattle.profile.specs.MemoryMap.{module_area_start}
 use Rattle.profile.specs.Outcome.{bind}
 use Rattle.profile.specs.declared.error.ErrorNumber.{ErrorNumber}
 use Rattle.address_map.specs.Bytes.{bytes_between}
-use Rattle.image_loader.specs.Entries.{Entry}
-use Rattle.image_loader.specs.module_header.Header.{header_of}
+use Rattle.profile.specs.images.Entries.{Entry}
+use Rattle.profile.specs.images.module_header.Header.{header_of}
 use Rattle.os_heap_words.specs.lists.Heap.{HeapList}
 use Rattle.os_heap.specs.Store.{Store, find_heap}
 use Rattle.dynamic_areas.specs.Ground.{AreaStore, IsAreaStore}

@@ -9,7 +9,7 @@ use Rattle.address_map.specs.Bytes.{Bytes}
 use Rattle.arm_core.specs.State.{IsCore, State, register_of}
 use Rattle.arm_core.specs.declared.turn.StepEnd.{StepEnd as CoreTurn}
 use Rattle.arm_core.specs.declared.turn.StepEnd.TheVariants as turn
-use Rattle.image_loader.specs.Entries.{Entry}
+use Rattle.profile.specs.images.Entries.{Entry}
 use Rattle.instances_table.specs.plans.Plans.{Plan}
 use Rattle.swi_dispatch_guest.specs.declared.halt.Halt.{Halt}
 use Rattle.swi_dispatch_guest.specs.MachineState.{MachineState}

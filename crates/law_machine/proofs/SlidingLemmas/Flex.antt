@@ -11,7 +11,7 @@ use Rattle.profile.specs.declared.swi.SwiName.{SwiName}
 use Rattle.address_map.proofs.Stores.{in_range-cases}
 use Rattle.address_map.specs.Bytes.{Bytes, in_range, with_word_at}
 use Rattle.arm_core.specs.State.{IsCore, State, register_of, slot_of}
-use Rattle.image_loader.specs.Entries.{Entry}
+use Rattle.profile.specs.images.Entries.{Entry}
 use Rattle.instances_table.specs.declared.parts.Image.{Image}
 use Rattle.os_heap.specs.Store.{Store}
 use Rattle.swi_dispatch_plans.specs.flex_frame.Ground.{flex_state, with_flex_record}

@@ -6,7 +6,7 @@ use Rattle.address_map.specs.Bytes.{Bytes}
 use Rattle.arm_core.specs.State.{State}
 use Rattle.arm_core.specs.declared.turn.StepEnd.{StepEnd}
 use Rattle.arm_core.specs.declared.turn.StepEnd.TheVariants as turn
-use Rattle.image_loader.specs.Entries.{Entry}
+use Rattle.profile.specs.images.Entries.{Entry}
 use Rattle.instances_table.specs.plans.Plans.{Plan}
 use Rattle.instances.specs.Turns.{MayGoOn}
 use Rattle.swi_dispatch_guest.specs.declared.halt.Halt.{Halt}

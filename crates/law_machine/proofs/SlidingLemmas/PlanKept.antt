@@ -15,7 +15,7 @@ use Rattle.address_map.specs.Bytes.{Bytes}
 use Rattle.arm_core.specs.State.{State, register_of}
 use Rattle.arm_core.specs.declared.turn.StepEnd.{StepEnd}
 use Rattle.arm_core.specs.declared.turn.StepEnd.TheVariants as turn
-use Rattle.image_loader.specs.Entries.{Entry, bytes_of_image}
+use Rattle.profile.specs.images.Entries.{Entry, bytes_of_image}
 use Rattle.os_heap.specs.Store.{Store}
 use Rattle.dynamic_areas.specs.Ground.{AreaStore}
 use Rattle.instances.specs.module_state.ModuleState.{ModuleState}
@@ -36,7 +36,7 @@ use Rattle.swi_dispatch_answers.specs.Words.{host_string, name_part, text_part}
 use Rattle.instances_table.specs.plans.Plans.{Plan}
 use Rattle.instances_table.specs.Changes.{modules_of_title}
 use Rattle.instances_table.specs.Modules.{slots_of}
-use Rattle.image_loader.specs.module_header.Header.{header_of}
+use Rattle.profile.specs.images.module_header.Header.{header_of}
 use Rattle.rma.specs.Copies.{may_be_copied}
 use Rattle.rma.specs.NewImages.{may_be_in_place}
 use Rattle.profile.specs.Word.{bit_of}

@@ -11,7 +11,7 @@ use Rattle.profile.specs.declared.reason.ModuleReason.{ModuleReason}
 use Rattle.profile.specs.declared.reason.ModuleReason.TheVariants as reason
 use Rattle.profile.specs.declared.swi.SwiName.TheVariants as swi
 use Rattle.arm_core.specs.State.{register_of}
-use Rattle.image_loader.specs.Entries.{Entry}
+use Rattle.profile.specs.images.Entries.{Entry}
 use Rattle.swi_dispatch_answers.specs.Words.{host_string}
 use Rattle.swi_dispatch_plans.specs.ImagePlans.{instantiation_planned}
 use Rattle.swi_dispatch_plans.specs.ModulePlans.{clear_planned, delete_planned, reinit_planned, tidy_planned}

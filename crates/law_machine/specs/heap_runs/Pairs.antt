@@ -2,7 +2,7 @@
 -- answers the same, whatever else goes on in each.
 use Rattle.swi_dispatch.specs.Moves.{Move}
 use Rattle.std.specs.Prelude.{ℕ, ◌≡◌, List}
-use Rattle.image_loader.specs.Entries.{Entry}
+use Rattle.profile.specs.images.Entries.{Entry}
 use Rattle.os_heap_words.specs.lists.Heap.{HeapList}
 use Rattle.law_machine.specs.heap_calls.Alone.{alone_in}
 use Rattle.swi_dispatch.specs.MachineState.{MachineState}

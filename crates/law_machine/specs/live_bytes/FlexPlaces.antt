@@ -4,7 +4,7 @@
 use Rattle.std.specs.Prelude.{ℕ, ◌≡◌, Bool, true, false, Option, Some, List}
 use Rattle.profile.specs.declared.swi.SwiName.{SwiName}
 use Rattle.profile.specs.declared.swi.SwiName.TheVariants as swi
-use Rattle.image_loader.specs.Entries.{Entry}
+use Rattle.profile.specs.images.Entries.{Entry}
 use Rattle.flex_store.specs.Listed.{all_listed}
 use Rattle.flex_store.specs.declared.blocks.FlexBlock.{FlexBlock}
 use Rattle.swi_dispatch_plans.specs.flex_frame.Ground.{spelled_store}

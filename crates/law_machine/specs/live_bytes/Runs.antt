@@ -1,6 +1,6 @@
 -- Which bytes of live blocks change over lists of moves, and runs as such lists.
 use Rattle.std.specs.Prelude.{ℕ, zero, suc, ◌≡◌, ◌⊎◌, List, [], ◌∷◌}
-use Rattle.image_loader.specs.Entries.{Entry}
+use Rattle.profile.specs.images.Entries.{Entry}
 use Rattle.swi_dispatch_guest.specs.MachineState.{MachineState}
 use Rattle.swi_dispatch_guest.specs.Run.{ran}
 use Rattle.swi_dispatch_guest.specs.Moves.{Move, Step, machine_after_event, moved_all}

@@ -8,7 +8,7 @@ use Rattle.arm_core.specs.declared.psr.Mode.TheVariants.{Supervisor}
 use Rattle.arm_core.specs.declared.turn.StepEnd.TheVariants as turn
 use Rattle.arm_core.specs.Psr.{psr_bits}
 use Rattle.arm_core.specs.State.{register_in}
-use Rattle.image_loader.specs.Entries.{Entry}
+use Rattle.profile.specs.images.Entries.{Entry}
 use Rattle.instances_table.specs.plans.Code.{private_of}
 use Rattle.instances_table.specs.Modules.{Module}
 use Rattle.swi_dispatch_answers.specs.declared.frames.frame.Frame.{Frame}

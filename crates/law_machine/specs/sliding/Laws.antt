@@ -7,7 +7,7 @@ use Rattle.profile.specs.Reasons.{module_reason}
 use Rattle.profile.specs.SwiNames.{swi_of}
 use Rattle.arm_core.specs.State.{register_of}
 use Rattle.arm_core.specs.declared.turn.StepEnd.TheVariants as turn
-use Rattle.image_loader.specs.Entries.{Entry}
+use Rattle.profile.specs.images.Entries.{Entry}
 use Rattle.instances_table.specs.declared.plans.code.Outcome.TheVariants.{Well, Refused}
 use Rattle.instances_table.specs.plans.Plans.{Plan}
 use Rattle.swi_dispatch_plans.specs.ModulePlans.{tidy_planned}

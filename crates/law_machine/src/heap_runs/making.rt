@@ -11,7 +11,7 @@ ghost use Rattle.swi_dispatch.specs.GuestState.{state_of};
 use crate::heap_runs::moves::{End, MachineEvent, MachineMoves, Made, Reply};
 use crate::heap_runs::own_calls::{is_own_call, reply_of};
 use arrayvec::ArrayVec;
-use image_loader::Images;
+use profile::images::Images;
 use swi_dispatch::Machine;
 
 /// Makes the moves in turn, until the machine is halted or there is no room for an answer. If a

@@ -1,8 +1,8 @@
 //! Moves of a machine, and what comes of a list of them.
 
 use arrayvec::ArrayVec;
-use image_loader::Images;
 use profile::Stop;
+use profile::images::Images;
 
 /// How many registers a store call from outside is given: R0 to R8.
 pub const GIVEN_REGISTERS: usize = 9;

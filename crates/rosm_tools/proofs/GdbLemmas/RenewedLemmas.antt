@@ -4,7 +4,7 @@ use Rattle.std.specs.Prelude.{get_or, if◌then◌else◌}
 use Rattle.std.proofs.lemmas.List.{at_drop_more, at_drop_all}
 use Rattle.std.proofs.lemmas.Option.{get_or_from_slice_get, slice_get_within}
 use Rattle.std.specs.Path.{path_file_name}
-use Rattle.image_loader.specs.Entries.{Entry}
+use Rattle.profile.specs.images.Entries.{Entry}
 use Rattle.gdb_packets.specs.Ahead.{is_run_ahead}
 use Rattle.gdb_server.specs.Serving.{ServerState, with_files}
 use Rattle.rosm_tools.specs.gdb.Renewed.{AreGiven, AreRead, FilesRead, IsRenewed, has_others, is_other_image, renewed_before, with_image_found, with_images}

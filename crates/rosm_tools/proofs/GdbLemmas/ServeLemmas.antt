@@ -6,7 +6,7 @@ use Rattle.std.specs.Io.KnownBytes.{append_known, Appends, Keeps}
 use Rattle.std.specs.declared.io.buffered.BufWriter.{BufWriter}
 use Rattle.std.proofs.KnownBytes.{Appends-kept}
 use Rattle.profile.specs.declared.stop.Stop.{Stop}
-use Rattle.image_loader.specs.Entries.{Entry}
+use Rattle.profile.specs.images.Entries.{Entry}
 use Rattle.gdb_server.specs.session.Runs.{begin_shown, begun_anew}
 use Rattle.gdb_server.specs.session.State.{GdbState, gdb_start}
 use Rattle.gdb_server.specs.Serving.{ServerState}

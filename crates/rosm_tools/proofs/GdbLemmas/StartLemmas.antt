@@ -4,7 +4,7 @@ use Rattle.std.specs.Prelude.{get_or, if◌then◌else◌}
 use Rattle.std.proofs.lemmas.List.{at_drop_more, at_drop_all}
 use Rattle.std.proofs.lemmas.Option.{get_or_from_slice_get, slice_get_within}
 use Rattle.std.specs.Path.{path_file_name}
-use Rattle.image_loader.specs.Entries.{Entry}
+use Rattle.profile.specs.images.Entries.{Entry}
 use Rattle.rosm_tools.specs.gdb.Start.{first_elf, is_elf_named}
 
 pub elf_more : (images : List Entry) (files : List (List ℕ)) (n : ℕ) (path : List ℕ) → slice_get files n ≡ Some path

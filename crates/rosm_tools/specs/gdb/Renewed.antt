@@ -3,7 +3,7 @@
 use Rattle.std.specs.Prelude.{◌≡◌, ℕ, not, Bool, true, false, List, [], ◌∷◌, Option, Some, None, if◌then◌else◌}
 use Rattle.std.specs.Str.{bytes_eq}
 use Rattle.std.specs.Path.{path_file_name}
-use Rattle.image_loader.specs.Entries.{Entry, bytes_of_image}
+use Rattle.profile.specs.images.Entries.{Entry, bytes_of_image}
 use Rattle.gdb_packets.specs.Ahead.{is_run_ahead}
 use Rattle.gdb_server.specs.Serving.{ServerState, with_files, without_files}
 use Rattle.rosm_settings.specs.ImageFiles.{AddsFiles}

@@ -3,7 +3,7 @@
 use Rattle.std.specs.Prelude.{◌≡◌, ℕ, false, Bool, List, [], Option}
 use Rattle.std.specs.Io.KnownBytes.{Appends, Consumes, IsAtEnd}
 use Rattle.profile.specs.declared.stop.Stop.{Stop}
-use Rattle.image_loader.specs.Entries.{Entry}
+use Rattle.profile.specs.images.Entries.{Entry}
 use Rattle.gdb_server.specs.DebugState.{DebugAnswered}
 use Rattle.gdb_server.specs.session.Runs.{begin_shown, begun_anew}
 use Rattle.gdb_server.specs.session.State.{gdb_start}

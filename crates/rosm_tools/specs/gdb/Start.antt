@@ -3,7 +3,7 @@
 use Rattle.std.specs.Prelude.{◌≡◌, ℕ, Bool, false, take, if◌then◌else◌, List, [], ◌∷◌, ◌++◌, Option, Some, None, IfSome, codes}
 use Rattle.std.specs.Path.{path_file_name}
 use Rattle.std.specs.Str.{bytes_eq}
-use Rattle.image_loader.specs.Entries.{Entry, bytes_of_image}
+use Rattle.profile.specs.images.Entries.{Entry, bytes_of_image}
 use Rattle.rosm_tools.specs.declared.gdb.words.WantedGdb.{WantedGdb}
 
 abbrev pub boot_line_named : List ℕ → List ℕ

@@ -18,7 +18,7 @@ use debug_program::{
     talk_behind_script,
 };
 use debug_records::{DebugSettings, ReportForm, RunError, RunMeter, record_script};
-use image_loader::Images;
+use profile::images::Images;
 use profile::text_lines::cut;
 use profile::{Device, Sink, Source};
 use rosm_settings::SettingsRefusal;

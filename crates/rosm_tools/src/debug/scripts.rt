@@ -6,7 +6,7 @@ ghost use Rattle.rosm_tools.specs.debug.Endings.{ending_by_reader};
 use crate::debug::refusal::DebugRefusal;
 use debug_program::{IncludeRefusal, ScriptFiles, TextFault};
 use debug_records::RunError;
-use image_loader::ImageError;
+use profile::images::ImageError;
 use profile::memory_map::MOST_BYTES;
 use rosm_settings::image_files::FileError;
 use std::alloc::Global;

@@ -13,7 +13,7 @@ use crate::gdb::start::{start_lines, take_files};
 use crate::gdb::words::{WantedGdb, read_words};
 use gdb_server::GdbServer;
 use gdb_server::session::{GdbSession, GdbSettings};
-use image_loader::Images;
+use profile::images::Images;
 use profile::stop::stop_status;
 use profile::{Device, Sink, Source, Stop, push_all};
 use std::env::Env;

@@ -9,7 +9,7 @@ use crate::gdb::refusal::GdbRefusal;
 use crate::gdb::start::{start_lines, take_files};
 use crate::gdb::words::WantedGdb;
 use gdb_server::GdbServer;
-use image_loader::Images;
+use profile::images::Images;
 use rosm_settings::command_line::Files;
 use std::fs;
 use std::path::Path;

@@ -10,7 +10,7 @@ ghost use Rattle.rosm_tools.specs.gdb.Streams.{AnswersBytes, AnswersBytesFront, 
 use crate::gdb::renewed::renew;
 use crate::gdb::words::WantedGdb;
 use gdb_server::{GdbServer, RunError};
-use image_loader::Images;
+use profile::images::Images;
 use profile::{Device, ReadFault, Sink, Source, WriteFault};
 use std::fs;
 use std::io::Write;

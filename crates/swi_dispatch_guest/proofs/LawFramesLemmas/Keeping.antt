@@ -31,7 +31,7 @@ use Rattle.arm_step.specs.Step.{acted_if_decoded, executed_if_fetched, or_fault,
 use Rattle.arm_step.specs.Transfers.{result_of_transfer}
 use Rattle.arm_step.specs.Blocks.{result_of_block_transfer}
 use Rattle.os_heap.specs.Store.{owned_in}
-use Rattle.image_loader.specs.Entries.{Entry}
+use Rattle.profile.specs.images.Entries.{Entry}
 use Rattle.instances_table.specs.declared.plans.code.Code.{Code}
 use Rattle.instances_table.specs.declared.plans.given.Given.{Given}
 use Rattle.instances_table.specs.plans.Carrying.{Carried}

@@ -1,7 +1,7 @@
 -- Which frames of module code a step leaves open.
 use Rattle.std.specs.Prelude.{◌≡◌, ◌≢◌, ◌++◌, List}
 use Rattle.profile.specs.MemoryMap.{return_gate}
-use Rattle.image_loader.specs.Entries.{Entry}
+use Rattle.profile.specs.images.Entries.{Entry}
 use Rattle.swi_dispatch_answers.specs.declared.frames.frame.Frame.{Frame}
 use Rattle.swi_dispatch_guest.specs.MachineState.{MachineState, StepOutcome}
 use Rattle.swi_dispatch_guest.specs.Step.{machine_step}

@@ -16,7 +16,7 @@ use Rattle.profile.specs.declared.reason.ModuleReason.{ModuleReason}
 use Rattle.profile.specs.declared.reason.ModuleReason.TheVariants as reason
 use Rattle.profile.specs.declared.swi.SwiName.{SwiName}
 use Rattle.profile.specs.declared.swi.SwiName.TheVariants as swi
-use Rattle.image_loader.specs.Entries.{Entry}
+use Rattle.profile.specs.images.Entries.{Entry}
 use Rattle.address_map.specs.Bytes.{Bytes, in_range, with_word_at}
 use Rattle.address_map.proofs.Stores.{in_range-cases}
 use Rattle.arm_core.specs.State.{State, register_of, with_register}

@@ -1,7 +1,7 @@
 -- Which frames of module code a step keeps open, and that it opens one more at most.
 use Rattle.std.specs.Prelude.{◌≡◌, ℕ, ◌-◌, ◌==◌, ◌&&◌, min, is_none, List, length, None, if◌then◌else◌}
 use Rattle.profile.specs.MemoryMap.{return_gate}
-use Rattle.image_loader.specs.Entries.{Entry}
+use Rattle.profile.specs.images.Entries.{Entry}
 use Rattle.swi_dispatch_guest.specs.MachineState.{MachineState}
 use Rattle.swi_dispatch_guest.specs.Step.{machine_step, module_loaded, store_called}
 use Rattle.trace_moments.specs.Frames.{AreKept, shown_frames}

@@ -2,7 +2,7 @@
 -- shows nothing of the store leaves that as it is.
 use Rattle.std.specs.Prelude.{◌≡◌, ◌≢◌, ◌*◌, ◌%◌, ℕ, Bool, true, false, None, IsSome, is_none, Ok, Err, List, length}
 use Rattle.profile.specs.MemoryMap.{error_block_start}
-use Rattle.image_loader.specs.Entries.{Entry}
+use Rattle.profile.specs.images.Entries.{Entry}
 use Rattle.address_map.specs.Bytes.{Bytes, in_range, word_at}
 use Rattle.arm_core.specs.State.{State, register_of}
 use Rattle.arm_core.specs.declared.turn.StepEnd.TheVariants as turn

@@ -1,5 +1,5 @@
 use Rattle.std.proofs.Common.{◌≡◌, drop, List}
-use Rattle.image_loader.specs.Entries.{Entry}
+use Rattle.profile.specs.images.Entries.{Entry}
 use Rattle.command_shell.specs.Session.{script_state}
 use Rattle.debug_tables.specs.Stubs.{script_with_settings}
 use Rattle.debug_tables.proofs.stubbing.set_registers.Given as goal

@@ -1,5 +1,5 @@
 -- Nothing was read, and no step was taken.
-use Rattle.image_loader.specs.Table.{entries_of}
+use Rattle.profile.specs.images.Table.{entries_of}
 use Rattle.debug_session.specs.Session.{debug_state}
 use Rattle.debug_records.proofs.AnsweredLemmas.{started}
 use Rattle.debug_records.proofs.recorder.Recorder.new.Goals as goal

@@ -1,6 +1,6 @@
 use Rattle.std.proofs.Common.{◌≡◌, ℕ, Bool, List, Option, ◌∙◌, ap, refl}
 use Rattle.std.specs.Prelude.{is_some}
-use Rattle.image_loader.specs.Entries.{bytes_of_image}
+use Rattle.profile.specs.images.Entries.{bytes_of_image}
 use Rattle.debug_history.specs.Past.{past_with_images}
 use Rattle.debug_modes.specs.OwnAnswers.{forget_text}
 use Rattle.debug_session.specs.Session.{debug_state}

@@ -1,7 +1,7 @@
 -- The answer is that of the last steps, or of a line of the past, or there is none.
 use Rattle.std.proofs.Common.{List, Option, ℕ, ap, subst, sym, ◌∙◌}
 use Rattle.std.specs.Prelude.{OnOk}
-use Rattle.image_loader.specs.Entries.{Entry}
+use Rattle.profile.specs.images.Entries.{Entry}
 use Rattle.debug_history.specs.Answers.{past_line_answered}
 use Rattle.debug_history.specs.Lines.{last_steps_asked}
 use Rattle.debug_session.specs.DebugScript.{past_line_or_steps}

@@ -1,6 +1,6 @@
 use Rattle.std.proofs.Common.{refl, subst, sym, ◌∙◌}
 use Rattle.instances.proofs.NamedByCalls.{loading_names, named_given}
-use Rattle.image_loader.specs.module_header.Header.{header_of}
+use Rattle.profile.specs.images.module_header.Header.{header_of}
 use Rattle.swi_dispatch_plans.specs.Beginning.{IsFree, SparesTitle}
 use Rattle.swi_dispatch_guest.specs.MachineState.{MachineState, machine_module_state, setting_of}
 use Rattle.swi_dispatch_guest.specs.GuestState.{GuestState, state_of}

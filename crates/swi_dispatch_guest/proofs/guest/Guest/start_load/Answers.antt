@@ -1,5 +1,5 @@
 use Rattle.std.proofs.Common.{subst}
-use Rattle.image_loader.specs.module_header.Header.{header_of}
+use Rattle.profile.specs.images.module_header.Header.{header_of}
 use Rattle.swi_dispatch_plans.specs.Beginning.{IsFree, SparesTitle}
 use Rattle.swi_dispatch_plans.specs.PlannerInput.{PlannerInput}
 use Rattle.swi_dispatch_guest.proofs.guest.Guest.start_load.Goals as goal

@@ -1,5 +1,5 @@
 use Rattle.std.proofs.Common.{subst, sym, ap, ◌∙◌}
-use Rattle.image_loader.specs.module_header.Header.{header_of}
+use Rattle.profile.specs.images.module_header.Header.{header_of}
 use Rattle.os_heap.specs.Store.{store_of}
 use Rattle.swi_dispatch_plans.specs.Beginning.{SparesTitle, SparesTitled}
 use Rattle.swi_dispatch_plans.specs.ImagePlans.{image_header_in}

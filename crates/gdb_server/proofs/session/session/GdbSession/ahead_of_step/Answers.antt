@@ -8,7 +8,7 @@ use Rattle.command_shell.specs.GuestState.{state_of}
 use Rattle.command_shell.specs.Value.{MachineValue}
 use Rattle.gdb_machine.specs.StepEnds.{may_change_list}
 use Rattle.gdb_machine.specs.declared.watches.WatchedPlace.{WatchedPlace}
-use Rattle.image_loader.specs.Entries.{Entry}
+use Rattle.profile.specs.images.Entries.{Entry}
 use Rattle.gdb_machine.specs.declared.step_ends.StepAhead.{StepAhead}
 use Rattle.gdb_server.specs.session.Session.{gdb_state}
 use Rattle.gdb_server.specs.session.Steps.{struck_ahead}

@@ -3,7 +3,7 @@ use Rattle.std.specs.Prelude.{IfOk}
 use Rattle.address_map.specs.Bytes.{Bytes}
 use Rattle.command_shell.specs.GuestState.{state_of}
 use Rattle.command_shell.specs.Value.{MachineValue}
-use Rattle.image_loader.specs.Entries.{Entry}
+use Rattle.profile.specs.images.Entries.{Entry}
 use Rattle.gdb_machine.specs.BackEnds.{all_goals}
 use Rattle.gdb_machine.specs.Watches.{watched_bytes}
 use Rattle.gdb_machine.specs.declared.back_ends.BackGoal.{BackGoal}

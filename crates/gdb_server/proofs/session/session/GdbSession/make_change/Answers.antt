@@ -1,5 +1,5 @@
 use Rattle.std.proofs.Common.{ℕ, List, ap, sym, ◌∙◌}
-use Rattle.image_loader.specs.Entries.{Entry}
+use Rattle.profile.specs.images.Entries.{Entry}
 use Rattle.command_shell.specs.Memory.{script_unhalted}
 use Rattle.command_shell.specs.Session.{script_state}
 use Rattle.debug_session.specs.Past.{PastState}

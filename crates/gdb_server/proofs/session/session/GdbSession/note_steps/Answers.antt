@@ -1,5 +1,5 @@
 use Rattle.std.proofs.Common.{◌≡◌, ◌-◌, ℕ, Bool, List, ap, ◌∙◌}
-use Rattle.image_loader.specs.Entries.{Entry}
+use Rattle.profile.specs.images.Entries.{Entry}
 use Rattle.debug_session.specs.Past.{PastState}
 use Rattle.debug_session.specs.PastNoted.{is_faulted, past_with_steps}
 use Rattle.gdb_server.specs.session.Session.{gdb_state}

@@ -1,6 +1,6 @@
 -- What is asked for is one of the four kinds.
 use Rattle.std.proofs.Common.{List, sym, ap, ◌∙◌}
-use Rattle.image_loader.specs.Entries.{Entry}
+use Rattle.profile.specs.images.Entries.{Entry}
 use Rattle.gdb_packets.specs.declared.requests.PointKind.{PointKind}
 use Rattle.gdb_server.specs.session.Requests.{remove_point_shown}
 use Rattle.gdb_server.specs.session.Session.{gdb_state}

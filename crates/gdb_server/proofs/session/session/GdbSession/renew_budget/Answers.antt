@@ -1,5 +1,5 @@
 use Rattle.std.proofs.Common.{List, ap}
-use Rattle.image_loader.specs.Entries.{Entry}
+use Rattle.profile.specs.images.Entries.{Entry}
 use Rattle.command_shell.specs.State.{ScriptState}
 use Rattle.gdb_server.specs.session.Session.{gdb_state}
 use Rattle.gdb_server.specs.session.State.{with_script}

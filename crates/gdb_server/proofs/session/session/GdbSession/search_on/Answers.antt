@@ -1,5 +1,5 @@
 use Rattle.std.proofs.Common.{◌≡◌, ◌<◌, ◌≤◌, ℕ, List, [], length, get_or, ap, subst, sym, ◌∙◌, arith}
-use Rattle.image_loader.specs.Entries.{Entry}
+use Rattle.profile.specs.images.Entries.{Entry}
 use Rattle.gdb_machine.specs.declared.back_ends.BackGoal.{BackGoal}
 use Rattle.gdb_machine.specs.declared.back_ends.BackSearch.{BackSearch}
 use Rattle.gdb_machine.specs.declared.back_ends.UnderWay.TheVariants as under

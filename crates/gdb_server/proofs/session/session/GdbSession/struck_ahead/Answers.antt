@@ -1,6 +1,6 @@
 -- Nothing is known ahead of a step that can't be taken; else it is what the core and memory strike.
 use Rattle.std.proofs.Common.{ℕ, List, ap, ◌∙◌, arith}
-use Rattle.image_loader.specs.Entries.{Entry}
+use Rattle.profile.specs.images.Entries.{Entry}
 use Rattle.address_map.specs.Bytes.{Bytes}
 use Rattle.address_map.specs.Memory.{bytes_of}
 use Rattle.arm_core.specs.State.{State}
