@@ -16,8 +16,8 @@ use crate::branches::{branch_kind, link_kind};
 use crate::kind::OpKind;
 use crate::op::Op;
 use crate::operations::{immediate_kind, register_kind, shifted_kind};
-use arm_decode::{Bits, Condition, Operand, Operate, Shift, ShiftedRegister};
 use arm_decode::shifted::rotate_right;
+use arm_decode::{Bits, Condition, Operand, Operate, Shift, ShiftedRegister};
 
 /// Data processing that the table allows, with neither first operand nor destination R15.
 fn plain_operate(second: Operand, word: u32) -> Option<Operate>

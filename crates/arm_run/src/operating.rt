@@ -11,9 +11,9 @@ ghost use Rattle.arm_run.specs.Standing.{LeadsOn};
 
 use crate::standing::{current, set_current};
 use arm_core::{Cpu, Psr};
+use arm_decode::shifted::{Shifted, rotate, shift_left, shift_right, shift_signed};
 use arm_decode::{Operation, Shift};
 use arm_predecode::Op;
-use arm_decode::shifted::{Shifted, rotate, shift_left, shift_right, shift_signed};
 use profile::word::{Sum, add, is_bit_set, subtract};
 
 /// Data processing with an immediate operand.

@@ -16,8 +16,8 @@ use crate::standing::{current, set_current, slowly};
 use address_map::AddressMap;
 use arm_core::Cpu;
 use arm_decode::Indexing;
-use arm_predecode::Op;
 use arm_decode::shifted::rotate_right;
+use arm_predecode::Op;
 
 /// The byte at an address, or the word there, rotated so that the byte at the address is lowest.
 #[inline(always)]

@@ -7,9 +7,9 @@ ghost use Rattle.arm_step.specs.Transfers.{offset_amount, moved_base, transfer_a
 
 use address_map::AddressMap;
 use arm_core::Cpu;
+use arm_decode::shifted::rotate_right;
 use arm_decode::{Address, Direction, Indexing, Offset, Transfer};
 use profile::Fault;
-use arm_decode::shifted::rotate_right;
 
 /// The byte at an address, or the word there, rotated so that the byte at the address is lowest.
 #[inline(always)]

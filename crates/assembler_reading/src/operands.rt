@@ -5,12 +5,12 @@ ghost use Rattle.assembler_text.specs.naming.Labels.{address_of};
 ghost use Rattle.assembler_text.specs.naming.Words.{byte, comma, read_of};
 ghost use Rattle.assembler_reading.specs.Operands.{amount_at, immediate_operand, immediate_of, is_rotated_byte, most_places, named_shift, places_of, rotated_of, rotation_at, second_operand, shift_at, shifted_operand, register_shifted_by};
 
+use arm_decode::shifted::rotate_right;
 use arm_decode::{Bits, Operand, Register, Shift, ShiftedRegister};
 use assembler_text::naming::names::{register, shift_named};
 use assembler_text::naming::words::{after_word, byte, comma, is_name, spaces, word};
 use assembler_text::naming::{Labels, Read, Reason, Value, expression};
 use assembler_text::numbers::least_rotation;
-use arm_decode::shifted::rotate_right;
 
 /// What a piece of the operands stands for, or why there is none.
 pub type ReadOutcome<A> = Result<A, Reason>;

@@ -1,7 +1,7 @@
 //! What changes the table.
 ghost use Rattle.std.specs.Prelude.{◌≡◌, ◌<◌, ◌≤◌, [], ◌∷◌, ◌++◌, true, false, length, slice_get, IfSome};
 ghost use Rattle.std.specs.List.{list_any};
-ghost use Rattle.profile.specs.images.module_header.Outcome.{Gives, Leaves};
+ghost use Rattle.profile.specs.Outcome.{Gives, Leaves};
 ghost use Rattle.instances_table.specs.Modules.{has_title, changed_at};
 ghost use Rattle.instances_table.specs.Changes.{is_slot_held, free_slot, module_has_slot, is_named, is_new, with_module, new_module, with_instance, modules_after_instantiate, modules_with_names, modules_after_rename, with_preferred, preferring, without_instance, with_image_at};
 

@@ -41,7 +41,7 @@ FRAMES stands alone
 BACKTRACE stands alone
 BT stands alone
 LABELS stands alone
-WHY stands alone
+WHY stands alone, or with ON or OFF
 RESET stands alone
 BACK stands alone, or with a number from 1 on, TO and a step or UNTIL and an address, as BACK UNTIL loop
 UNDO stands alone
