@@ -9,7 +9,7 @@ use Rattle.command_shell_lines.specs.Blocks.{block_lines, after_block, lines_in_
 use Rattle.command_shell_lines.specs.Requests.{Request, Nothing, Hex, Asm, Boot, Run, Regs, Set, Poke, Call, Load, Step, Break, Unbreak, Mem, Code, Heap, Areas, Modules, Flex, Unknown, opens_block, request_of, is_end_of_block}
 use Rattle.profile.specs.images.Entries.{Entry}
 use Rattle.swi_dispatch_guest.specs.MachineState.{machine_start}
-use Rattle.swi_dispatch.specs.Value.{MachineValue}
+use Rattle.swi_dispatch_guest.specs.Value.{MachineValue}
 use Rattle.command_shell.specs.declared.session.Session.{Session}
 use Rattle.command_shell.specs.Session.{script_state, state_on}
 use Rattle.command_shell.specs.Script.{OpenBlock, request_answer, on_opened, on_request, in_block, lines_answer, script_answer}

@@ -4,9 +4,9 @@ use Rattle.profile.specs.images.Entries.{bytes_of_image, refusal_for, with_entry
 use Rattle.profile.specs.declared.images.error.ImageError.{ImageError}
 use Rattle.profile.specs.images.ErrorNames.{image_error_name}
 use Rattle.swi_dispatch_guest.specs.MachineState.{MachineState}
-use Rattle.swi_dispatch.specs.Boot.{machine_after_boot}
-use Rattle.swi_dispatch.specs.declared.boot_error.BootError.{BootError}
-use Rattle.swi_dispatch.specs.declared.boot_error.BootError.TheVariants as boot
+use Rattle.swi_dispatch_guest.specs.Boot.{machine_after_boot}
+use Rattle.swi_dispatch_guest.specs.declared.boot_error.BootError.{BootError}
+use Rattle.swi_dispatch_guest.specs.declared.boot_error.BootError.TheVariants as boot
 use Rattle.assembler.specs.ErrorNames.{reason_name}
 use Rattle.assembler.specs.Passes.{means_lines}
 use Rattle.assembler.specs.declared.error.AsmError.{AsmError}

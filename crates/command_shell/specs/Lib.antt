@@ -1,8 +1,8 @@
 -- What a script is answered. Begin with Script; each family of lines has a file of its own.
 pub use Rattle.debugger.specs.Code
-pub use Rattle.swi_dispatch.specs.Boot
-pub use Rattle.swi_dispatch.specs.Value
-pub use Rattle.swi_dispatch.specs.declared.boot_error.BootError
+pub use Rattle.swi_dispatch_guest.specs.Boot
+pub use Rattle.swi_dispatch_guest.specs.Value
+pub use Rattle.swi_dispatch_guest.specs.declared.boot_error.BootError
 pub use Rattle.swi_dispatch_guest.specs.MachineState
 pub use Rattle.swi_dispatch_guest.specs.GuestState
 pub use Rattle.swi_dispatch_guest.specs.Run

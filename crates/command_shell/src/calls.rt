@@ -14,7 +14,7 @@ use crate::answers::{print_error, print_ok, print_stop};
 use crate::session::Session;
 use profile::images::Images;
 use profile::{Sink, Stop, WriteFault, push_all};
-use swi_dispatch::Machine;
+use swi_dispatch_guest::Machine;
 
 /// A call that a script makes from outside the machine.
 #[derive(Clone, Copy, Debug)]
@@ -26,7 +26,7 @@ pub enum OutsideCall<'a> {
 }
 
 impl OutsideCall<'_> {
-    ghost use Rattle.swi_dispatch.specs.Value.{IsAfterStep};
+    ghost use Rattle.swi_dispatch_guest.specs.Value.{IsAfterStep};
     ghost use Rattle.command_shell.specs.Calls.{outside_called};
 
     // Takes the first step.

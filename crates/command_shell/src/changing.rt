@@ -7,8 +7,7 @@ ghost use Rattle.profile.specs.Outcome.{Leaves};
 use crate::session::Session;
 use profile::{Config, Fault, Stop};
 use std::alloc::AllocError;
-use swi_dispatch::{BreakError, Machine};
-use swi_dispatch_guest::{Mode, Psr};
+use swi_dispatch_guest::{BreakError, Machine, Mode, Psr};
 
 impl Session {
     ghost use Rattle.profile.specs.images.Entries.{Entry};

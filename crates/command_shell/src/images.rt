@@ -15,7 +15,7 @@ use command_shell_lines::{Block, Origin, read_block, skip_block};
 use profile::images::{ImageError, Images};
 use profile::text_lines::Lines;
 use profile::{Sink, WriteFault};
-use swi_dispatch::BootError;
+use swi_dispatch_guest::BootError;
 
 impl Session {
     ghost use Rattle.profile.specs.images.Entries.{refusal_for};

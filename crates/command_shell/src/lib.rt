@@ -26,4 +26,4 @@ pub use error::RunError;
 pub use nowhere::Nowhere;
 pub use script::{Summary, run_script};
 pub use session::Session;
-pub use swi_dispatch::{BreakError, Machine, without_x_bit};
+pub use swi_dispatch_guest::{BreakError, Machine, without_x_bit};

@@ -14,7 +14,7 @@ use profile::images::Images;
 use profile::text_lines::Lines;
 use profile::{Config, Sink, Source, Stop};
 use std::alloc::Global;
-use swi_dispatch::Machine;
+use swi_dispatch_guest::Machine;
 
 /// What a script came to.
 #[derive(Clone, Copy, Debug, PartialEq, Eq)]

@@ -13,7 +13,7 @@ use profile::images::Images;
 use profile::text_lines::Lines;
 use profile::{Sink, Stop};
 use std::alloc::Global;
-use swi_dispatch::{Breaks, Machine};
+use swi_dispatch_guest::{Breaks, Machine};
 
 /// What the lines of a script work on beside the images: a machine, its breaks, what is left of the
 /// budget, and the last stop that a line was answered with.

@@ -9,7 +9,7 @@ use crate::answers::{print_break, print_refused, print_stepped, print_stop, prin
 use crate::session::Session;
 use profile::images::Images;
 use profile::{Sink, WriteFault};
-use swi_dispatch::{BreakError, Ran};
+use swi_dispatch_guest::{BreakError, Ran};
 
 impl Session {
     ghost use Rattle.profile.specs.images.Entries.{Entry};

@@ -2,10 +2,10 @@
 use Rattle.std.proofs.Common.{◌≡◌, ℕ, List, ◌++◌, Some, refl}
 use Rattle.address_map.specs.declared.map.AddressMap.{AddressMap}
 use Rattle.address_map.specs.Memory.{bytes_of}
-use Rattle.swi_dispatch.specs.Listed.{all_listed}
-use Rattle.swi_dispatch.specs.State.{flex_in}
-use Rattle.swi_dispatch.specs.FlexBlock.{FlexBlock}
-use Rattle.swi_dispatch.specs.Flex.{Flex}
+use Rattle.swi_dispatch_guest.specs.Listed.{all_listed}
+use Rattle.swi_dispatch_guest.specs.State.{flex_in}
+use Rattle.swi_dispatch_guest.specs.FlexBlock.{FlexBlock}
+use Rattle.swi_dispatch_guest.specs.Flex.{Flex}
 use Rattle.debugger.specs.Flex.{flex_blocks_text, flex_extent_text, flex_text, range_text}
 
 pub shown : (m : AddressMap) (f : Flex) (start end used : ℕ) → f.extent ≡ Some (record { start = start; end = end; used = used })

@@ -10,10 +10,10 @@ use Rattle.address_map.specs.declared.map.AddressMap.{AddressMap}
 use Rattle.address_map.specs.Bytes.{word_loaded, word_at, word_start}
 use Rattle.address_map.specs.Items.{total_of, size_of}
 use Rattle.address_map.specs.Memory.{bytes_of}
-use Rattle.swi_dispatch.specs.lists.Heap.{HeapList, IsHeapIn}
-use Rattle.swi_dispatch.specs.Calls.{items_of}
-use Rattle.swi_dispatch.specs.Store.{Store, store_of, find_heap, IsSound}
-use Rattle.swi_dispatch.proofs.Found.{found_heap, found_start}
+use Rattle.swi_dispatch_guest.specs.lists.Heap.{HeapList, IsHeapIn}
+use Rattle.swi_dispatch_guest.specs.HeapCalls.{items_of}
+use Rattle.swi_dispatch_guest.specs.Store.{Store, store_of, find_heap, IsSound}
+use Rattle.swi_dispatch_guest.proofs.Found.{found_heap, found_start}
 use Rattle.debugger.specs.Heap.{limits_text, heap_item_text, heap_items_text, heap_text, heap_blocks_text}
 
 -- the heap that was found at an address: memory spells it, and it lies below 2^26

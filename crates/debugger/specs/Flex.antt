@@ -8,11 +8,11 @@ use Rattle.std.specs.List.{flat_map}
 use Rattle.std.specs.Option.{option_map}
 use Rattle.profile.specs.Digits.{hex_word}
 use Rattle.address_map.specs.Bytes.{Bytes}
-use Rattle.swi_dispatch.specs.Listed.{blocks_with_places}
-use Rattle.swi_dispatch.specs.Memory.{blocks_in}
-use Rattle.swi_dispatch.specs.FlexBlock.{FlexBlock}
-use Rattle.swi_dispatch.specs.Extent.{Extent}
-use Rattle.swi_dispatch.specs.Flex.{Flex}
+use Rattle.swi_dispatch_guest.specs.Listed.{blocks_with_places}
+use Rattle.swi_dispatch_guest.specs.Memory.{blocks_in}
+use Rattle.swi_dispatch_guest.specs.FlexBlock.{FlexBlock}
+use Rattle.swi_dispatch_guest.specs.Extent.{Extent}
+use Rattle.swi_dispatch_guest.specs.Flex.{Flex}
 
 -- `flex 0000A000 0000A400 used 48`
 abbrev pub range_text : ℕ → ℕ → ℕ → List ℕ

@@ -9,8 +9,8 @@ use Rattle.profile.specs.Digits.{hex_word}
 use Rattle.address_map.specs.declared.item.Item.{Item}
 use Rattle.address_map.specs.declared.item.Item.TheVariants.{Live, Free}
 use Rattle.address_map.specs.Items.{total_of, size_of}
-use Rattle.swi_dispatch.specs.lists.Heap.{HeapList}
-use Rattle.swi_dispatch.specs.Store.{Store, find_heap}
+use Rattle.swi_dispatch_guest.specs.lists.Heap.{HeapList}
+use Rattle.swi_dispatch_guest.specs.Store.{Store, find_heap}
 
 -- `heap 00009000 base 40 end 256`
 abbrev pub limits_text : ℕ → ℕ → ℕ → List ℕ

@@ -1,7 +1,7 @@
 -- The text of each view, a file for each.
-pub use Rattle.swi_dispatch.specs.MachineState
-pub use Rattle.swi_dispatch.specs.GuestState
-pub use Rattle.swi_dispatch.specs.Step
+pub use Rattle.swi_dispatch_guest.specs.MachineState
+pub use Rattle.swi_dispatch_guest.specs.GuestState
+pub use Rattle.swi_dispatch_guest.specs.Step
 pub mod Areas
 pub mod Code
 pub mod Flex

@@ -21,4 +21,4 @@ pub use instances::{Instances, ModuleInfo};
 pub use memory::{hex_byte, show_memory};
 pub use modules::show_modules;
 pub use registers::{mode_name, push_flags, push_status, show_regs};
-pub use swi_dispatch::{CodeKind, Frame, FrameKind, Machine, without_x_bit};
+pub use swi_dispatch_guest::{CodeKind, Frame, FrameKind, Machine, without_x_bit};

@@ -12,7 +12,7 @@ use profile::images::{ImageError, Images};
 use raw_store::RawStore;
 use rosm_settings::command_line::{SettingsError, settings};
 use std::alloc::Global;
-use swi_dispatch::Machine;
+use swi_dispatch_guest::Machine;
 
 /// How the call of this name ends after so many takings of memory.
 pub fn outcome_of(alloc: Global, call: &str, takings: u32) -> CallOutcome {

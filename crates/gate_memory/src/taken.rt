@@ -8,7 +8,7 @@ use debugger::{
 use profile::images::Images;
 use profile::{Config, MemorySink, WriteFault};
 use std::alloc::Global;
-use swi_dispatch::Machine;
+use swi_dispatch_guest::Machine;
 
 /// What is done many times before memory is taken.
 #[derive(Clone, Copy)]

@@ -12,7 +12,7 @@ use Rattle.address_map.specs.declared.region.Region.{Region}
 use Rattle.dynamic_areas.specs.PageCounts.{AreasCountPages}
 use Rattle.os_heap.specs.Store.{Store, heaps_in, others_in, store_of}
 use Rattle.os_heap.proofs.Frame.{layout-regions}
-use Rattle.swi_dispatch.specs.Value.{IsMachine, MachineValue}
+use Rattle.swi_dispatch_guest.specs.Value.{IsMachine, MachineValue}
 
 -- how many pages below one are mapped
 pub mapped_below : AddressMap → ℕ → ℕ

@@ -8,8 +8,8 @@ use Rattle.address_map.specs.declared.map.AddressMap.{AddressMap}
 use Rattle.address_map.proofs.Bytes.{byte_at-lt, is_mapped-page}
 use Rattle.address_map.proofs.Spans.{mapped_below}
 use Rattle.os_heap.proofs.Frame.{store_bytes}
-use Rattle.swi_dispatch.specs.MachineState.{MachineState}
-use Rattle.swi_dispatch.specs.GuestState.{IsState}
+use Rattle.swi_dispatch_guest.specs.MachineState.{MachineState}
+use Rattle.swi_dispatch_guest.specs.GuestState.{IsState}
 use Rattle.store_copies.specs.declared.changes.WordChange.{WordChange}
 use Rattle.store_copies.specs.Laws.{ExplainsBytes, IsWordChange, ListsChanges}
 use Rattle.store_copies.specs.Words.{all_changes, word_change_at, word_changes_below, has_word_changed, is_shown_elsewhere, word_change}

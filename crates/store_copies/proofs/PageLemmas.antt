@@ -13,7 +13,7 @@ use Rattle.dynamic_areas.specs.declared.area.Area.{Area}
 use Rattle.dynamic_areas.specs.Areas.{AreaTable}
 use Rattle.dynamic_areas.specs.Ground.{is_fixed, is_in_area, is_area_table}
 use Rattle.os_heap.proofs.Frame.{store_bytes}
-use Rattle.swi_dispatch.specs.Value.{IsMachine, MachineValue}
+use Rattle.swi_dispatch_guest.specs.Value.{IsMachine, MachineValue}
 use Rattle.store_copies.specs.Pages.{AreUnmappedPages, IsNoStartBetween, IsNotBetween}
 use Rattle.store_copies.specs.Words.{word_changes_below}
 use Rattle.store_copies.proofs.ChangeLemmas.{unchanged_ahead}

@@ -7,7 +7,7 @@ use Rattle.os_heap.specs.Store.{Store, store_of}
 use Rattle.flex_store.specs.State.{IsNoFlex}
 use Rattle.flex_store.specs.declared.flex.Flex.{Flex}
 use Rattle.instances_table.specs.Modules.{Module}
-use Rattle.swi_dispatch.specs.MachineState.{MachineState}
+use Rattle.swi_dispatch_guest.specs.MachineState.{MachineState}
 
 pub record CopiedParts : Type 0 where
   pub map : AddressMap

@@ -1,8 +1,8 @@
 -- What the list of the words that differ is good for.
 use Rattle.std.specs.Prelude.{◌≡◌, ◌≢◌, ◌⊎◌, ℕ, Bool, true, List, Contains}
 use Rattle.address_map.specs.Bytes.{word_at, word_start}
-use Rattle.swi_dispatch.specs.MachineState.{MachineState}
-use Rattle.swi_dispatch.specs.GuestState.{IsState}
+use Rattle.swi_dispatch_guest.specs.MachineState.{MachineState}
+use Rattle.swi_dispatch_guest.specs.GuestState.{IsState}
 use Rattle.store_copies.specs.declared.changes.WordChange.{WordChange}
 use Rattle.store_copies.specs.Words.{all_changes, is_shown_elsewhere, word_change}
 

@@ -4,7 +4,7 @@ ghost use Rattle.std.specs.Prelude.{◌≡◌, ◌≤◌, ◌<◌, ◌+◌, ◌*
 ghost use Rattle.address_map.specs.Bytes.{word_at};
 ghost use Rattle.address_map.specs.Lent.{IsLent};
 ghost use Rattle.address_map.specs.Memory.{byte_at, bytes_of};
-ghost use Rattle.swi_dispatch.specs.GuestState.{state_of};
+ghost use Rattle.swi_dispatch_guest.specs.GuestState.{state_of};
 ghost use Rattle.store_copies.specs.Words.{AreListedWithin, IsSummary, all_changes, all_pages, word_changes_below, is_shown_elsewhere};
 
 use crate::lanes::{LANE_WORDS, PAGE_WORDS, has_same_lane, has_same_page};
@@ -12,7 +12,7 @@ use crate::pages::{PAGES, past_unmapped};
 use address_map::AddressMap;
 use arrayvec::ArrayVec;
 use profile::memory_map::{ERROR_BLOCK, PAGE_SIZE};
-use swi_dispatch::Machine;
+use swi_dispatch_guest::Machine;
 
 /// How many of the words that differ are kept.
 pub const MOST_CHANGES: usize = 16;

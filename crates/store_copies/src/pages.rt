@@ -7,7 +7,7 @@ ghost use Rattle.store_copies.specs.Pages.{AreUnmappedPages, IsNoStartBetween};
 
 use dynamic_areas::Area;
 use profile::memory_map::{ADDRESS_LIMIT, APPLICATION_START, PAGE_SIZE, SYSTEM_START};
-use swi_dispatch::Machine;
+use swi_dispatch_guest::Machine;
 
 /// How many pages the address space has.
 pub(crate) const PAGES: u32 = ADDRESS_LIMIT / PAGE_SIZE;

@@ -4,7 +4,7 @@ ghost use Rattle.std.specs.Prelude.{◌≡◌, ◌≤◌, ℕ, true, IfOk};
 ghost use Rattle.address_map.specs.Memory.{byte_at, class_of, layout, page_total};
 ghost use Rattle.flex_store.specs.State.{IsFlex};
 ghost use Rattle.os_heap.specs.Store.{IsSound, store_of};
-ghost use Rattle.swi_dispatch.specs.GuestState.{state_of};
+ghost use Rattle.swi_dispatch_guest.specs.GuestState.{state_of};
 ghost use Rattle.store_copies.specs.Copies.{IsLaidAlike, kept_in, kept_of};
 
 use crate::pages::{PAGES, past_unmapped};
@@ -15,7 +15,7 @@ use instances::Instances;
 use profile::memory_map::PAGE_SIZE;
 use std::alloc::{AllocError, Global};
 use std::marker::Model;
-use swi_dispatch::Machine;
+use swi_dispatch_guest::Machine;
 
 /// A copy of a machine's memory, with its heaps and what is recorded in it, of its modules, and of where
 /// its flex store is.

@@ -11,7 +11,7 @@ use Rattle.arm_core.specs.State.{State, slot_of, register_of, with_register}
 use Rattle.os_heap.specs.Store.{store_of}
 use Rattle.dynamic_areas.proofs.HeapCalls.{system_mapped}
 use Rattle.swi_dispatch_answers.specs.declared.refusal.Refusal.TheVariants as refusal
-use Rattle.swi_dispatch_guest.proofs.GateReturns.{first_slot}
+use Rattle.swi_dispatch_plans.proofs.ModuleCode.{first_slot}
 use Rattle.swi_dispatch_guest.specs.MachineState.{MachineState}
 use Rattle.swi_dispatch_guest.specs.Errors.{error_number, with_error}
 use Rattle.swi_dispatch_answers.specs.Errors.{error_at, memory_with_error}

@@ -1,46 +1,21 @@
 -- A SWI of a module goes back: what that leaves is what a step at the gate leaves.
-use Rattle.std.proofs.Common.{◌≡◌, ℕ, true, false, Some, List, [], ◌∷◌, refl, ap, ◌∙◌}
-use Rattle.std.specs.Prelude.{if◌then◌else◌, Bool, Option, ◌==◌, ◌&&◌, not, slice_index, slice_set}
-use Rattle.arm_core.specs.declared.psr.Mode.{Mode}
-use Rattle.arm_core.specs.declared.psr.Mode.TheVariants.{User, FastInterrupt, Interrupt, Supervisor}
-use Rattle.arm_core.specs.State.{State, register_in, register_of, slot_of}
+use Rattle.std.proofs.Common.{◌≡◌, ℕ, true, false, Some, refl, ap, ◌∙◌}
+use Rattle.std.specs.Prelude.{if◌then◌else◌, Bool, Option, ◌==◌, ◌&&◌, not}
+use Rattle.arm_core.specs.declared.psr.Mode.TheVariants.{Supervisor}
+use Rattle.arm_core.specs.State.{register_in}
 use Rattle.instances_table.specs.declared.plans.code.CodeKind.{CodeKind}
 use Rattle.instances_table.specs.plans.Plans.{Plan}
 use Rattle.profile.specs.declared.fault.Fault.TheVariants.{ErrorStop}
-use Rattle.swi_dispatch_answers.specs.Returns.{state_after_return}
 use Rattle.swi_dispatch_answers.specs.frames.Busy.{is_swi}
 use Rattle.swi_dispatch_answers.specs.frames.Frames.{innermost_frame}
-use Rattle.swi_dispatch_answers.specs.frames.Leaving.{left}
 use Rattle.swi_dispatch_answers.specs.declared.frames.frame.Frame.{Frame}
 use Rattle.swi_dispatch_answers.specs.declared.frames.frame.FrameKind.{FrameKind}
 use Rattle.swi_dispatch_answers.specs.declared.frames.frame.FrameKind.TheVariants.{Swi, Entry}
 use Rattle.swi_dispatch_guest.specs.declared.halt.Halt.TheVariants as halt
 use Rattle.swi_dispatch_guest.specs.Errors.{error_number}
-use Rattle.swi_dispatch_guest.specs.Gates.{IsUntaken, frame_closed, frame_left, outcome_of_gate, returned_from}
+use Rattle.swi_dispatch_guest.specs.Gates.{IsUntaken, frame_closed, frame_left, outcome_of_gate}
 use Rattle.swi_dispatch_guest.specs.MachineState.{MachineState, StepOutcome, silent}
 use Rattle.swi_dispatch_guest.specs.Returns.{outcome_of_error, outcome_of_halt}
-
--- R0 is in no bank, and no call restores it
-pub first_slot : (m : Mode) → slot_of m 0 ≡ 0
-first_slot User = refl
-first_slot FastInterrupt = refl
-first_slot Interrupt = refl
-first_slot Supervisor = refl
-
-first_word : (file : List ℕ) (a b c d : ℕ)
-    → slice_index (slice_set (slice_set (slice_set (slice_set file 10 a) 11 b) 12 c) 25 d) 0 ≡ slice_index file 0
-first_word [] a b c d = refl
-first_word (x ∷ file) a b c d = refl
-
-r0_kept_by : (kind : FrameKind) (cpu : State) (f : Frame) → f.kind ≡ kind → is_swi kind ≡ true
-    → register_of (returned_from cpu f) 0 ≡ register_of cpu 0
-unfolding state_after_return left
-r0_kept_by (Swi number) cpu f is swi =
-    rw (is, first_slot f.call.caller.mode, first_slot cpu.psr.mode) (first_word cpu.file _ _ _ _)
-r0_kept_by (Entry kind) cpu f is swi = cc
-
-pub r0_kept : (cpu : State) (f : Frame) → is_swi f.kind ≡ true → register_of (returned_from cpu f) 0 ≡ register_of cpu 0
-r0_kept cpu f swi = r0_kept_by f.kind cpu f refl swi
 
 -- what a call that may have been refused leaves, where that is taken, and where it isn't
 if_taken : (refused is_x : Bool) (s : MachineState) (o answered : StepOutcome) → (refused && not is_x) ≡ false → o ≡ answered

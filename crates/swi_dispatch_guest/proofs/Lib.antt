@@ -1,9 +1,11 @@
+pub use Rattle.os_heap.proofs.Found
 pub mod Answering
 pub mod AreaAnswers
 pub mod Beginning
 pub mod CarriedFrames
 pub mod ErrorNumbers
 pub mod FlexCalls
+pub mod Fresh
 pub mod GateLemmas
 pub mod GateReturns
 pub mod Kept

@@ -1,4 +1,5 @@
--- The code that a call on modules enters next is at the entry that the first action calls that is left.
+-- The code that a call on modules enters next is at the entry that the first action calls that is left, and so
+-- a call is carried on.
 use Rattle.profile.specs.MemoryMap.{environment_text_start}
 use Rattle.std.proofs.Common.{◌≡◌, ℕ, ◌==◌, Option, Some, None, List, [], ◌∷◌, refl, sym, ap, subst, ◌∙◌, inl, inr}
 use Rattle.std.specs.Prelude.{IfSome, slice_get}
@@ -9,13 +10,25 @@ use Rattle.instances_table.specs.declared.plans.code.Code.{Code}
 use Rattle.instances_table.specs.declared.plans.code.CodeKind.{CodeKind}
 use Rattle.instances_table.specs.declared.plans.code.CodeKind.TheVariants as kind
 use Rattle.instances_table.specs.plans.Carrying.{Carried, carry_of_plan, carried_by, carried_from}
-use Rattle.instances_table.specs.plans.Plans.{Plan, first_action}
+use Rattle.instances_table.specs.plans.Plans.{Plan, first_action, plan_after_code}
 use Rattle.instances_table.specs.declared.parts.Place.{Place}
 use Rattle.instances_table.specs.Lookup.{place_of_slot}
 use Rattle.instances_table.specs.Modules.{Module}
-use Rattle.instances.specs.module_state.ModuleState.{ModuleState}
-use Rattle.instances.specs.Turns.{module_doing}
+use Rattle.instances.specs.module_state.ModuleState.{ModuleState, module_state_of}
+use Rattle.instances.specs.Turns.{IsUnderWay, module_doing}
 use Rattle.instances.specs.actions.Codes.{code_among, code_at, code_to_enter, entered_at, entered_in, entry_offset, fatal_word}
+use Rattle.address_map.specs.declared.map.AddressMap.{AddressMap}
+use Rattle.arm_core.specs.State.{State}
+use Rattle.dynamic_areas.specs.Areas.{AreaTable}
+use Rattle.os_heap.specs.Store.{AreClasses, store_of}
+use Rattle.instances.specs.flex_frame.Keeping.{KeepsFlex}
+use Rattle.instances.specs.module_state.Sound.{IsModuleState}
+use Rattle.instances.specs.Naming.{KeepsOtherInstances}
+use Rattle.instances_table.specs.declared.plans.code.Outcome.{Outcome as CodeOutcome}
+use Rattle.swi_dispatch_answers.specs.declared.frames.call.Call.{Call}
+use Rattle.swi_dispatch_answers.specs.declared.frames.frame.Frame.{Frame}
+use Rattle.swi_dispatch_plans.specs.ModuleCode.{core_by, frames_by, kept_by, plan_unless_code}
+use Rattle.swi_dispatch_guest.specs.Carried.{IsCarriedNext}
 use Rattle.swi_dispatch_guest.specs.OpenFrames.{entry_called}
 
 -- an action's code is at the entry that the action calls
@@ -91,3 +104,27 @@ next_entry w v p q None is = tt
 next_entry w v p q (Some code) is =
     subst (λ (x : Carried ModuleState). entry_called (first_action x.rest.actions) ≡ Some (code.kind, code.slot)) is
     (entry_from p.actions w p code (ap (λ (x : Carried ModuleState). x.code) is))
+
+-- a call that is carried on, and its next code entered
+pub carried_next : (m n : AddressMap) (area_table : AreaTable) (old new : List Module) (cpu cpu' : State) (fs fs' : List Frame) (call : Call)
+    (p rest : Plan) (o : CodeOutcome) (code : Option Code) (plans : Option Plan × Option Plan)
+    → carry_of_plan module_doing (module_state_of m area_table old) (plan_after_code p o)
+    ≡ record { module_state = module_state_of n area_table new; rest = rest; code = code }
+    → (code ≡ None → IsModuleState (module_state_of n area_table new) []) → IsUnderWay (module_state_of n area_table new) rest
+    → KeepsOtherInstances old new p rest code → AreClasses n → KeepsFlex (store_of m) (store_of n)
+    → cpu' ≡ core_by cpu code → fs' ≡ frames_by fs cpu call code → plans ≡ (kept_by rest code, plan_unless_code rest code)
+    → IsCarriedNext m n area_table old new (record { cpu = cpu; frames = fs }) (record { cpu = cpu'; frames = fs' }) call p o plans
+carried_next m n area_table old new cpu cpu' fs fs' call p rest o code plans carried ended going others classes flex core opens is = record {
+  rest = rest;
+  code = code;
+  carried = carried;
+  next = next_entry _ _ _ _ _ carried;
+  ended = ended;
+  going = going;
+  others = others;
+  classes = classes;
+  flex = flex;
+  core = core;
+  opens = opens;
+  plans = is;
+}

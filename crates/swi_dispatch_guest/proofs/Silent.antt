@@ -11,7 +11,7 @@ use Rattle.swi_dispatch_guest.specs.declared.halt.Halt.{Halt}
 use Rattle.swi_dispatch_guest.specs.MachineState.{MachineState, StepOutcome, silent}
 use Rattle.swi_dispatch_guest.specs.Step.{outcome_of_turn, Turned, result_of_instruction, unless_halted, machine_step}
 use Rattle.swi_dispatch_guest.specs.GuestState.{TakesTurn}
-use Rattle.swi_dispatch_guest.specs.Run.{Run, is_among, ran, then_run, silent_run, stop_after}
+use Rattle.swi_dispatch_guest.specs.Run.{Run, is_among, last_or, ran, then_run, silent_last, silent_run, stop_after}
 use Rattle.swi_dispatch_guest.proofs.RunLoop.{one_step, one_run, ran-none, steps_more}
 
 done_by : (images : List Entry) (s : MachineState) (r : Result (State × Bytes) StepEnd) (s' : MachineState) → Turned s r turn.Done s'
@@ -66,3 +66,8 @@ silent_more images breaks s0 s s' n t x done so_far unhalted end h =
     ∙ ap (then_run (silent_run s n stop.Budget))
     (silent_one images breaks s s' x unhalted end (subst (λ (u : StepEnd). TakesTurn s u s') done h))
     ∙ silent_joins s s' n x
+
+-- what it prints, where nothing was printed before
+pub none_shown : (n : ℕ) (before after : List ℕ) → before ≡ [] → after ≡ last_or before (silent_last n) → after ≡ []
+none_shown zero before after none is = is ∙ none
+none_shown (suc n) before after none is = is

@@ -17,7 +17,7 @@ use Rattle.swi_dispatch_answers.specs.declared.frames.call.Call.{Call}
 use Rattle.swi_dispatch_answers.specs.declared.frames.frame.Frame.{Frame}
 use Rattle.instances.specs.Naming.{KeepsOtherInstances}
 use Rattle.instances.specs.Turns.{IsUnderWay, module_doing}
-use Rattle.swi_dispatch_guest.specs.Gates.{core_by, frames_by, kept_by, plan_unless_code}
+use Rattle.swi_dispatch_plans.specs.ModuleCode.{core_by, frames_by, kept_by, plan_unless_code}
 use Rattle.swi_dispatch_guest.specs.OpenFrames.{entry_called}
 
 -- the core, and the frames of module code that is under way

@@ -2,15 +2,12 @@
 -- of module code to the next, and ends; and the return gate, where module code comes back (RISC OS
 -- 3 Programmer's Reference Manual, "Modules" and "OS_Module"; frames, the gate, and that a call
 -- that gives its caller no error does nothing where there is one, are this project's own).
-use Rattle.std.specs.Prelude.{◌≡◌, ℕ, Bool, true, false, ◌==◌, ◌&&◌, not, ◌++◌, ◌∷◌, [], List, Option, Some, None, Result, Ok, Err, if◌then◌else◌}
+use Rattle.std.specs.Prelude.{◌≡◌, ℕ, Bool, true, false, ◌==◌, List, Option, Some, None, Result, Ok, Err, if◌then◌else◌}
 use Rattle.profile.specs.declared.error.ErrorNumber.{ErrorNumber}
 use Rattle.profile.specs.declared.fault.Fault.TheVariants.{FetchUnmapped, ErrorStop, StackChanged}
 use Rattle.arm_core.specs.declared.psr.Mode.TheVariants.{Supervisor}
-use Rattle.address_map.specs.Bytes.{Bytes}
-use Rattle.arm_core.specs.State.{State, register_in, register_of}
-use Rattle.instances_table.specs.declared.plans.code.Code.{Code}
+use Rattle.arm_core.specs.State.{State, register_in}
 use Rattle.instances_table.specs.declared.plans.code.Outcome.{Outcome as CodeOutcome}
-use Rattle.instances_table.specs.declared.plans.code.Outcome.TheVariants.{Well, Refused}
 use Rattle.instances_table.specs.declared.plans.given.Given.{Given}
 use Rattle.instances_table.specs.plans.Carrying.{Carried}
 use Rattle.instances_table.specs.plans.Plans.{Plan, plan_after_code}
@@ -21,16 +18,14 @@ use Rattle.swi_dispatch_answers.specs.declared.frames.call.Call.{Call}
 use Rattle.swi_dispatch_answers.specs.declared.frames.frame.Frame.{Frame}
 use Rattle.swi_dispatch_answers.specs.declared.frames.frame.FrameKind.{FrameKind}
 use Rattle.swi_dispatch_answers.specs.declared.frames.frame.FrameKind.TheVariants.{Swi, Entry}
-use Rattle.swi_dispatch_answers.specs.frames.Entering.{code_entered}
-use Rattle.swi_dispatch_answers.specs.frames.Frames.{frames_after_close, frame_of, innermost_frame}
+use Rattle.swi_dispatch_answers.specs.frames.Frames.{frames_after_close, innermost_frame}
 use Rattle.swi_dispatch_answers.specs.frames.Leaving.{left}
 use Rattle.swi_dispatch_guest.specs.declared.halt.Halt.TheVariants as halt
 use Rattle.swi_dispatch_guest.specs.Answers.{with_answer}
 use Rattle.swi_dispatch_guest.specs.MachineState.{MachineState, StepOutcome, machine_module_state, silent, with_module_state}
 use Rattle.swi_dispatch_guest.specs.ModuleStart.{opened_at}
 use Rattle.swi_dispatch_guest.specs.Returns.{outcome_of_error, gone_back, outcome_of_halt}
-use Rattle.swi_dispatch_answers.specs.Errors.{error_at}
-use Rattle.swi_dispatch_answers.specs.Returns.{state_after_return}
+pub use Rattle.swi_dispatch_plans.specs.ModuleCode.{GoesBack, IsUntaken, core_by, frames_by, kept_by, outcome_left, plan_unless_code, returned_from}
 use Rattle.swi_dispatch_plans.specs.Trials.{error_ahead, module_state_carried}
 
 -- A module that was loaded to be run is entered with the text of the call, as OS_Module 2 does.
@@ -54,24 +49,7 @@ call_ended_by s call g None = entered_if call.enters (gone_back call.caller s fa
 abbrev pub call_ended : MachineState → Call → Plan → MachineState
 call_ended s call p = call_ended_by s call p.given p.first
 
--- What a call that was carried on comes to. Its next code, if any is left, is entered in a frame of
--- the call, and the plan is kept while that runs; else the plan has ended.
-abbrev pub core_by : State → Option Code → State
-core_by cpu (Some code) = code_entered cpu code
-core_by cpu None = cpu
-
-abbrev pub frames_by : List Frame → State → Call → Option Code → List Frame
-frames_by frames cpu call (Some code) = frames ++ frame_of cpu call (Entry code.kind) code.slot ∷ []
-frames_by frames cpu call None = frames
-
-abbrev pub kept_by : Plan → Option Code → Option Plan
-kept_by p (Some code) = Some p
-kept_by p None = None
-
-abbrev pub plan_unless_code : Plan → Option Code → Option Plan
-plan_unless_code p (Some code) = None
-plan_unless_code p None = Some p
-
+-- What a call that was carried on comes to.
 abbrev pub with_code : MachineState → State → List Frame → Option Plan → MachineState
 with_code s cpu frames plan = record s {
   cpu = cpu;
@@ -105,11 +83,7 @@ come_back s f = record s {
       { frames = frames_after_close s.tables.frames };
 }
 
--- A SWI of a module goes back. Where V is set it was refused: the error is the module's own, which
--- stands where R0 points.
-abbrev pub returned_from : State → Frame → State
-returned_from cpu f = state_after_return f.call.caller (left cpu f) cpu.psr.overflow f.call.next
-
+-- A SWI of a module goes back.
 abbrev pub frame_closed : MachineState → Frame → MachineState
 frame_closed s f = record s {
   cpu = returned_from s.cpu f;
@@ -120,20 +94,6 @@ abbrev pub swi_left : MachineState → Frame → StepOutcome
 swi_left s f =
     let answered : StepOutcome = silent (frame_closed s f) in
     if s.cpu.psr.overflow then outcome_of_error s f.call.is_x answered else answered
-
--- The two ways in which a SWI of a module can go back: the core is the caller's again, or its
--- caller takes no error and there is one, of this number.
-pub record GoesBack (cpu : State) (f : Frame) (back : State) : Type 0 where
-  pub taken : (cpu.psr.overflow && not f.call.is_x) ≡ false
-  pub core : back ≡ returned_from cpu f
-
-pub record IsUntaken (cpu : State) (b : Bytes) (f : Frame) (number : ℕ) : Type 0 where
-  pub refused : (cpu.psr.overflow && not f.call.is_x) ≡ true
-  pub error : number ≡ error_at b (register_of (returned_from cpu f) 0)
-
--- An initialisation or a finalisation with V set has refused, and its error is the R0 that it left.
-abbrev pub outcome_left : State → CodeOutcome
-outcome_left cpu = if cpu.psr.overflow then Refused (register_of cpu 0) else Well
 
 -- The call whose entry it was is carried on. Where its caller takes no error, and there is one, the
 -- step is a fault, and nothing of it is done.

@@ -1,16 +1,20 @@
 //! OS_Module, the reasons that add a module: its image is recorded at once, and the call begins
 //! (RISC OS 3 Programmer's Reference Manual, "OS_Module", reasons 0, 1, 10 and 11).
 
-ghost use Rattle.std.specs.Prelude.{◌≡◌, ◌<◌, ◌^◌, false, true, Ok, OnErr};
+ghost use Rattle.std.specs.Prelude.{◌≡◌, ◌<◌, ◌^◌, false, true, Ok, OnErr, ok_or};
+ghost use Rattle.profile.specs.Outcome.{bind};
+ghost use Rattle.profile.specs.declared.error.ErrorNumber.TheVariants.{BadString};
+ghost use Rattle.swi_dispatch_answers.specs.Words.{host_string};
 ghost use Rattle.profile.specs.images.module_header.Header.{header_of};
 ghost use Rattle.instances.specs.Copies.{may_be_copied};
 ghost use Rattle.instances.specs.NewImages.{may_be_in_place};
 
 use crate::guest::Guest;
-use crate::module_steps::carry_next;
 use instances_table::plans::{Outcome, Plan};
 use profile::ErrorNumber;
 use swi_dispatch_answers::frames::Call;
+use swi_dispatch_answers::words::host_string;
+use swi_dispatch_plans::module_code::open_code;
 use swi_dispatch_plans::{ImageFound, ImageRange, Images};
 
 /// What a call that adds a module has come to, if it isn't refused: its plan if that has ended;
@@ -52,6 +56,22 @@ impl Guest {
     {
         let started = self.start_load(images, call, words);
         self.go_on(call, started);
+    }
+
+    /// Loads a module as OS_Module 1 does with the X bit, with these words in place of the string
+    /// that R1 points to. The guest goes on at the present program counter.
+    #[tactic(auto, unfolding(crate::specs::Step::outcome_of_planned))]
+    pub(crate) fn load_here(&mut self, images: &Images, text: &[u8])
+        ensures { silent (state_of self.new)
+            ≡ outcome_of_planned (state_of self.old) true (state_of self.old).cpu.pc false
+            (bind (ok_or (host_string text.now) BadString)
+            (λ words. load_planned images.now (state_of self.old) words false)) }
+    {
+        let call = self.call_of(true, self.cpu.pc());
+        match host_string(text) {
+            Some(words) => self.load_words(images, call, words),
+            None => self.refuse_call(call, ErrorNumber::BadString),
+        }
     }
 
     /// OS_Module 10: R1 has the address of an image, R2 its length.
@@ -121,19 +141,13 @@ impl Guest {
         ensures { Starts (state_of self.old) call
             (image_planned (state_of self.old) image.now text.now) result (state_of self.new) }
     {
-        let plan = self
+        let mut plan = self
             .instances
             .load(&mut self.memory, &mut self.areas, image, text)?;
-        let (kept, ended) = carry_next(
-            &mut self.cpu,
-            &mut self.memory,
-            &self.areas,
-            &mut self.instances,
-            &mut self.frames,
-            call,
-            plan,
-            Outcome::Well,
-        );
+        let code = self
+            .instances
+            .carry(&mut self.memory, &self.areas, &mut plan, Outcome::Well);
+        let (kept, ended) = open_code(&mut self.cpu, &mut self.frames, call, plan, code);
         self.plan = kept;
         Ok(ended)
     }
@@ -150,19 +164,13 @@ impl Guest {
             (range_planned (state_of self.old) found.range.at found.range.len) result (state_of self.new) }
     {
         let ImageRange { at, len } = found.range;
-        let plan = self
+        let mut plan = self
             .instances
             .insert_found(&mut self.memory, &self.areas, at, len, found.header)?;
-        let (kept, ended) = carry_next(
-            &mut self.cpu,
-            &mut self.memory,
-            &self.areas,
-            &mut self.instances,
-            &mut self.frames,
-            call,
-            plan,
-            Outcome::Well,
-        );
+        let code = self
+            .instances
+            .carry(&mut self.memory, &self.areas, &mut plan, Outcome::Well);
+        let (kept, ended) = open_code(&mut self.cpu, &mut self.frames, call, plan, code);
         self.plan = kept;
         Ok(ended)
     }
@@ -181,19 +189,13 @@ impl Guest {
             (state_of self.new) }
     {
         let ImageRange { at, len } = found.range;
-        let plan = self
+        let mut plan = self
             .instances
             .insert_copy_found(&mut self.memory, &mut self.areas, at, len, found.header)?;
-        let (kept, ended) = carry_next(
-            &mut self.cpu,
-            &mut self.memory,
-            &self.areas,
-            &mut self.instances,
-            &mut self.frames,
-            call,
-            plan,
-            Outcome::Well,
-        );
+        let code = self
+            .instances
+            .carry(&mut self.memory, &self.areas, &mut plan, Outcome::Well);
+        let (kept, ended) = open_code(&mut self.cpu, &mut self.frames, call, plan, code);
         self.plan = kept;
         Ok(ended)
     }

@@ -1,21 +1,30 @@
-//! Store calls: what each does, and how a guest comes back from one.
+//! Store calls: what each does and prints, and how a guest comes back from one.
 
-ghost use Rattle.std.specs.Prelude.{◌≡◌, ◌<◌, ◌≤◌, ◌^◌, false, [], None, OnErr};
+ghost use Rattle.std.specs.Prelude.{ℕ, ◌≡◌, ◌<◌, ◌≤◌, ◌^◌, false, [], None, Some, OnErr};
+ghost use Rattle.swi_dispatch_answers.specs.declared.frames.call.Call.{Call};
 ghost use Rattle.swi_dispatch_guest.specs.Step.{call_of, is_exit, os_module_called, outcome_of_answer, outcome_of_call};
 
 use crate::guest::Guest;
 use crate::halt::Halt;
-use crate::printing::Output;
 use arm_core::{Mode, Psr};
-use profile::{Fault, ModuleReason, SwiName};
-use swi_dispatch_answers::Refusal;
+use arrayvec::ArrayVec;
+use profile::{ErrorNumber, Fault, ModuleReason, SwiName};
 use swi_dispatch_answers::frames::Call;
 use swi_dispatch_answers::returns::return_to;
+use swi_dispatch_answers::strings::{next_word, text_at};
+use swi_dispatch_answers::{Refusal, TextEnd};
 use swi_dispatch_plans::Images;
+
+/// The most bytes that a step can print.
+pub const MOST_PRINTED: usize = 4096;
+
+/// What a step prints.
+pub type Output = ArrayVec<u8, MOST_PRINTED>;
 
 impl Guest {
     ghost use Rattle.swi_dispatch_guest.specs.Answers.{with_answer};
-    ghost use Rattle.swi_dispatch_guest.specs.Calls.{call_answer, machine_in_supervisor, moving_error};
+    ghost use Rattle.swi_dispatch_guest.specs.Calls.{call_answer, machine_in_supervisor, moving_error, printable_at, wrote_text_after, wrote_text_at};
+    ghost use Rattle.arm_core.specs.State.{register_of};
     ghost use Rattle.swi_dispatch_guest.specs.MachineState.{outcome_with};
     ghost use Rattle.swi_dispatch_guest.specs.GuestState.{Answers, state_of};
     ghost use Rattle.swi_dispatch_guest.specs.Returns.{gone_back};
@@ -27,7 +36,7 @@ impl Guest {
     {
         Call {
             is_x,
-            caller: self.cpu().psr(),
+            caller: self.cpu.psr(),
             next,
             enters: false,
         }
@@ -63,7 +72,7 @@ impl Guest {
         ensures { outcome_with (state_of self.new) output.new.items
             ≡ os_module_called images.now (state_of self.old) call.is_x call.next number }
     {
-        match ModuleReason::of(self.cpu().register(0)) {
+        match ModuleReason::of(self.cpu.register(0)) {
             Some(ModuleReason::Run) => self.load_named(
                 images,
                 Call {
@@ -141,7 +150,7 @@ impl Guest {
         ensures unprinted { OnErr result (output.new.items ≡ []) }
     {
         match name {
-            Some(SwiName::WriteC) => output.push((self.cpu().register(0) % 256) as u8),
+            Some(SwiName::WriteC) => output.push((self.cpu.register(0) % 256) as u8),
             Some(SwiName::WriteS) => return self.write_text_after(output, call),
             Some(SwiName::Write0) => return self.write_text(output),
             Some(SwiName::NewLine) => {
@@ -158,6 +167,43 @@ impl Guest {
             Some(SwiName::WriteI) => output.push((number % 256) as u8),
             _ => return self.call_flex(name),
         }
+        Ok(())
+    }
+
+    // OS_WriteS: the text stands after the instruction, and the guest goes on after it.
+    fn write_text_after(&self, output: &mut Output, call: &mut Call) -> Result<(), Refusal>
+        requires unprinted { output.old.items ≡ [] }
+        ensures done { let s = state_of self.now in
+            Answers (wrote_text_after s call.old.next
+            (printable_at s.store.bytes call.old.next)) call.new.next
+            result (outcome_with s output.new.items) }
+        ensures call { call.new ≡ record call.old { next = call.new.next } }
+        ensures unprinted { OnErr result (output.new.items ≡ []) }
+    {
+        let Some(text) = text_at(&self.memory, call.next, TextEnd::Zero) else {
+            return Err(Refusal::System(ErrorNumber::BadString));
+        };
+        call.next = next_word(call.next + text.len() as u32 + 1);
+        *output = text;
+        Ok(())
+    }
+
+    // OS_Write0: R0 points to the text, and past its end afterwards.
+    fn write_text(&mut self, output: &mut Output) -> Result<(), Refusal>
+        requires unprinted { output.old.items ≡ [] }
+        ensures done { (next : ℕ) → let at = register_of (state_of self.old).cpu 0 in
+            Answers (wrote_text_at (state_of self.old) next at
+            (printable_at (state_of self.old).store.bytes at)) next result
+            (outcome_with (state_of self.new) output.new.items) }
+        ensures unmoved { OnErr result (state_of self.new ≡ state_of self.old) }
+        ensures unprinted { OnErr result (output.new.items ≡ []) }
+    {
+        let at = self.cpu.register(0);
+        let Some(text) = text_at(&self.memory, at, TextEnd::Zero) else {
+            return Err(Refusal::System(ErrorNumber::BadString));
+        };
+        self.answer(0, at + text.len() as u32 + 1);
+        *output = text;
         Ok(())
     }
 

@@ -20,14 +20,6 @@ impl Guest {
     ghost use Rattle.arm_core.specs.State.{register_of};
     ghost use Rattle.arm_core.specs.declared.psr.Psr.{Psr};
 
-    /// The number of the error that R0 points to, or that of `BadPointer` where no block can stand
-    /// there.
-    pub fn error_number(&self) -> u32
-        ensures { result ≡ error_number (state_of self.now) }
-    {
-        error_at(self.memory(), self.cpu().register(0))
-    }
-
     /// A call that errs goes back with its error, or is a fault, and then nothing is changed.
     pub(crate) fn end_with_error(&mut self, call: Call, refusal: Refusal)
         ensures { silent (state_of self.new) ≡ outcome_of_error (state_of self.old) call.is_x
@@ -50,7 +42,7 @@ impl Guest {
     {
         match refusal {
             Refusal::System(error) => self.system_number(error),
-            Refusal::Own => self.error_number(),
+            Refusal::Own => error_at(&self.memory, self.cpu.register(0)),
         }
     }
 

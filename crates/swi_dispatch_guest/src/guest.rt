@@ -1,10 +1,12 @@
 //! The guest: how it is made, one instruction of it, and what a turn of its core leaves to do.
 
 ghost use Rattle.std.specs.Prelude.{◌≡◌, ◌≤◌, ◌*◌, [], IfOk, IfSome, length};
-ghost use Rattle.swi_dispatch_guest.specs.Step.{swi_called, turn_end, without_x};
+ghost use Rattle.std.specs.Option.{option_map};
+ghost use Rattle.swi_dispatch_guest.specs.Step.{turn_end, without_x};
+ghost use Rattle.swi_dispatch_plans.specs.PlannerInput.{setting_in};
 
+use crate::calls::Output;
 use crate::halt::Halt;
-use crate::printing::Output;
 use address_map::AddressMap;
 use arm_core::{Cpu, StepEnd};
 use arm_run::DecodeCache;
@@ -12,14 +14,14 @@ use dynamic_areas::{Areas, start_memory};
 use instances::Instances;
 use instances_table::plans::Plan;
 use os_heap::Heaps;
-use profile::Config;
 use profile::memory_map::{ADDRESS_LIMIT, APPLICATION_START};
 use profile::word::is_bit_set;
+use profile::{Config, Stop};
 use std::alloc::{AllocError, Global};
 use std::marker::Model;
 use swi_dispatch_answers::frames::Frames;
 use swi_dispatch_plans::flex::Flex;
-use swi_dispatch_plans::{Images, Scratch};
+use swi_dispatch_plans::{Images, Planner, Scratch};
 
 /// The bit of a call's number that asks for errors to be returned.
 const X_BIT: u32 = 1 << 17;
@@ -27,7 +29,7 @@ const X_BIT: u32 = 1 << 17;
 /// A core, its memory and what stands on that, the module code that is under way, and what keeps
 /// the core from further steps.
 #[derive(Drop)]
-pub struct Guest {
+pub(crate) struct Guest {
     pub(crate) cpu: Cpu,
     pub(crate) memory: AddressMap,
     pub(crate) heaps: Heaps,
@@ -67,8 +69,8 @@ impl Model for Guest {
 }
 
 impl Guest {
-    ghost use Rattle.swi_dispatch_guest.specs.MachineState.{machine_start, outcome_with, silent};
-    ghost use Rattle.swi_dispatch_guest.specs.GuestState.{IsGuest, TakesTurn, state_of};
+    ghost use Rattle.swi_dispatch_guest.specs.MachineState.{machine_start, outcome_with, setting_of, silent, stop_of};
+    ghost use Rattle.swi_dispatch_guest.specs.GuestState.{IsGuest, state_of};
     ghost use Rattle.swi_dispatch_guest.specs.Returns.{outcome_of_halt};
     ghost use Rattle.swi_dispatch_guest.specs.Writes.{with_program};
 
@@ -79,7 +81,7 @@ impl Guest {
     /// # Errors
     ///
     /// Where memory is missing.
-    pub fn new(alloc: Global, config: Config) -> Result<Guest, AllocError>
+    pub(crate) fn new(alloc: Global, config: Config) -> Result<Guest, AllocError>
         ensures { IfOk result (λ guest. state_of guest ≡ machine_start config) }
     {
         let memory = start_memory(alloc, config)?;
@@ -100,7 +102,7 @@ impl Guest {
 
     /// Copies a program to the start of the application space of a guest that stands as it was
     /// made.
-    pub fn put_program(&mut self, config: Config, program: &[u8])
+    pub(crate) fn put_program(&mut self, config: Config, program: &[u8])
         requires start { state_of self.old ≡ machine_start config }
         requires fits { length program.now ≤ 4096 * config.app }
         ensures { state_of self.new ≡ with_program (state_of self.old) program.now }
@@ -110,7 +112,7 @@ impl Guest {
     }
 
     /// What holds of every guest, whatever it does. The call does nothing but say so.
-    pub fn known(&self)
+    pub(crate) fn known(&self)
         ensures { IsGuest self.now }
     {
         self.cpu.known();
@@ -131,29 +133,43 @@ impl Guest {
         }
     }
 
+    /// Why the guest is halted, if it is.
+    pub(crate) fn stop(&self) -> Option<Stop>
+        ensures { result ≡ option_map stop_of (state_of self.now).halt }
+    {
+        self.halt.map(Halt::stop)
+    }
+
+    // What the plans of calls on modules are made from.
+    pub(crate) fn planner<'a>(&'a self) -> Planner<'a>
+        ensures { setting_in result ≡ setting_of (state_of self.now) }
+    {
+        Planner::new(
+            &self.cpu,
+            &self.memory,
+            &self.areas,
+            &self.instances,
+            &self.frames,
+            &self.plan,
+        )
+    }
+
     /// What a turn of the core leaves to do, and prints.
-    pub fn after_turn(&mut self, images: &Images, output: &mut Output, turn: StepEnd)
+    pub(crate) fn after_turn(&mut self, images: &Images, output: &mut Output, turn: StepEnd)
         requires unprinted { output.old.items ≡ [] }
         ensures { outcome_with (state_of self.new) output.new.items
             ≡ turn_end images.now (state_of self.old) turn }
     {
         match turn {
             StepEnd::Done => {}
-            StepEnd::Swi(number) => self.call_by_instruction(images, output, number),
+            StepEnd::Swi(number) => {
+                let next = (self.cpu.pc() + 4) % ADDRESS_LIMIT;
+                let call = self.call_of(is_bit_set(number, 17), next);
+                self.call(images, output, call, without_x_bit(number));
+            }
             StepEnd::Gate => self.pass_gate(),
             StepEnd::Fault(fault) => self.halt_with(Halt::Fault(fault)),
         }
-    }
-
-    // A call by an instruction; the guest goes on after it.
-    fn call_by_instruction(&mut self, images: &Images, output: &mut Output, number: u32)
-        requires unprinted { output.old.items ≡ [] }
-        ensures { outcome_with (state_of self.new) output.new.items
-            ≡ swi_called images.now (state_of self.old) number }
-    {
-        let next = (self.cpu().pc() + 4) % ADDRESS_LIMIT;
-        let call = self.call_of(is_bit_set(number, 17), next);
-        self.call(images, output, call, without_x_bit(number));
     }
 
     pub(crate) fn halt_with(&mut self, halt: Halt)

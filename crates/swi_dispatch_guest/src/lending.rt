@@ -1,108 +1,109 @@
-//! The parts of a guest, lent for reading, and why it is halted.
+//! The parts of a machine, lent for reading, and why it is halted.
 
-ghost use Rattle.std.specs.Prelude.{◌≡◌, ◌≤◌, length};
+ghost use Rattle.std.specs.Prelude.{◌≡◌, ◌≤◌, false, length, IsSome};
 ghost use Rattle.std.specs.Option.{option_map};
 ghost use Rattle.address_map.specs.Memory.{bytes_of, free_pages};
 ghost use Rattle.os_heap.specs.Store.{store_of, IsSound};
 ghost use Rattle.dynamic_areas.specs.Rooms.{IsAreaTable};
-ghost use Rattle.swi_dispatch_plans.specs.flex.State.{IsFlex};
-ghost use Rattle.swi_dispatch_guest.specs.MachineState.{stop_of, setting_of};
-ghost use Rattle.swi_dispatch_plans.specs.PlannerInput.{setting_in};
+ghost use Rattle.flex_store.specs.State.{IsFlex};
+ghost use Rattle.swi_dispatch_guest.specs.Errors.{error_number};
+ghost use Rattle.swi_dispatch_guest.specs.MachineState.{stop_of};
+ghost use Rattle.swi_dispatch_guest.specs.GuestState.{state_of};
 
-use crate::guest::Guest;
-use crate::halt::Halt;
+use crate::machine::Machine;
 use address_map::AddressMap;
 use arm_core::Cpu;
 use dynamic_areas::Areas;
+use flex_store::Flex;
 use instances::Instances;
 use os_heap::Heaps;
 use profile::Stop;
+use swi_dispatch_answers::errors::error_at;
 use swi_dispatch_answers::frames::Frame;
-use swi_dispatch_plans::Planner;
-use swi_dispatch_plans::flex::Flex;
 
-impl Guest {
-    ghost use Rattle.swi_dispatch_guest.specs.GuestState.{state_of};
+impl Machine {
+    /// The bytes that the last step or store call printed; none before the first.
+    pub fn output(&self) -> &[u8]
+        ensures { result.now ≡ self.now.printed }
+    {
+        self.printed.as_slice()
+    }
+
     /// The core.
     pub fn cpu(&self) -> &Cpu
-        ensures { result.now ≡ (state_of self.now).cpu }
+        ensures { result.now ≡ (state_of self.now.guest).cpu }
     {
-        &self.cpu
+        &self.guest.cpu
     }
 
     /// The memory.
     #[tactic(auto, unfolding(os_heap::specs::Store::store_of))]
     pub fn memory(&self) -> &AddressMap
-        ensures map { result.now ≡ self.now.map }
-        ensures store { store_of result.now ≡ (state_of self.now).store }
-        ensures flex { IsFlex result.now (state_of self.now).tables.flex }
-        ensures pool { free_pages result.now ≡ (state_of self.now).pool }
-        ensures bytes { bytes_of result.now ≡ (state_of self.now).store.bytes }
+        ensures map { result.now ≡ self.now.guest.map }
+        ensures store { store_of result.now ≡ (state_of self.now.guest).store }
+        ensures flex { IsFlex result.now (state_of self.now.guest).tables.flex }
+        ensures pool { free_pages result.now ≡ (state_of self.now.guest).pool }
+        ensures bytes { bytes_of result.now ≡ (state_of self.now.guest).store.bytes }
         ensures sound { IsSound (store_of result.now) }
     {
-        &self.memory
+        &self.guest.memory
     }
 
     /// The heaps, which lie in the memory.
     pub fn heaps(&self) -> &Heaps {
-        &self.heaps
+        &self.guest.heaps
     }
 
     /// The dynamic areas, which stand on the memory.
     pub fn areas(&self) -> &Areas
-        ensures area_table { result.now ≡ (state_of self.now).tables.area_table }
+        ensures area_table { result.now ≡ (state_of self.now.guest).tables.area_table }
         ensures table { IsAreaTable result.now.areas }
     {
-        &self.areas
+        &self.guest.areas
     }
 
     /// The modules and their instances.
     pub fn instances(&self) -> &Instances
-        ensures { result.now ≡ (state_of self.now).tables.modules }
+        ensures { result.now ≡ (state_of self.now.guest).tables.modules }
     {
-        &self.instances
+        &self.guest.instances
     }
 
     /// Where the flex store is, if there is one; its blocks stand in the memory.
     pub fn flex(&self) -> &Flex
-        ensures { result.now ≡ (state_of self.now).tables.flex }
+        ensures { result.now ≡ (state_of self.now.guest).tables.flex }
     {
-        &self.flex
+        &self.guest.flex
     }
 
     /// How many frames of module code are open.
     pub fn frames(&self) -> usize
-        ensures value { result ≡ length (state_of self.now).tables.frames }
+        ensures value { result ≡ length (state_of self.now.guest).tables.frames }
         ensures most { result ≤ 32 }
     {
-        self.frames.len()
+        self.guest.frames.len()
     }
 
     /// The frames of module code that are open, the innermost last.
     pub fn open_frames(&self) -> &[Frame]
-        ensures { result.now ≡ (state_of self.now).tables.frames }
+        ensures { result.now ≡ (state_of self.now.guest).tables.frames }
     {
-        self.frames.as_slice()
+        self.guest.frames.as_slice()
     }
 
-    // What the plans of calls on modules are made from.
-    pub(crate) fn planner<'a>(&'a self) -> Planner<'a>
-        ensures { setting_in result ≡ setting_of (state_of self.now) }
-    {
-        Planner::new(
-            &self.cpu,
-            &self.memory,
-            &self.areas,
-            &self.instances,
-            &self.frames,
-            &self.plan,
-        )
-    }
-
-    /// Why the guest is halted, if it is.
+    /// Why the machine is halted, if it is.
     pub fn stop(&self) -> Option<Stop>
-        ensures { result ≡ option_map stop_of (state_of self.now).halt }
+        ensures halt { result ≡ option_map stop_of (state_of self.now.guest).halt }
+        ensures stepped { IsSome result → self.now.is_fresh ≡ false }
     {
-        self.halt.map(Halt::stop)
+        self.guest.stop()
+    }
+
+    /// The number of the error that R0 points to, or that of `BadPointer` where no block can stand
+    /// there.
+    pub fn error_number(&self) -> u32
+        ensures { result ≡ error_number (state_of self.now.guest) }
+    {
+        error_at(&self.guest.memory, self.guest.cpu.register(0))
     }
 }

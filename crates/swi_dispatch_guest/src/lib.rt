@@ -1,35 +1,39 @@
-//! The guest, with all that its instructions and store calls act on: its value is the written
-//! machine.
+//! The machine, for the debugger and the shell: a guest with all that its instructions and store
+//! calls act on, and what its steps print, one step at a time or many.
 //!
-//! Promise: each step and each call from outside leaves the written machine's state after it, and
-//! what holds of every machine stays.
+//! Promise: `step`, `run`, `boot` and calls from outside leave the written machine's state after
+//! them and print what it does, and what holds of every machine stays.
+//!
+//! `Machine` (machine.rt) is all that others call. Its `Guest` (guest.rt) is the written machine
+//! itself; the rest of its methods, one file for each kind of call, are the guest's.
 #![tactic(auto)]
 
 pub mod additions;
+pub mod boot_error;
 pub mod calls;
-pub mod core_run;
 pub mod errors;
-pub mod gate;
 pub mod guest;
 pub mod halt;
 pub mod law_frames;
 pub mod laws;
 pub mod lending;
-pub mod module_start;
+pub mod machine;
+pub mod module_calls;
 pub mod module_steps;
-pub mod module_swis;
 pub mod outside;
-pub mod printing;
 pub mod running;
 pub mod store_calls;
 
 pub use arm_run::{BreakError, Breaks};
 pub use arm_step::{Mode, Psr};
+pub use boot_error::BootError;
 pub use dynamic_areas::{Area, Areas};
-pub use guest::{Guest, without_x_bit};
+pub use flex_store::{Flex, FlexBlock, FlexBlocks};
+pub use guest::without_x_bit;
 pub use halt::Halt;
 pub use instances::{InstanceInfo, Instances, ModuleInfo};
-pub use printing::Output;
+pub use machine::Machine;
+pub use os_heap::Blocks;
 pub use running::Ran;
 pub use swi_dispatch_answers::frames::{CodeKind, Frame, FrameKind};
 pub use swi_dispatch_answers::{Refusal, TextEnd};

@@ -1,27 +1,23 @@
-//! Calls on modules that may run module code, step by step: how such a call begins, goes on and
-//! ends (RISC OS 3 Programmer's Reference Manual, "Modules" and "OS_Module").
+//! Calls on modules that may run module code, step by step: how such a call begins, goes on at the
+//! return gate, where module code comes back, and ends (RISC OS 3 Programmer's Reference Manual,
+//! "Modules" and "OS_Module").
 
-ghost use Rattle.std.specs.Prelude.{◌≡◌, ◌<◌, false, length, IfOk};
-ghost use Rattle.instances.specs.module_state.ModuleState.{module_state_of};
-ghost use Rattle.os_heap.specs.Store.{AreClasses};
-ghost use Rattle.instances.specs.Turns.{IsUnderWay};
+ghost use Rattle.std.specs.Prelude.{◌≡◌, false, Some, IfOk};
+ghost use Rattle.swi_dispatch_answers.specs.frames.Busy.{is_swi};
+ghost use Rattle.swi_dispatch_answers.specs.frames.Frames.{innermost_frame};
 ghost use Rattle.swi_dispatch_plans.specs.Trials.{module_state_carried};
-ghost use Rattle.swi_dispatch_guest.specs.Carried.{IsCarriedNext};
-ghost use Rattle.swi_dispatch_guest.specs.Gates.{call_ended, core_by, ended_of, frames_by, kept_by, loaded_entered, plan_unless_code, state_after_plan, state_with_code_entered};
+ghost use Rattle.swi_dispatch_guest.specs.Gates.{Resumes, ended_of, fault_kept, loaded_entered, outcome_of_gate, plan_left, state_after_plan, state_with_code_entered};
 
 use crate::guest::Guest;
-use address_map::AddressMap;
-use arm_core::Cpu;
-use dynamic_areas::Areas;
-use instances::Instances;
-use instances_table::plans::{Code, Ended, Given, Outcome, Plan};
-use profile::ErrorNumber;
-use swi_dispatch_answers::frames::{Call, Frame, FrameKind, Frames, enter_code};
+use crate::halt::Halt;
+use instances_table::plans::{Ended, Given, Outcome, Plan};
+use profile::{ErrorNumber, Fault};
+use swi_dispatch_answers::frames::{Call, Frame, FrameKind};
+use swi_dispatch_plans::module_code::{leave_swi, open_code, outcome_left};
 
 impl Guest {
     ghost use Rattle.swi_dispatch_guest.specs.GuestState.{state_of};
     ghost use Rattle.swi_dispatch_guest.specs.MachineState.{machine_module_state, silent, setting_of};
-    ghost use Rattle.swi_dispatch_guest.specs.Gates.{carried_on};
     ghost use Rattle.swi_dispatch_guest.specs.Step.{begun_alone, call_of};
     ghost use Rattle.swi_dispatch_plans.specs.Beginning.{CanBegin};
 
@@ -33,17 +29,12 @@ impl Guest {
         ensures { silent (state_of self.new) ≡ begun_alone (state_of self.old) call.is_x call.next planned }
     {
         match planned {
-            Ok(plan) => self.begin_plan(call, plan),
+            Ok(plan) => {
+                let ended = self.carry_first(call, plan);
+                self.finish(call, ended);
+            }
             Err(error) => self.refuse_call(call, error),
         }
-    }
-
-    fn begin_plan(&mut self, call: Call, plan: Plan)
-        requires begins { CanBegin (setting_of (state_of self.old)) plan }
-        ensures { state_of self.new ≡ carried_on (state_of self.old) call plan }
-    {
-        let ended = self.carry_first(call, plan);
-        self.finish(call, ended);
     }
 
     // What the plan of a new call does first. Answers the plan if it has ended; else it is kept,
@@ -55,33 +46,22 @@ impl Guest {
         ensures ended { result ≡ ended_of (module_state_carried (machine_module_state (state_of self.old))
             plan) }
     {
-        let (kept, ended) = carry_next(
-            &mut self.cpu,
-            &mut self.memory,
-            &self.areas,
-            &mut self.instances,
-            &mut self.frames,
-            call,
-            plan,
-            Outcome::Well,
-        );
+        let mut plan = plan;
+        let code = self
+            .instances
+            .carry(&mut self.memory, &self.areas, &mut plan, Outcome::Well);
+        let (kept, ended) = open_code(&mut self.cpu, &mut self.frames, call, plan, code);
         self.plan = kept;
         ended
     }
 
-    /// A call goes back if its plan has ended.
+    /// A call goes back if its plan has ended: nothing of it is left then.
     pub(crate) fn finish(&mut self, call: Call, ended: Option<Plan>)
         ensures { state_of self.new ≡ state_after_plan (state_of self.old) call ended }
     {
-        if let Some(plan) = ended {
-            self.end_call(call, &plan);
-        }
-    }
-
-    // Nothing of a call is left: it goes back.
-    fn end_call(&mut self, call: Call, plan: &Plan)
-        ensures { state_of self.new ≡ call_ended (state_of self.old) call plan.now }
-    {
+        let Some(plan) = ended else {
+            return;
+        };
         match plan.end() {
             Ended::Own(r0) => {
                 self.answer(0, r0);
@@ -100,54 +80,79 @@ impl Guest {
     fn enter_loaded(&mut self, given: &Given)
         ensures { state_of self.new ≡ loaded_entered (state_of self.old) given.now }
     {
-        if let Ok(start) = self.instances().start(given.header.title.as_slice()) {
+        if let Ok(start) = self.instances.start(given.header.title.as_slice()) {
             self.open_module(start, given.text.as_slice());
         }
     }
-}
 
-/// Carries a plan on, after code of it came back with this outcome or where none ran, to its next
-/// code, which is entered in a frame of the call. Answers the plan that is kept while that runs;
-/// or, where there is no code, the plan that has ended.
-pub(crate) fn carry_next(
-    cpu: &mut Cpu,
-    memory: &mut AddressMap,
-    areas: &Areas,
-    instances: &mut Instances,
-    frames: &mut Frames,
-    call: Call,
-    plan: Plan,
-    outcome: Outcome,
-) -> (Option<Plan>, Option<Plan>)
-    requires going { IsUnderWay (module_state_of memory.old areas.now instances.old) plan }
-    requires classes { AreClasses memory.old }
-    requires room { length frames.old < 32 }
-    ensures { IsCarriedNext memory.old memory.new areas.now instances.old instances.new
-        (record { cpu = cpu.old; frames = frames.old }) (record { cpu = cpu.new; frames = frames.new })
-        call plan outcome result }
-{
-    let mut plan = plan;
-    let code = instances.carry(memory, areas, &mut plan, outcome);
-    open_code(cpu, frames, call, plan, code)
-}
+    /// What a step does at the gate. Where no frame is open, there is nothing to be fetched.
+    pub(crate) fn pass_gate(&mut self)
+        ensures { silent (state_of self.new) ≡ outcome_of_gate (state_of self.old) }
+    {
+        let Some(frame) = self.frames.innermost() else {
+            return self.halt_with(Halt::Fault(Fault::FetchUnmapped));
+        };
+        if !frame.has_its_stack(&self.cpu) {
+            return self.halt_with(Halt::Fault(Fault::StackChanged));
+        }
+        if let FrameKind::Entry(_) = frame.kind {
+            let frame = *frame;
+            return self.leave_entry(frame);
+        }
+        match leave_swi(&mut self.cpu, &self.memory, frame) {
+            Ok(()) => self.frames.close(),
+            Err(number) => self.halt_with(Halt::Fault(Fault::ErrorStop(number))),
+        }
+    }
 
-// Enters the next code of a call that was carried on.
-fn open_code(
-    cpu: &mut Cpu,
-    frames: &mut Frames,
-    call: Call,
-    plan: Plan,
-    code: Option<Code>,
-) -> (Option<Plan>, Option<Plan>)
-    requires { length frames.old < 32 }
-    ensures core { cpu.new ≡ core_by cpu.old code }
-    ensures frames { frames.new ≡ frames_by frames.old cpu.old call code }
-    ensures plans { result ≡ (kept_by plan code, plan_unless_code plan code) }
-{
-    let Some(code) = code else {
-        return (None, Some(plan));
-    };
-    frames.open(Frame::of(cpu, call, FrameKind::Entry(code.kind), code.slot));
-    enter_code(cpu, code);
-    (Some(plan), None)
+    // The call whose entry it was is carried on. Where its caller takes no error, and there is one,
+    // nothing is changed.
+    #[inline(never)]
+    fn leave_entry(&mut self, frame: Frame)
+        requires last { innermost_frame (state_of self.old).tables.frames ≡ Some frame }
+        requires entry { is_swi frame.kind ≡ false }
+        ensures { silent (state_of self.new)
+            ≡ plan_left (state_of self.old) frame (state_of self.old).tables.plan }
+    {
+        let outcome = outcome_left(&self.cpu);
+        if let Some(number) = self.fault_ahead(frame.call, outcome) {
+            return self.halt_with(Halt::Fault(Fault::ErrorStop(number)));
+        }
+        let ended = self.resume(frame, outcome);
+        self.finish(frame.call, ended);
+    }
+
+    // The core is the caller's again, the frame is closed, and the plan that is kept, as one is
+    // while an entry's frame is open, is carried on. Answers it if it has ended.
+    fn resume(&mut self, frame: Frame, outcome: Outcome) -> Option<Plan>
+        requires last { innermost_frame (state_of self.old).tables.frames ≡ Some frame }
+        requires entry { is_swi frame.kind ≡ false }
+        ensures { Resumes (state_of self.old) frame outcome (state_of self.old).tables.plan result
+            (state_of self.new) }
+    {
+        let mut plan = self.plan.take()?;
+        frame.leave(&mut self.cpu);
+        self.frames.close();
+        let code = self
+            .instances
+            .carry(&mut self.memory, &self.areas, &mut plan, outcome);
+        let (kept, ended) = open_code(&mut self.cpu, &mut self.frames, frame.call, plan, code);
+        self.plan = kept;
+        ended
+    }
+
+    // The number of the error that a call ends with whose entry comes back with this outcome, if it
+    // ends with one that its caller doesn't take.
+    fn fault_ahead(&mut self, call: Call, outcome: Outcome) -> Option<u32>
+        ensures value { result ≡ fault_kept call (machine_module_state (state_of self.old)) outcome
+            (state_of self.old).tables.plan }
+        ensures same { self.new ≡ self.old }
+    {
+        if call.is_x {
+            return None;
+        }
+        let plan = self.plan.as_ref()?;
+        self.scratch
+            .error_after(&self.memory, &self.areas, &self.instances, plan, outcome)
+    }
 }

@@ -1,94 +1,76 @@
-//! What a user does to a guest from outside: calls as the guest would make them, and registers and
-//! words set.
+//! What a user sets in a machine from outside. The machine can't be booted after that.
 
-ghost use Rattle.std.specs.Prelude.{◌≡◌, ◌≤◌, ◌<◌, ◌%◌, ◌^◌, [], true, false, ok_or};
-ghost use Rattle.profile.specs.Outcome.{Leaves, bind};
-ghost use Rattle.profile.specs.declared.error.ErrorNumber.TheVariants.{BadString};
-ghost use Rattle.swi_dispatch_answers.specs.Words.{host_string};
+ghost use Rattle.std.specs.Prelude.{◌≡◌, ◌≤◌, ◌<◌, ◌%◌, ◌^◌, ◌&&◌, false, is_err};
+ghost use Rattle.profile.specs.Outcome.{Leaves};
+ghost use Rattle.swi_dispatch_guest.specs.Writes.{machine_after_poke, machine_at, machine_unhalted, machine_with_bank_register, machine_with_register, machine_with_status};
 
-use crate::guest::{Guest, without_x_bit};
-use crate::printing::Output;
+use crate::machine::Machine;
 use arm_core::{Mode, Psr};
-use profile::{ErrorNumber, Fault};
-use swi_dispatch_answers::words::host_string;
-use swi_dispatch_plans::Images;
+use profile::Fault;
 
-impl Guest {
+impl Machine {
     ghost use Rattle.swi_dispatch_guest.specs.GuestState.{state_of};
-    ghost use Rattle.swi_dispatch_guest.specs.Additions.{load_planned};
-    ghost use Rattle.swi_dispatch_guest.specs.MachineState.{outcome_with, silent};
-    ghost use Rattle.swi_dispatch_guest.specs.Step.{outcome_of_call, outcome_of_planned, without_x};
-    ghost use Rattle.swi_dispatch_guest.specs.Writes.{machine_after_poke, machine_at, machine_unhalted, machine_with_bank_register};
-    ghost use Rattle.swi_dispatch_guest.specs.Writes.{machine_with_register, machine_with_status};
-
-    /// Makes a store call with the X bit, of which bits 31 to 24 of the number and its X bit are
-    /// left out. The guest goes on at the present program counter.
-    pub fn call_here(&mut self, images: &Images, output: &mut Output, number: u32)
-        requires unprinted { output.old.items ≡ [] }
-        ensures { outcome_with (state_of self.new) output.new.items
-            ≡ outcome_of_call images.now (state_of self.old) true (state_of self.old).cpu.pc
-            (without_x (number % 2 ^ 24)) }
-    {
-        let call = self.call_of(true, self.cpu().pc());
-        self.call(images, output, call, without_x_bit(number % (1 << 24)));
-    }
-
-    /// Loads a module as OS_Module 1 does with the X bit, with these words in place of the string
-    /// that R1 points to. The guest goes on at the present program counter.
-    #[tactic(auto, unfolding(crate::specs::Step::outcome_of_planned))]
-    pub fn load_here(&mut self, images: &Images, text: &[u8])
-        ensures { silent (state_of self.new)
-            ≡ outcome_of_planned (state_of self.old) true (state_of self.old).cpu.pc false
-            (bind (ok_or (host_string text.now) BadString)
-            (λ words. load_planned images.now (state_of self.old) words false)) }
-    {
-        let call = self.call_of(true, self.cpu().pc());
-        match host_string(text) {
-            Some(words) => self.load_words(images, call, words),
-            None => self.refuse_call(call, ErrorNumber::BadString),
-        }
-    }
+    ghost use Rattle.swi_dispatch_guest.specs.Value.{IsBesides, IsMachine, IsWritten};
 
     /// Sets one of R0 to R14 of the present mode.
     pub fn set_register(&mut self, number: u32, value: u32)
         requires { number ≤ 14 }
-        ensures { state_of self.new ≡ machine_with_register (state_of self.old) number value }
+        ensures written { IsWritten self.old self.new
+            (machine_with_register (state_of self.old.guest) number value) }
+        ensures kept { IsMachine self.new }
     {
-        self.cpu.set_register(number, value);
+        self.is_fresh = false;
+        self.guest.cpu.set_register(number, value);
+        self.known();
     }
 
-    /// Sets one of R0 to R14 of a mode, whatever the present one.
+    /// Sets one of R0 to R14 of a mode, whatever the present one: that of its bank, or the one that
+    /// all modes share.
     pub fn set_register_in(&mut self, mode: Mode, number: u32, value: u32)
         requires { number ≤ 14 }
-        ensures { state_of self.new ≡ machine_with_bank_register (state_of self.old) mode number value }
+        ensures written { IsWritten self.old self.new
+            (machine_with_bank_register (state_of self.old.guest) mode number value) }
+        ensures kept { IsMachine self.new }
     {
-        self.cpu.set_register_in(mode, number, value);
+        self.is_fresh = false;
+        self.guest.cpu.set_register_in(mode, number, value);
+        self.known();
     }
 
-    /// Sets the program counter.
+    /// Sets the program counter, from which the next step takes its instruction. A halted machine
+    /// stays halted.
     pub fn set_pc(&mut self, address: u32)
         requires aligned { address % 4 ≡ 0 }
         requires inside { address < 2 ^ 26 }
-        ensures { state_of self.new ≡ machine_at (state_of self.old) address }
+        ensures written { IsWritten self.old self.new (machine_at (state_of self.old.guest) address) }
+        ensures kept { IsMachine self.new }
     {
-        self.cpu.set_pc(address);
+        self.is_fresh = false;
+        self.guest.cpu.set_pc(address);
+        self.known();
     }
 
-    /// Lets the guest take steps again, whatever has halted it.
+    /// Lets the machine take steps again, whatever has halted it.
     pub fn wake(&mut self)
-        ensures { state_of self.new ≡ machine_unhalted (state_of self.old) }
+        ensures written { IsWritten self.old self.new (machine_unhalted (state_of self.old.guest)) }
+        ensures kept { IsMachine self.new }
     {
-        self.halt = None;
+        self.is_fresh = false;
+        self.guest.halt = None;
+        self.known();
     }
 
-    /// Sets the flags, the interrupt bits and the mode.
+    /// Sets the status: the flags N, Z, C and V, the interrupt bits I and F, and the mode.
     pub fn set_psr(&mut self, status: Psr)
-        ensures { state_of self.new ≡ machine_with_status (state_of self.old) status }
+        ensures written { IsWritten self.old self.new (machine_with_status (state_of self.old.guest) status) }
+        ensures kept { IsMachine self.new }
     {
-        self.cpu.set_psr(status);
+        self.is_fresh = false;
+        self.guest.cpu.set_psr(status);
+        self.known();
     }
 
-    /// Stores a word as the guest's store instruction would. A refusal changes nothing.
+    /// Stores a word as a guest's store instruction would. A refusal changes nothing.
     ///
     /// # Errors
     ///
@@ -96,9 +78,14 @@ impl Guest {
     /// `OwnedWord` where the store calls keep their records.
     pub fn poke(&mut self, at: u32, value: u32) -> Result<(), Fault>
         requires { at % 4 ≡ 0 }
-        ensures { Leaves (state_of self.old) (machine_after_poke (state_of self.old) at value) result
-            (state_of self.new) }
+        ensures state { Leaves (state_of self.old.guest)
+            (machine_after_poke (state_of self.old.guest) at value) result (state_of self.new.guest) }
+        ensures rest { IsBesides self.old self.new (self.old.is_fresh && is_err result) }
+        ensures kept { IsMachine self.new }
     {
-        self.memory.store_word(at, value)
+        let stored = self.guest.memory.store_word(at, value);
+        self.is_fresh &= stored.is_err();
+        self.known();
+        stored
     }
 }

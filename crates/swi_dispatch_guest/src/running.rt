@@ -1,19 +1,20 @@
-//! Runs of steps, within a budget and up to a break, and what they print.
+//! One step of a guest; instructions that the core does by itself, one after another; and runs of
+//! steps, within a budget and up to a break, and what they print.
 
-ghost use Rattle.std.specs.Prelude.{◌≡◌, ◌≢◌, ◌<◌, ◌&&◌, ◌==◌, ◌≤◌, ◌↔◌, None, Some, Err, List, false, true, IsTrue, IfOk, OnOk, OnErr};
-ghost use Rattle.std.specs.Option.{option_map};
-ghost use Rattle.swi_dispatch_guest.specs.GuestState.{TakesTurn, state_of};
+ghost use Rattle.std.specs.Prelude.{◌≡◌, ◌≢◌, ◌<◌, ◌==◌, ◌≤◌, ◌↔◌, None, Some, Err, List, [], true, IsTrue, IfOk, OnOk, OnErr};
+ghost use Rattle.arm_core.specs.declared.turn.StepEnd.TheVariants.{Done};
+ghost use Rattle.swi_dispatch_guest.specs.GuestState.{AreCoreSteps, TakesTurn, state_of};
 ghost use Rattle.swi_dispatch_guest.specs.Run.{ran, stop_after, count_after, last_or, silent_run, silent_last, silent_stop};
-ghost use Rattle.swi_dispatch_guest.specs.MachineState.{outcome_with, stop_of};
+ghost use Rattle.swi_dispatch_guest.specs.MachineState.{outcome_with};
 ghost use Rattle.swi_dispatch_guest.specs.Step.{machine_step};
 ghost use Rattle.std.specs.Io.KnownBytes.{Appends};
 ghost use Rattle.profile.specs.Output.{AddsPart};
 ghost use Rattle.swi_dispatch_guest.specs.Ending.{Ends, StandsAfter};
 
+use crate::calls::Output;
 use crate::guest::Guest;
-use crate::printing::Output;
 use arm_core::StepEnd;
-use arm_run::Breaks;
+use arm_run::{Breaks, run};
 use profile::{Sink, Stop, WriteFault, push_all};
 use swi_dispatch_plans::Images;
 
@@ -46,7 +47,7 @@ impl Guest {
     ///
     /// `WriteFault` where the sink failed; the guest then stands after the step whose output
     /// failed.
-    pub fn run<W: Sink>(
+    pub(crate) fn run<W: Sink>(
         &mut self,
         images: &Images,
         breaks: &Breaks,
@@ -84,10 +85,25 @@ impl Guest {
         Ok(Ran { stop, taken })
     }
 
-    // Takes steps as long as each is an instruction that the core does by itself, which prints
-    // nothing and halts nothing. Answers how many, and the turn that comes next, or why the run
-    // ended before.
-    fn run_silently(
+    /// Takes one step of a guest that isn't halted: an instruction or a store call.
+    pub(crate) fn step(&mut self, images: &Images, output: &mut Output)
+        requires unhalted { (state_of self.old).halt ≡ None }
+        requires unprinted { output.old.items ≡ [] }
+        ensures { outcome_with (state_of self.new) output.new.items
+            ≡ machine_step images.now (state_of self.old) }
+    {
+        let (_, next) = self.run_silently(&Breaks::new(), output, 1);
+        match next {
+            Ok(turn) => self.after_turn(images, output, turn),
+            Err(_) => {}
+        }
+    }
+
+    /// Takes up to so many steps, as long as each is an instruction that the core does by itself,
+    /// which prints nothing and halts nothing, and no further than to a break. Answers how many,
+    /// and the turn that comes next where that is another, or why a run of these steps ends. No
+    /// other function runs the core, so that its code stands in one loop.
+    pub(crate) fn run_silently(
         &mut self,
         breaks: &Breaks,
         output: &mut Output,
@@ -97,31 +113,24 @@ impl Guest {
         requires unhalted { (state_of self.old).halt ≡ None }
         ensures ran { (images : List Entry) → ran images breaks.now result.0 (state_of self.old)
             ≡ silent_run (state_of self.new) result.0 (silent_stop result.1) }
+        ensures steps { AreCoreSteps result.0 (state_of self.old) (state_of self.new) }
         ensures output { output.new.items ≡ last_or output.old.items (silent_last result.0) }
         ensures next { IfOk result.1 (λ turn. TakesTurn (state_of self.new) turn (state_of self.new)) }
+        ensures other { IfOk result.1 (λ turn. turn ≢ Done) }
         ensures fewer { OnOk result.1 (result.0 < most) }
         ensures all { result.1 ≡ Err Stop.Budget → result.0 ≡ most }
         ensures unhalted { (state_of self.new).halt ≡ None }
         ensures most { result.0 ≤ most }
     {
-        let (taken, next) = self.take_instructions(breaks, most);
-        if taken > 0 {
-            output.clear();
-        }
-        (taken, next)
-    }
-
-    // Takes a step of a guest that isn't halted, by the turn that comes next.
-    fn step_from(&mut self, images: &Images, output: &mut Output, turn: StepEnd) -> Option<Stop>
-        requires unhalted { (state_of self.old).halt ≡ None }
-        requires next { TakesTurn (state_of self.old) turn (state_of self.old) }
-        ensures after { outcome_with (state_of self.new) output.new.items
-            ≡ machine_step images.now (state_of self.old) }
-        ensures stop { result ≡ option_map stop_of (state_of self.new).halt }
-    {
-        output.clear();
-        self.after_turn(images, output, turn);
-        self.stop()
+        let silent = run(
+            &mut self.cpu,
+            &mut self.memory,
+            &mut self.ready,
+            breaks,
+            most,
+        );
+        clear_after(output, silent.0);
+        silent
     }
 
     // A run of one step of a guest that isn't halted, by the turn that comes next.
@@ -148,28 +157,37 @@ impl Guest {
         ensures flag { OnErr result (W.has_failed sink.new ≡ true) }
         ensures same_flag { OnOk result (W.has_failed sink.new ≡ W.has_failed sink.old) }
     {
-        let halt = self.step_from(images, output, turn);
+        output.clear();
+        self.after_turn(images, output, turn);
         write_output(sink, output)?;
-        Ok(self.ran_one(breaks, halt))
+        Ok(self.ran_one(breaks))
     }
 
     // Why a run of one step ended, and how it counts.
-    fn ran_one(&self, breaks: &Breaks, halt: Option<Stop>) -> Ran
-        requires { halt ≡ option_map stop_of (state_of self.now).halt }
+    fn ran_one(&self, breaks: &Breaks) -> Ran
         ensures stop { result.stop ≡ stop_after breaks.now (state_of self.now) (state_of self.now).halt }
         ensures taken { result.taken ≡ count_after (state_of self.now).halt }
         ensures count { result.taken ≤ 1 }
     {
-        if let Some(stop) = halt {
+        if let Some(stop) = self.stop() {
             let taken = if stop == Stop::Exit { 1 } else { 0 };
             return Ran { stop, taken };
         }
-        let at = self.cpu().pc();
+        let at = self.cpu.pc();
         let mut stop = Stop::Budget;
         if breaks.has(at) {
             stop = Stop::Break(at);
         }
         Ran { stop, taken: 1 }
+    }
+}
+
+// What was printed before stands on where no step is taken.
+fn clear_after(output: &mut Output, taken: u64)
+    ensures { output.new.items ≡ last_or output.old.items (silent_last taken) }
+{
+    if taken > 0 {
+        output.clear();
     }
 }
 

@@ -1,4 +1,5 @@
 pub mod Beginning
+pub mod ModuleCode
 pub mod Sparing
 pub mod Trials
 pub mod StoreLemmas

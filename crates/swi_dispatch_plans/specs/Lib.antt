@@ -6,6 +6,7 @@ pub use Rattle.instances.specs.declared.answers.Start
 pub use Rattle.instances.specs.module_state
 pub mod Beginning
 pub mod ImagePlans
+pub mod ModuleCode
 pub mod ModulePlans
 pub mod Openings
 pub mod PlannerInput

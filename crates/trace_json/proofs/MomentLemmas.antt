@@ -7,9 +7,9 @@ use Rattle.profile.specs.images.Entries.{Entry}
 use Rattle.address_map.specs.Bytes.{Bytes, in_range, word_at}
 use Rattle.profile.specs.declared.stop.Stop.{Stop}
 use Rattle.arm_core.specs.State.{State}
-use Rattle.swi_dispatch.specs.MachineState.{MachineState, stop_of}
-use Rattle.swi_dispatch.specs.SwiDispatchGuestHalt.{Halt}
-use Rattle.swi_dispatch.specs.Step.{machine_step}
+use Rattle.swi_dispatch_guest.specs.MachineState.{MachineState, stop_of}
+use Rattle.swi_dispatch_guest.specs.declared.halt.Halt.{Halt}
+use Rattle.swi_dispatch_guest.specs.Step.{machine_step}
 use Rattle.trace_effects.specs.Cause.{cause_of}
 use Rattle.trace_effects.specs.Stored.{stored_words}
 use Rattle.trace_effects.specs.changes.Laws.{CoreChanges, core_after}

@@ -2,7 +2,7 @@
 -- where one that isn't mapped counts as 0.
 use Rattle.std.specs.Prelude.{◌≡◌, ℕ, ◌+◌, ◌%◌, ◌<◌, ◌^◌, Bool, true, false, is_some, IsSome, List, ◌++◌, Option, Some, None, if◌then◌else◌}
 use Rattle.address_map.specs.Bytes.{word_at}
-use Rattle.swi_dispatch.specs.MachineState.{MachineState}
+use Rattle.swi_dispatch_guest.specs.MachineState.{MachineState}
 use Rattle.trace_effects.specs.Cause.{cause_of}
 use Rattle.trace_effects.specs.Stored.{stored_words}
 use Rattle.trace_effects.specs.changes.Laws.{CoreChanges}

@@ -2,8 +2,8 @@
 
 ghost use Rattle.std.specs.Prelude.{◌≡◌, codes, IfOk, OnOk};
 ghost use Rattle.address_map.specs.Bytes.{word_at};
-ghost use Rattle.swi_dispatch.specs.GuestState.{state_of};
-ghost use Rattle.swi_dispatch.specs.MachineState.{MachineState};
+ghost use Rattle.swi_dispatch_guest.specs.GuestState.{state_of};
+ghost use Rattle.swi_dispatch_guest.specs.MachineState.{MachineState};
 ghost use Rattle.store_copies.specs.Copies.{kept_in};
 ghost use Rattle.trace_json.specs.Moments.{IsCopy, ShowsChanges, words_of};
 ghost use Rattle.trace_moments.specs.WordFields.{ShowsWords};
@@ -14,7 +14,7 @@ use crate::lists::{push_areas, push_modules};
 use arm_core::Cpu;
 use std::alloc::{AllocError, Global};
 use store_copies::StoreCopy;
-use swi_dispatch::Machine;
+use swi_dispatch_guest::Machine;
 use trace_effects::record_text::RecordText;
 use trace_effects::shown_registers::WrittenRegisters;
 use trace_effects::shown_words::changed_words;

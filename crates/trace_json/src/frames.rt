@@ -3,7 +3,7 @@
 use arm_core::{Cpu, Mode};
 use instances::Instances;
 use std::alloc::AllocError;
-use swi_dispatch::{CodeKind, FrameKind, Machine};
+use swi_dispatch_guest::{CodeKind, FrameKind, Machine};
 use trace_effects::record_text::{Bracket, RecordText};
 use trace_moments::{ShownFrame, changed_frames, mode_name};
 use trace_store_text::modules::marks_of;

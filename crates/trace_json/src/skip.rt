@@ -6,7 +6,7 @@ use crate::heaps::BlockFate;
 use crate::step::push_out;
 use crate::stops::{push_stop, stop_reason};
 use std::alloc::{AllocError, Global};
-use swi_dispatch::Machine;
+use swi_dispatch_guest::Machine;
 use trace_effects::record_text::RecordText;
 
 /// Writes what steps left that aren't shown one by one, beside what differs of the core and of words, and

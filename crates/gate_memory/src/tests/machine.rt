@@ -4,7 +4,7 @@ use profile::images::Images;
 use profile::{Config, MemorySink, Stop};
 use std::alloc::Global;
 use std::test::Fail;
-use swi_dispatch::{Breaks, Machine};
+use swi_dispatch_guest::{Breaks, Machine};
 
 /// SWI OS_WriteS; "Hi", 0, 0; SWI OS_WriteI+"!"; SWI OS_NewLine; SWI OS_Exit
 const PRINTS: [u8; 20] = [

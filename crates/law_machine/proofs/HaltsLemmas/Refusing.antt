@@ -37,7 +37,7 @@ use Rattle.swi_dispatch_plans.specs.flex.Calls.{FlexMemory}
 use Rattle.swi_dispatch_answers.specs.frames.Entering.{swi_entered}
 use Rattle.swi_dispatch_plans.specs.Openings.{opening_asked}
 use Rattle.swi_dispatch_plans.specs.declared.openings.Opening.{Opening}
-use Rattle.swi_dispatch_guest.proofs.GateReturns.{first_slot}
+use Rattle.swi_dispatch_plans.proofs.ModuleCode.{first_slot}
 use Rattle.swi_dispatch_guest.proofs.Kept.{short_name}
 use Rattle.swi_dispatch_guest.proofs.NextTurn.{unhalted_step, outside_call}
 use Rattle.swi_dispatch_guest.specs.Answers.{Answer, refusal_answer, went_on}

@@ -4,9 +4,9 @@ use Rattle.std.proofs.lemmas.Bool.{and_parts, false≢true}
 use Rattle.profile.specs.declared.swi.SwiName.TheVariants as swi
 use Rattle.profile.specs.images.Entries.{Entry}
 use Rattle.os_heap_words.specs.lists.Heap.{HeapList}
-use Rattle.swi_dispatch.specs.MachineState.{MachineState}
+use Rattle.swi_dispatch_guest.specs.MachineState.{MachineState}
 use Rattle.law_machine.specs.heap_alone.Laws.{IsAside}
-use Rattle.swi_dispatch.specs.Moves.{Call, Move, Step, machine_after_event, outside_name}
+use Rattle.swi_dispatch_guest.specs.Moves.{Call, Move, Step, machine_after_event, outside_name}
 use Rattle.law_machine.specs.heap_runs.Calls.{CallsStandAside, are_plain_calls, is_anchored}
 
 is_step : Move → Bool

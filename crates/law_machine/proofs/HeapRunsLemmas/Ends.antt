@@ -1,6 +1,6 @@
 -- How a list of moves ends: at its end, by a move that halts the machine, or by one whose answer
 -- has no room.
-use Rattle.swi_dispatch.specs.Moves.{Move as WrittenEvent, machine_after_event, moved_all}
+use Rattle.swi_dispatch_guest.specs.Moves.{Move as WrittenEvent, machine_after_event, moved_all}
 use Rattle.std.proofs.Common.{ℕ, ◌≡◌, ◌≤◌, ◌<◌, ◌+◌, ◌-◌, ◌++◌, ◌∙◌, ◌&&◌, ◌==◌, Bool, true, false, List, [], ◌∷◌, length, take, option_map, Some, None, get_or, refl, sym, ap, subst, arith, length-append, if◌then◌else◌}
 use Rattle.std.proofs.Math.Seq.{take-length}
 use Rattle.std.proofs.lemmas.Bool.Decides.{nat_tests}
@@ -8,8 +8,8 @@ use Rattle.std.proofs.lemmas.List.{length-map}
 use Rattle.profile.specs.declared.stop.Stop.{Stop}
 use Rattle.profile.specs.images.Entries.{Entry}
 use Rattle.law_machine.specs.heap_calls.Turns.{Reply as WrittenReply}
-use Rattle.swi_dispatch.specs.MachineState.{MachineState, stop_of}
-use Rattle.swi_dispatch.specs.Value.{IsMachine, MachineValue}
+use Rattle.swi_dispatch_guest.specs.MachineState.{MachineState, stop_of}
+use Rattle.swi_dispatch_guest.specs.Value.{IsMachine, MachineValue}
 use Rattle.law_machine.specs.heap_alone.Moves.{answers_in, is_own, reply_of_machine}
 use Rattle.law_machine.proofs.HeapRunsLemmas.Fronts.{IsUnder, answered, answers_more, moved_more, next_front, under_more}
 use Rattle.law_machine.proofs.HeapRunsLemmas.Halves.{by_itself, still_by_itself}
@@ -18,7 +18,7 @@ use Rattle.law_machine.specs.heap_runs.Moves.{written_reply_of, noted_all, reply
 use Rattle.law_machine.specs.declared.heap_runs.moves.End.TheVariants as end
 use Rattle.law_machine.specs.declared.heap_runs.moves.MachineEvent.{MachineEvent}
 use Rattle.law_machine.specs.declared.heap_runs.moves.Reply.{Reply}
-use Rattle.swi_dispatch.specs.GuestState.{state_of}
+use Rattle.swi_dispatch_guest.specs.GuestState.{state_of}
 
 pub ends_all : (images : List Entry) (start : ℕ) (s t : MachineState) (moves : List WrittenEvent) (most count : ℕ) (reported : List Reply)
     → StateGoesOn s → IsUnder images start s t moves reported → count ≡ length moves → t.halt ≡ None → AreMade images start s t moves most count end.All reported

@@ -1,10 +1,10 @@
 -- Lists of moves and their fronts, move by move.
-use Rattle.swi_dispatch.specs.Moves.{Move as WrittenEvent, machine_after_event, moved_all}
+use Rattle.swi_dispatch_guest.specs.Moves.{Move as WrittenEvent, machine_after_event, moved_all}
 use Rattle.std.proofs.Common.{ℕ, ◌≡◌, ◌<◌, ◌+◌, ◌++◌, ◌∙◌, Bool, true, false, List, [], ◌∷◌, length, get_or, map, take, append_assoc, refl, sym, ap, subst, if◌then◌else◌}
 use Rattle.std.proofs.lemmas.List.{map_more, take-map}
 use Rattle.profile.specs.images.Entries.{Entry}
 use Rattle.law_machine.specs.heap_calls.Turns.{Reply as WrittenReply}
-use Rattle.swi_dispatch.specs.MachineState.{MachineState}
+use Rattle.swi_dispatch_guest.specs.MachineState.{MachineState}
 use Rattle.law_machine.specs.heap_alone.Moves.{answers_in, is_own, reply_of_machine}
 use Rattle.law_machine.specs.heap_runs.Making.{AreGoing, StateGoesOn}
 use Rattle.law_machine.specs.heap_runs.Moves.{written_reply_of, noted_all, reply_if, written_event_of, written_all}

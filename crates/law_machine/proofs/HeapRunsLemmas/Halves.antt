@@ -1,12 +1,12 @@
 -- What a heap answers by itself over the moves of a list that were done.
-use Rattle.swi_dispatch.specs.Moves.{Move, machine_after_event}
+use Rattle.swi_dispatch_guest.specs.Moves.{Move, machine_after_event}
 use Rattle.std.proofs.Common.{ℕ, ◌≡◌, ◌∙◌, List, [], ◌∷◌, map, Some, None, refl, sym, ap, subst}
 use Rattle.profile.specs.images.Entries.{Entry}
 use Rattle.os_heap_words.specs.lists.Heap.{HeapList}
 use Rattle.os_heap.specs.Store.{find_heap}
 use Rattle.law_machine.specs.heap_calls.Alone.{Alone, HeapCall, alone_in}
 use Rattle.law_machine.specs.heap_calls.Turns.{Reply as WrittenReply, heap_after_calls, replies}
-use Rattle.swi_dispatch.specs.MachineState.{MachineState}
+use Rattle.swi_dispatch_guest.specs.MachineState.{MachineState}
 use Rattle.law_machine.proofs.HeapAloneLemmas.Keeping.{found_alone}
 use Rattle.law_machine.proofs.HeapAloneLemmas.Lists.{stand_alone}
 use Rattle.law_machine.specs.heap_alone.Laws.{AreMovesDone, HasHeap, MachineHeapStandsAlone}

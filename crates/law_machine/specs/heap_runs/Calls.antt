@@ -5,8 +5,8 @@ use Rattle.std.specs.Prelude.{ℕ, ◌≡◌, ◌&&◌, not, Bool, true, false, 
 use Rattle.profile.specs.declared.swi.SwiName.{SwiName}
 use Rattle.profile.specs.declared.swi.SwiName.TheVariants as swi
 use Rattle.profile.specs.images.Entries.{Entry}
-use Rattle.swi_dispatch.specs.MachineState.{MachineState}
-use Rattle.swi_dispatch.specs.Moves.{Call, Move, Step, outside_name}
+use Rattle.swi_dispatch_guest.specs.MachineState.{MachineState}
+use Rattle.swi_dispatch_guest.specs.Moves.{Call, Move, Step, outside_name}
 use Rattle.law_machine.specs.heap_runs.Making.{AreAside}
 
 abbrev pub is_anchored : Option SwiName → Bool

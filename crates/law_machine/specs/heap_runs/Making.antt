@@ -1,6 +1,6 @@
 -- A list of moves made on a machine: how far it was made, what the machine then is, and what the
 -- heap at an address answered, which is what it answers by itself.
-use Rattle.swi_dispatch.specs.Moves.{Move, machine_after_event, moved_all}
+use Rattle.swi_dispatch_guest.specs.Moves.{Move, machine_after_event, moved_all}
 use Rattle.std.specs.Prelude.{ℕ, ◌≡◌, ◌≤◌, ◌<◌, ◌+◌, ◌-◌, true, false, Option, Some, None, option_map, List, [], ◌∷◌, length, take}
 use Rattle.profile.specs.declared.stop.Stop.{Stop}
 use Rattle.profile.specs.images.Entries.{Entry}
@@ -10,9 +10,9 @@ use Rattle.os_heap.specs.Store.{find_heap}
 use Rattle.law_machine.specs.heap_calls.Alone.{alone_in}
 use Rattle.law_machine.specs.heap_calls.Laws.{HeapHasNoAnchor, HoldsNoHeap, IsLeftWhole}
 use Rattle.law_machine.specs.heap_calls.Turns.{replies}
-use Rattle.swi_dispatch.specs.SwiDispatchGuestHalt.{Halt}
-use Rattle.swi_dispatch.specs.MachineState.{MachineState, stop_of}
-use Rattle.swi_dispatch.specs.GuestState.{IsState}
+use Rattle.swi_dispatch_guest.specs.declared.halt.Halt.{Halt}
+use Rattle.swi_dispatch_guest.specs.MachineState.{MachineState, stop_of}
+use Rattle.swi_dispatch_guest.specs.GuestState.{IsState}
 use Rattle.law_machine.specs.heap_alone.Laws.{IsAside, MachineHeapStandsAlone}
 use Rattle.law_machine.specs.heap_alone.Moves.{answers_in, calls_in, is_own}
 use Rattle.law_machine.specs.declared.heap_runs.moves.End.{End}

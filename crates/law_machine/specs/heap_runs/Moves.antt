@@ -1,8 +1,8 @@
 -- Moves and replies as programs have them, and as the written machine has them.
-use Rattle.swi_dispatch.specs.Moves.{Call, Move as WrittenEvent, Step}
+use Rattle.swi_dispatch_guest.specs.Moves.{Call, Move as WrittenEvent, Step}
 use Rattle.std.specs.Prelude.{Bool, List, [], ◌∷◌, map, if◌then◌else◌}
 use Rattle.law_machine.specs.heap_calls.Turns.{Answered, Refused, Reply as WrittenReply}
-use Rattle.swi_dispatch.specs.MachineState.{MachineState}
+use Rattle.swi_dispatch_guest.specs.MachineState.{MachineState}
 use Rattle.law_machine.specs.heap_alone.Moves.{reply_of_machine}
 use Rattle.law_machine.specs.declared.heap_runs.moves.MachineEvent.{MachineEvent}
 use Rattle.law_machine.specs.declared.heap_runs.moves.MachineEvent.TheVariants as move

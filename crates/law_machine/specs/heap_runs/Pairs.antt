@@ -1,11 +1,11 @@
 -- Lists of moves made on two machines: where the heap alone is the same and is asked the same, it
 -- answers the same, whatever else goes on in each.
-use Rattle.swi_dispatch.specs.Moves.{Move}
+use Rattle.swi_dispatch_guest.specs.Moves.{Move}
 use Rattle.std.specs.Prelude.{ℕ, ◌≡◌, List}
 use Rattle.profile.specs.images.Entries.{Entry}
 use Rattle.os_heap_words.specs.lists.Heap.{HeapList}
 use Rattle.law_machine.specs.heap_calls.Alone.{alone_in}
-use Rattle.swi_dispatch.specs.MachineState.{MachineState}
+use Rattle.swi_dispatch_guest.specs.MachineState.{MachineState}
 use Rattle.law_machine.specs.heap_alone.Laws.{MachinesAnswerAlike}
 use Rattle.law_machine.specs.heap_alone.Moves.{calls_in}
 use Rattle.law_machine.specs.declared.heap_runs.moves.Reply.{Reply}

@@ -1,18 +1,18 @@
 //! A list of moves on one machine.
 
-ghost use Rattle.swi_dispatch.specs.Moves.{machine_with_words, machine_after_event};
+ghost use Rattle.swi_dispatch_guest.specs.Moves.{machine_with_words, machine_after_event};
 ghost use Rattle.std.specs.Prelude.{◌≡◌, ◌==◌, ◌≤◌, ◌&&◌, ◌++◌, true, false, length};
-ghost use Rattle.swi_dispatch.specs.Value.{IsMachine};
+ghost use Rattle.swi_dispatch_guest.specs.Value.{IsMachine};
 ghost use Rattle.law_machine.specs.heap_alone.Moves.{is_own};
 ghost use Rattle.law_machine.specs.heap_runs.Making.{AreMade};
 ghost use Rattle.law_machine.specs.heap_runs.Moves.{reply_if, written_event_of, written_all};
-ghost use Rattle.swi_dispatch.specs.GuestState.{state_of};
+ghost use Rattle.swi_dispatch_guest.specs.GuestState.{state_of};
 
 use crate::heap_runs::moves::{End, MachineEvent, MachineMoves, Made, Reply};
 use crate::heap_runs::own_calls::{is_own_call, reply_of};
 use arrayvec::ArrayVec;
 use profile::images::Images;
-use swi_dispatch::Machine;
+use swi_dispatch_guest::Machine;
 
 /// Makes the moves in turn, until the machine is halted or there is no room for an answer. If a
 /// guest's heap with no anchor and no heap in it stands at `start`, and the moves leave it to

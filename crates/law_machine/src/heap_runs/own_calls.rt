@@ -1,17 +1,17 @@
 //! Which store calls from outside are calls on a heap, and what they answer.
 
-ghost use Rattle.swi_dispatch.specs.Moves.{outside_name};
+ghost use Rattle.swi_dispatch_guest.specs.Moves.{outside_name};
 ghost use Rattle.std.specs.Prelude.{◌≡◌, ◌&&◌};
-ghost use Rattle.swi_dispatch.specs.Step.{without_x};
+ghost use Rattle.swi_dispatch_guest.specs.Step.{without_x};
 ghost use Rattle.law_machine.specs.heap_alone.Moves.{is_swi_to, is_for_heap, is_heap_swi, reply_of_machine};
 ghost use Rattle.law_machine.specs.heap_runs.Moves.{written_reply_of};
-ghost use Rattle.swi_dispatch.specs.GuestState.{state_of};
+ghost use Rattle.swi_dispatch_guest.specs.GuestState.{state_of};
 
 use crate::heap_runs::moves::Reply;
 use arm_step::Cpu;
 use profile::word::is_bit_set;
 use profile::{HeapReason, SwiName};
-use swi_dispatch::Machine;
+use swi_dispatch_guest::Machine;
 
 /// The bit of a call's number that asks for errors to be returned.
 const X_BIT: u32 = 1 << 17;

@@ -1,15 +1,15 @@
 //! Lists of moves on two machines, in which the same heap is asked the same.
 
 ghost use Rattle.std.specs.Prelude.{◌≡◌};
-ghost use Rattle.swi_dispatch.specs.Value.{IsMachine};
+ghost use Rattle.swi_dispatch_guest.specs.Value.{IsMachine};
 ghost use Rattle.law_machine.specs.heap_runs.Making.{AreMade, done_of};
 ghost use Rattle.law_machine.specs.heap_runs.Moves.{written_all};
 ghost use Rattle.law_machine.specs.heap_runs.Pairs.{AreAlike};
-ghost use Rattle.swi_dispatch.specs.GuestState.{state_of};
+ghost use Rattle.swi_dispatch_guest.specs.GuestState.{state_of};
 
 use crate::heap_runs::making::make_events;
 use crate::heap_runs::moves::{MachineMoves, Made};
-use swi_dispatch::Machine;
+use swi_dispatch_guest::Machine;
 
 /// Makes a list of moves on each of two machines. Where a guest's heap is the same in both, and is
 /// asked the same, it answers the same and is left the same, whatever else the moves do in each, so

@@ -2,11 +2,11 @@ use Rattle.std.proofs.Common.{◌≡◌, [], Bool, IfOk, List, ℕ, Option, subs
 use Rattle.std.specs.Prelude.{is_some, unwrap_or}
 use Rattle.profile.specs.Output.{Writes}
 use Rattle.address_map.specs.Memory.{bytes_of}
-use Rattle.swi_dispatch.specs.State.{IsFlex}
-use Rattle.swi_dispatch.specs.Flex.{Flex}
+use Rattle.swi_dispatch_guest.specs.State.{IsFlex}
+use Rattle.swi_dispatch_guest.specs.Flex.{Flex}
 use Rattle.debugger.specs.Flex.{flex_text}
 use Rattle.debugger.proofs.flex.show_flex.Goals as goal
-use Rattle.swi_dispatch.specs.GuestState.{state_of}
+use Rattle.swi_dispatch_guest.specs.GuestState.{state_of}
 
 pub show_store-requires : goal.show_store-requires
 show_store-requires g c =

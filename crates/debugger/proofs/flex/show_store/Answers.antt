@@ -3,8 +3,8 @@ use Rattle.std.specs.Prelude.{unwrap_or}
 use Rattle.std.specs.Io.KnownBytes.{Appends}
 use Rattle.profile.proofs.OutputLemmas.{Appends-join}
 use Rattle.address_map.specs.Memory.{bytes_of}
-use Rattle.swi_dispatch.specs.Listed.{all_listed}
-use Rattle.swi_dispatch.specs.State.{flex_in}
+use Rattle.swi_dispatch_guest.specs.Listed.{all_listed}
+use Rattle.swi_dispatch_guest.specs.State.{flex_in}
 use Rattle.debugger.specs.Flex.{flex_blocks_text, flex_text, range_text}
 use Rattle.debugger.proofs.FlexLemmas.{shown}
 use Rattle.debugger.proofs.flex.show_store.Goals as goal

@@ -3,7 +3,7 @@ use Rattle.std.specs.Result.{result_unwrap_or}
 use Rattle.profile.specs.declared.fault.Fault.{Fault}
 use Rattle.address_map.specs.Bytes.{word_loaded}
 use Rattle.address_map.specs.Memory.{bytes_of}
-use Rattle.swi_dispatch.specs.Store.{store_of, find_heap}
+use Rattle.swi_dispatch_guest.specs.Store.{store_of, find_heap}
 use Rattle.debugger.proofs.HeapLemmas.{low_heap, end_is, if_then}
 use Rattle.debugger.proofs.heap.end_of.Goals as goal
 

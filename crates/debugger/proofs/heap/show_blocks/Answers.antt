@@ -3,12 +3,12 @@ use Rattle.std.specs.Prelude.{is_some, unwrap_or}
 use Rattle.std.specs.Io.KnownBytes.{Appends}
 use Rattle.profile.proofs.OutputLemmas.{Appends-join, Appends-nothing}
 use Rattle.address_map.specs.Items.{size_of}
-use Rattle.swi_dispatch.specs.Store.{Store, store_of}
-use Rattle.swi_dispatch.specs.Calls.{items_of}
+use Rattle.swi_dispatch_guest.specs.Store.{Store, store_of}
+use Rattle.swi_dispatch_guest.specs.HeapCalls.{items_of}
 use Rattle.debugger.specs.Heap.{limits_text, heap_items_text, heap_blocks_text}
 use Rattle.debugger.proofs.HeapLemmas.{IsShown, shown, not_shown}
 use Rattle.debugger.proofs.heap.show_blocks.Goals as goal
-use Rattle.swi_dispatch.specs.GuestState.{state_of}
+use Rattle.swi_dispatch_guest.specs.GuestState.{state_of}
 
 pub returns-in_default-clause-found : goal.returns-in_default-clause-found
 returns-in_default-clause-found g c =

@@ -3,7 +3,7 @@ use Rattle.profile.specs.Output.{Writes}
 use Rattle.address_map.specs.Memory.{bytes_of}
 use Rattle.debugger.specs.Modules.{modules_text}
 use Rattle.debugger.proofs.modules.show_modules.Goals as goal
-use Rattle.swi_dispatch.specs.GuestState.{state_of}
+use Rattle.swi_dispatch_guest.specs.GuestState.{state_of}
 
 pub returns : goal.returns
 returns g c =

@@ -1,9 +1,9 @@
 use Rattle.std.proofs.Common.{◌≡◌, ◌≤◌, ◌<◌, ◌+◌, ◌∙◌, None, length, refl, sym, arith}
-use Rattle.swi_dispatch.proofs.RunLoop.{halt-none}
+use Rattle.swi_dispatch_guest.proofs.RunLoop.{halt-none}
 use Rattle.law_machine.proofs.HeapRunsLemmas.Ends.{fresh_after, fresh_before, ends_full, ends_halted, ends_whole, goes_on, last_of, under_first, under_last}
 use Rattle.law_machine.specs.heap_runs.Moves.{written_all}
 use Rattle.law_machine.proofs.heap_runs.making.make_events.Goals as goal
-use Rattle.swi_dispatch.specs.GuestState.{state_of}
+use Rattle.swi_dispatch_guest.specs.GuestState.{state_of}
 
 pub loop-count-init : goal.loop-count-init
 loop-count-init g c =

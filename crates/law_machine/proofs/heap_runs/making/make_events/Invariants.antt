@@ -1,10 +1,10 @@
 use Rattle.std.proofs.Common.{◌≡◌, ◌==◌, ◌≤◌, ◌&&◌, None, length, take}
-use Rattle.swi_dispatch.specs.Value.{IsMachine}
+use Rattle.swi_dispatch_guest.specs.Value.{IsMachine}
 use Rattle.law_machine.specs.heap_runs.Making.{StateGoesOn}
 use Rattle.law_machine.specs.heap_runs.Moves.{written_all}
 use Rattle.law_machine.proofs.HeapRunsLemmas.Fronts.{IsUnder}
 use Rattle.law_machine.proofs.heap_runs.making.make_events.Given as goal
-use Rattle.swi_dispatch.specs.GuestState.{state_of}
+use Rattle.swi_dispatch_guest.specs.GuestState.{state_of}
 
 -- so many moves are done, and the machine goes on
 abbrev pub invariant-loop-count : goal.invariant-loop-count

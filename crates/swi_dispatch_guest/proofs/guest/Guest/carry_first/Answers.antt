@@ -3,6 +3,7 @@ use Rattle.instances.proofs.RmaKeeping.{keeps_same}
 use Rattle.swi_dispatch_plans.specs.Beginning.{CanBegin}
 use Rattle.swi_dispatch_guest.specs.MachineState.{MachineState, setting_of}
 use Rattle.swi_dispatch_guest.specs.GuestState.{GuestState, state_of}
+use Rattle.swi_dispatch_guest.proofs.NextEntry.{carried_next}
 use Rattle.swi_dispatch_guest.proofs.Kept.{over}
 use Rattle.swi_dispatch_guest.proofs.GateLemmas.{carried_well, ended_carried, first_carried, state_opened}
 use Rattle.swi_dispatch_guest.proofs.CarriedFrames.{begun_beneath}
@@ -10,6 +11,10 @@ use Rattle.swi_dispatch_guest.proofs.guest.Guest.carry_first.Goals as goal
 
 pub invariant_of-self : goal.invariant_of-self
 invariant_of-self c =
+    let carries = c.carry-code.ensures in
+    let opens = c.open_code-kept.ensures in
+    let next = carried_next _ _ _ _ _ _ _ _ _ c.args.call _ _ _ _ _ carries.carried carries.ended carries.going carries.others carries.classes carries.flex
+    opens.core opens.frames opens.plans in
     let before : MachineState = over c.self.inside.memory c.self.inside.cpu
     (record {
       area_table = c.self.inside.areas;
@@ -20,11 +25,15 @@ invariant_of-self c =
     })
     c.self.inside.halt in
     let begins = subst (λ (p : GuestState). CanBegin (setting_of (state_of p)) c.args.plan) (sym c.self.view_is) c.requires.begins in
-    carried_well _ _ _ _ _ _ _ _ _ _ c.carry_next-kept.ensures refl (begun_beneath before _ begins) c.self.invariant (keeps_same _) refl
+    carried_well _ _ _ _ _ _ _ _ _ _ next refl (begun_beneath before _ begins) c.self.invariant (keeps_same _) refl
     c.self.invariant.sized
 
 pub returns-clause-state : goal.returns-clause-state
 returns-clause-state c =
+    let carries = c.carry-code.ensures in
+    let opens = c.open_code-kept.ensures in
+    let next = carried_next _ _ _ _ _ _ _ _ _ c.args.call _ _ _ _ _ carries.carried carries.ended carries.going carries.others carries.classes carries.flex
+    opens.core opens.frames opens.plans in
     let before : MachineState = over c.self.inside.memory c.self.inside.cpu
     (record {
       area_table = c.self.inside.areas;
@@ -34,8 +43,12 @@ returns-clause-state c =
       flex = c.self.inside.flex;
     })
     c.self.inside.halt in
-    rw (← c.self.view_is) (state_opened before _ _ _ _ _ _ _ _ _ _ _ c.carry_next-kept.ensures (first_carried _ _ c.requires.begins.rests))
+    rw (← c.self.view_is) (state_opened before _ _ _ _ _ _ _ _ _ _ _ next (first_carried _ _ c.requires.begins.rests))
 
 pub returns-clause-ended : goal.returns-clause-ended
 returns-clause-ended c =
-    rw (← c.self.view_is) (ended_carried _ _ _ _ _ _ _ _ _ _ _ _ c.carry_next-kept.ensures (first_carried _ _ c.requires.begins.rests))
+    let carries = c.carry-code.ensures in
+    let opens = c.open_code-kept.ensures in
+    let next = carried_next _ _ _ _ _ _ _ _ _ c.args.call _ _ _ _ _ carries.carried carries.ended carries.going carries.others carries.classes carries.flex
+    opens.core opens.frames opens.plans in
+    rw (← c.self.view_is) (ended_carried _ _ _ _ _ _ _ _ _ _ _ _ next (first_carried _ _ c.requires.begins.rests))

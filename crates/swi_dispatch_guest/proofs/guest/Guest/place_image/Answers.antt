@@ -4,6 +4,7 @@ use Rattle.profile.specs.images.module_header.Header.{header_of}
 use Rattle.swi_dispatch_plans.specs.Beginning.{IsFree, SparesTitle}
 use Rattle.swi_dispatch_guest.specs.MachineState.{MachineState, machine_module_state, setting_of}
 use Rattle.swi_dispatch_guest.specs.GuestState.{GuestState, state_of}
+use Rattle.swi_dispatch_guest.proofs.NextEntry.{carried_next}
 use Rattle.swi_dispatch_guest.proofs.Kept.{over}
 use Rattle.swi_dispatch_guest.proofs.GateLemmas.{carried_well, ended_carried, first_carried, refused_well, refused_module_state, starts_by, state_opened}
 use Rattle.swi_dispatch_guest.proofs.CarriedFrames.{titled_beneath}
@@ -16,6 +17,10 @@ invariant_of-self c =
 
 pub invariant_of-self-2 : goal.invariant_of-self-2
 invariant_of-self-2 c =
+    let carries = c.carry-code.ensures in
+    let opens = c.open_code-kept.ensures in
+    let next = carried_next _ _ _ _ _ _ _ _ _ c.args.call _ _ _ _ _ carries.carried carries.ended carries.going carries.others carries.classes carries.flex
+    opens.core opens.frames opens.plans in
     let before : MachineState = over c.self.inside.memory c.self.inside.cpu
     (record {
       area_table = c.self.inside.areas;
@@ -30,7 +35,7 @@ invariant_of-self-2 c =
     let spared = subst (λ (p : GuestState). SparesTitle (setting_of (state_of p)) (header_of c.args.image.now)) (sym c.self.view_is) c.requires.spared in
     let names = named_given _ _ _ _ _ _ (loading_names (machine_module_state before) c.args.image.now c.args.text.now) given.module_state given.ready in
     let beneath = titled_beneath before _ (header_of c.args.image.now) free spared names in
-    carried_well _ _ _ _ _ _ _ _ _ _ c.carry_next-kept.ensures refl beneath c.self.invariant given.flex refl
+    carried_well _ _ _ _ _ _ _ _ _ _ next refl beneath c.self.invariant given.flex refl
     (given.sizes ∙ c.self.invariant.sized)
 
 pub returns : goal.returns
@@ -45,7 +50,10 @@ returns c =
     })
     c.self.inside.halt in
     let given = c.in_ok-plan.ensures in
-    let next = c.carry_next-kept.ensures in
+    let carries = c.carry-code.ensures in
+    let opens = c.open_code-kept.ensures in
+    let next = carried_next _ _ _ _ _ _ _ _ _ c.args.call _ _ _ _ _ carries.carried carries.ended carries.going carries.others carries.classes carries.flex
+    opens.core opens.frames opens.plans in
     let first = first_carried _ _ given.rests in
     rw (← c.self.view_is) (starts_by before _ c.args.call _ _ _ _ _ given.module_state
     (state_opened before _ _ _ _ _ _ _ _ _ _ _ next first) (ended_carried _ _ _ _ _ _ _ _ _ _ _ _ next first))

@@ -5,6 +5,7 @@ use Rattle.swi_dispatch_plans.specs.ImagePlans.{SparesRange, image_header_in}
 use Rattle.swi_dispatch_plans.specs.Beginning.{IsFree}
 use Rattle.swi_dispatch_guest.specs.MachineState.{MachineState, machine_module_state, setting_of}
 use Rattle.swi_dispatch_guest.specs.GuestState.{GuestState, state_of}
+use Rattle.swi_dispatch_guest.proofs.NextEntry.{carried_next}
 use Rattle.swi_dispatch_guest.proofs.Kept.{over}
 use Rattle.swi_dispatch_guest.proofs.GateLemmas.{carried_well, ended_carried, first_carried, refused_well, refused_module_state, starts_by, state_opened}
 use Rattle.swi_dispatch_guest.proofs.CarriedFrames.{titled_beneath}
@@ -29,6 +30,10 @@ invariant_of-self c =
 
 pub invariant_of-self-2 : goal.invariant_of-self-2
 invariant_of-self-2 c =
+    let carries = c.carry-code.ensures in
+    let opens = c.open_code-kept.ensures in
+    let next = carried_next _ _ _ _ _ _ _ _ _ c.args.call _ _ _ _ _ carries.carried carries.ended carries.going carries.others carries.classes carries.flex
+    opens.core opens.frames opens.plans in
     let before : MachineState = over c.self.inside.memory c.self.inside.cpu
     (record {
       area_table = c.self.inside.areas;
@@ -43,7 +48,7 @@ invariant_of-self-2 c =
     let spared = subst (λ (p : GuestState). SparesRange (setting_of (state_of p)) c.args.found.range.at c.args.found.range.len) (sym c.self.view_is) c.requires.spared in
     let names = named_given _ _ _ _ _ _ (inserting_names (machine_module_state before) c.args.found.range.at c.args.found.range.len) given.module_state given.ready in
     let beneath = titled_beneath before _ (image_header_in (setting_of before) c.args.found.range.at c.args.found.range.len) free spared names in
-    carried_well _ _ _ _ _ _ _ _ _ _ c.carry_next-kept.ensures refl beneath c.self.invariant given.flex refl
+    carried_well _ _ _ _ _ _ _ _ _ _ next refl beneath c.self.invariant given.flex refl
     (c.self.invariant.sized)
 
 pub returns : goal.returns
@@ -58,7 +63,10 @@ returns c =
     })
     c.self.inside.halt in
     let given = c.in_ok-plan.ensures in
-    let next = c.carry_next-kept.ensures in
+    let carries = c.carry-code.ensures in
+    let opens = c.open_code-kept.ensures in
+    let next = carried_next _ _ _ _ _ _ _ _ _ c.args.call _ _ _ _ _ carries.carried carries.ended carries.going carries.others carries.classes carries.flex
+    opens.core opens.frames opens.plans in
     let first = first_carried _ _ given.rests in
     rw (← c.self.view_is) (starts_by before _ c.args.call _ _ _ _ _ given.module_state
     (state_opened before _ _ _ _ _ _ _ _ _ _ _ next first) (ended_carried _ _ _ _ _ _ _ _ _ _ _ _ next first))
