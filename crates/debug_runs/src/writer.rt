@@ -25,7 +25,7 @@ use profile::{Sink, WriteFault, push_all, push_parts};
 use std::alloc::Global;
 use trace_effects::word_text::old_words;
 use trace_effects::{Cause, StoredWords};
-use trace_text::{StepStart, StoreCopy, push_prints_line};
+use trace_text::{LineRooms, StepStart, StoreCopy, push_prints_line};
 
 /// What is shown of the steps of a line, and what the guest prints in them.
 #[derive(Drop)]
@@ -37,6 +37,8 @@ pub(crate) struct TraceWriter {
     pub(crate) printed: TextSink,
     // The host memory in which a step that was shown kept the store.
     scratch: Option<Box<StoreCopy>>,
+    // That of the texts of its line.
+    rooms: LineRooms,
 }
 
 impl TraceWriter {
@@ -60,6 +62,7 @@ impl TraceWriter {
             text: TextSink::new(alloc),
             printed: TextSink::new(alloc),
             scratch: None,
+            rooms: LineRooms::new(alloc),
         }
     }
 
@@ -187,17 +190,17 @@ impl TraceWriter {
             (step_text (label_ahead context.now.labels.now s.machine) s.machine o) o.printed) }
         ensures same { self.new.reported ≡ self.old.reported }
     {
-        let alloc = self.alloc;
-        let scratch = self.scratch.take();
         let machine = session.machine();
         machine.known();
         let label = label_ahead(context.labels, machine);
-        let start = StepStart::print_step(alloc, machine, label, scratch, &mut self.text)?;
-        let mut printed = TextSink::new(alloc);
+        let scratch = self.scratch.take();
+        let rooms = &mut self.rooms;
+        let start = StepStart::print_step(machine, label, scratch, rooms, &mut self.text)?;
+        let mut printed = TextSink::new(self.alloc);
         session.take_step(context.images, &mut printed)?;
         session.machine().known();
         other_bytes_stay();
-        start.print_taken(alloc, session.machine(), printed.bytes(), &mut self.text)?;
+        start.print_taken(session.machine(), printed.bytes(), rooms, &mut self.text)?;
         self.scratch = start.into_scratch();
         push_all(&mut self.printed, printed.bytes())
     }

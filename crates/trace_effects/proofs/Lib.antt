@@ -4,3 +4,4 @@ pub mod ShownWordsLemmas
 pub mod ShownRegistersLemmas
 pub mod RecordTextLemmas
 pub mod WordTextLemmas
+pub mod DigitLemmas

@@ -5,5 +5,5 @@ pub mod laws;
 pub mod registers;
 pub mod status;
 
-pub use registers::{REGISTERS, RegisterChange, changed_registers, home_of};
+pub use registers::{REGISTERS, RegisterChange, home_of, next_change};
 pub use status::{Flag, changed_flag, changed_mode, following_word, jump_of};

@@ -1,6 +1,7 @@
 //! The columns of a trace.
 
-ghost use Rattle.std.specs.Prelude.{◌≡◌, [], IfOk, take};
+ghost use Rattle.std.specs.Prelude.{◌≡◌, ◌<◌, [], IfOk, take};
+ghost use Rattle.profile.specs.Digits.{hex_digit_at, hex_word};
 ghost use Rattle.profile.specs.Output.{Writes};
 ghost use Rattle.profile.specs.text_sink.TextSink.{sink_text_of};
 ghost use Rattle.trace_effects.specs.Columns.{below_text, columns_text, words_behind};
@@ -8,6 +9,7 @@ ghost use Rattle.trace_effects.specs.Columns.{below_text, columns_text, words_be
 use profile::text_sink::TextSink;
 use profile::{Sink, WriteFault, push_all, push_parts};
 use std::alloc::Global;
+use std::mem;
 
 /// How many columns an instruction's text has, without the space of what follows on it.
 const TEXT_COLUMNS: usize = 25;
@@ -17,6 +19,8 @@ const BELOW_COLUMNS: usize = 17;
 
 /// How many bytes most lines have room in.
 const LINE_BYTES: usize = 80;
+
+const DIGITS: &[u8; 16] = b"0123456789ABCDEF";
 
 const BLANKS: &[u8; TEXT_COLUMNS] = b"                         ";
 
@@ -32,6 +36,66 @@ pub fn line_sink(alloc: Global) -> Result<TextSink, WriteFault>
         Ok(room) => Ok(TextSink::over(room)),
         Err(_) => Err(WriteFault),
     }
+}
+
+/// Host memory for the texts of a line, which later lines use again.
+#[derive(Drop)]
+pub struct LineRooms {
+    pub alloc: Global,
+    pub text: Vec<u8>,
+    pub words: Vec<u8>,
+}
+
+impl LineRooms {
+    /// None so far.
+    pub fn new(alloc: Global) -> LineRooms {
+        LineRooms {
+            alloc,
+            text: Vec::new(alloc),
+            words: Vec::new(alloc),
+        }
+    }
+
+    /// A sink that has taken nothing, over the memory for the text.
+    pub fn take_text(&mut self) -> TextSink
+        ensures { sink_text_of result ≡ [] }
+    {
+        TextSink::over(mem::replace(&mut self.text, Vec::new(self.alloc)))
+    }
+
+    /// The same over that for the words behind it.
+    pub fn take_words(&mut self) -> TextSink
+        ensures { sink_text_of result ≡ [] }
+    {
+        TextSink::over(mem::replace(&mut self.words, Vec::new(self.alloc)))
+    }
+}
+
+/// Writes all eight digits of a word, which stand in a table: lines have four words or more.
+#[tactic(auto, unfolding(profile::specs::Digits::hex_word))]
+pub fn push_word<W: Sink>(sink: &mut W, word: u32) -> Result<(), WriteFault>
+    ensures writes { Writes W.contents W.has_failed sink.old sink.new result (hex_word word) }
+{
+    let digits = [
+        digit_from(word, 28),
+        digit_from(word, 24),
+        digit_from(word, 20),
+        digit_from(word, 16),
+        digit_from(word, 12),
+        digit_from(word, 8),
+        digit_from(word, 4),
+        digit_from(word, 0),
+    ];
+    push_all(sink, &digits)
+}
+
+// The digit of four bits from one on.
+#[inline(always)]
+fn digit_from(word: u32, low: u32) -> u8
+    requires { low < 32 }
+    ensures { result ≡ hex_digit_at word low }
+{
+    DIGITS[((word >> low) & 15) as usize]
 }
 
 /// Writes a line: what stands in columns 1 to 18, a text, and words, which begin at column 45 where

@@ -1,2 +1,3 @@
 pub mod StringLemmas
 pub mod InsideLemmas
+pub mod RegisterLemmas

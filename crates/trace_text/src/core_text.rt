@@ -1,16 +1,18 @@
 //! What a step leaves in the core, as words.
 
-ghost use Rattle.std.specs.Prelude.{◌≡◌, if◌then◌else◌};
+ghost use Rattle.std.specs.Prelude.{◌≡◌};
 ghost use Rattle.std.specs.List.{flat_map};
 ghost use Rattle.profile.specs.Output.{Writes};
+ghost use Rattle.trace_effects.specs.changes.Registers.{changes_of};
 ghost use Rattle.trace_text.specs.Core.{banked_register_name, carry_flag_words, core_words, flag_word, flag_words, hides, jump_word, mask_flag_words, mode_word, register_word, sign_flag_words};
 
 use arm_core::{Cpu, Mode, Psr};
 use itoa::Buffer;
-use profile::{HexText, Sink, WriteFault, push_all, push_parts};
+use profile::{Sink, WriteFault, push_all, push_parts};
 use trace_effects::changes::{
-    Flag, RegisterChange, changed_flag, changed_mode, changed_registers, home_of, jump_of,
+    Flag, RegisterChange, changed_flag, changed_mode, home_of, jump_of, next_change,
 };
+use trace_effects::columns::push_word;
 use trace_store_text::{mode_name, push_banked_name};
 
 /// Writes what differs between two cores, the second of which was expected to go on at an address:
@@ -26,23 +28,21 @@ pub fn push_core<W: Sink>(
     ensures writes { Writes W.contents W.has_failed sink.old sink.new result
         (core_words expected before.now after.now) }
 {
-    let changes = changed_registers(before, after);
-    push_registers(sink, after.psr().mode, changes.as_slice())?;
+    push_registers(sink, before, after)?;
     push_jump(sink, jump_of(expected, after))?;
     push_flags(sink, before.psr(), after.psr())?;
     push_mode(sink, changed_mode(before.psr(), after.psr()))
 }
 
-fn push_registers<W: Sink>(
-    sink: &mut W,
-    mode: Mode,
-    changes: &[RegisterChange],
-) -> Result<(), WriteFault>
+// Each is written as it is found.
+fn push_registers<W: Sink>(sink: &mut W, before: &Cpu, after: &Cpu) -> Result<(), WriteFault>
     ensures { Writes W.contents W.has_failed sink.old sink.new result
-        (flat_map (register_word mode) changes.now) }
+        (flat_map (register_word after.now.psr.mode) (changes_of before.now after.now)) }
 {
-    for change in changes {
-        push_register(sink, mode, change)?;
+    let mut from = 0;
+    while let Some(change) = next_change(before, after, from) {
+        push_register(sink, after.psr().mode, &change)?;
+        from = change.place + 1;
     }
     Ok(())
 }
@@ -56,10 +56,8 @@ fn push_register<W: Sink>(
 {
     push_all(sink, b" ")?;
     push_name(sink, mode, change.place)?;
-    push_parts(
-        sink,
-        &[b"=".as_slice(), HexText::word(change.new).as_slice()],
-    )
+    push_all(sink, b"=")?;
+    push_word(sink, change.new)
 }
 
 fn push_name<W: Sink>(sink: &mut W, mode: Mode, place: u32) -> Result<(), WriteFault>
@@ -88,7 +86,10 @@ fn push_jump<W: Sink>(sink: &mut W, jump: Option<u32>) -> Result<(), WriteFault>
 {
     match jump {
         None => Ok(()),
-        Some(at) => push_parts(sink, &[b" PC=".as_slice(), HexText::word(at).as_slice()]),
+        Some(at) => {
+            push_all(sink, b" PC=")?;
+            push_word(sink, at)
+        }
     }
 }
 
@@ -130,14 +131,8 @@ fn push_flag<W: Sink>(sink: &mut W, letter: u8, change: Option<bool>) -> Result<
 {
     match change {
         None => Ok(()),
-        Some(is_set) => push_all(sink, &[b' ', letter, b'=', digit(is_set)]),
+        Some(is_set) => push_all(sink, &[b' ', letter, b'=', b'0' + u8::from(is_set)]),
     }
-}
-
-fn digit(is_set: bool) -> u8
-    ensures { result ≡ (if is_set then 49 else 48) }
-{
-    if is_set { b'1' } else { b'0' }
 }
 
 fn push_mode<W: Sink>(sink: &mut W, mode: Option<Mode>) -> Result<(), WriteFault>

@@ -19,7 +19,7 @@ use crate::start::{StepStart, Taking};
 use profile::text_sink::TextSink;
 use profile::{Sink, Stop, WriteFault, push_all};
 use std::alloc::Global;
-use trace_effects::columns::{line_sink, push_behind, push_below};
+use trace_effects::columns::{LineRooms, push_behind, push_below};
 use trace_effects::stays_in_heap;
 use trace_effects::word_text::{push_loaded, push_stored_below, push_stored_here};
 use trace_store_text::{Frame, Machine, PageRange, StoreCopy, heap_pages, push_store_lines_in};
@@ -43,19 +43,21 @@ impl StepStart {
         ensures text { OnOk result (Appends (W.contents sink.old) (W.contents sink.new)
             (step_end_text (known_in self.now) (outcome_with (state_of machine.now.guest) printed.now))) }
     {
-        self.print_end_in(alloc, machine, printed, PageRange::all(), sink)
+        let mut rooms = LineRooms::new(alloc);
+        self.print_end_in(machine, printed, PageRange::all(), &mut rooms, sink)
     }
 
-    /// Writes the same of a step that the machine took, by what such a step writes.
+    /// Writes the same of a step that the machine took, by what such a step writes, in host memory that
+    /// an earlier step left.
     ///
     /// # Errors
     ///
     /// As `print_end`.
     pub fn print_taken<W: Sink>(
         &self,
-        alloc: Global,
         machine: &Machine,
         printed: &[u8],
+        rooms: &mut LineRooms,
         sink: &mut W,
     ) -> Result<(), WriteFault>
         requires { ListsInside (known_in self.now) (state_of machine.now.guest) }
@@ -63,7 +65,7 @@ impl StepStart {
             (step_end_text (known_in self.now) (outcome_with (state_of machine.now.guest) printed.now))) }
     {
         let pages = self.pages_listed(machine);
-        self.print_end_in(alloc, machine, printed, pages, sink)
+        self.print_end_in(machine, printed, pages, rooms, sink)
     }
 
     fn pages_listed(&self, machine: &Machine) -> PageRange
@@ -82,19 +84,19 @@ impl StepStart {
     // Where no word is listed beyond some pages.
     fn print_end_in<W: Sink>(
         &self,
-        alloc: Global,
         machine: &Machine,
         printed: &[u8],
         pages: PageRange,
+        rooms: &mut LineRooms,
         sink: &mut W,
     ) -> Result<(), WriteFault>
         requires { ListsWith self.now.frames (store_kept self.now.before) (state_of machine.now.guest) pages }
         ensures { OnOk result (Appends (W.contents sink.old) (W.contents sink.new)
             (step_end_text (known_in self.now) (outcome_with (state_of machine.now.guest) printed.now))) }
     {
-        let stop = machine.stop();
+        let (alloc, stop) = (rooms.alloc, machine.stop());
         match self.taking {
-            Taking::Instruction => self.end_instruction(alloc, machine, stop, sink),
+            Taking::Instruction => self.end_instruction(machine, stop, rooms, sink),
             Taking::Call { .. } => self.end_call(alloc, machine, printed, false, pages, stop, sink),
             Taking::Gate => {
                 let pages = PageRange::all();
@@ -105,18 +107,19 @@ impl StepStart {
 
     fn end_instruction<W: Sink>(
         &self,
-        alloc: Global,
         machine: &Machine,
         stop: Option<Stop>,
+        rooms: &mut LineRooms,
         sink: &mut W,
     ) -> Result<(), WriteFault>
         ensures { OnOk result (Appends (W.contents sink.old) (W.contents sink.new)
             (instruction_end (known_in self.now) (state_of machine.now.guest) stop)) }
     {
-        let mut words = line_sink(alloc)?;
+        let mut words = rooms.take_words();
         self.push_words(&mut words, machine, stop)?;
         push_behind(sink, self.text_length, words.bytes())?;
         push_all(sink, b"\n")?;
+        rooms.words = words.into_bytes();
         self.push_stored(sink, machine, stop)
     }
 

@@ -12,10 +12,10 @@ use assembler_text::disassemble;
 use profile::text_lines::cut;
 use profile::text_sink::TextSink;
 use profile::word::is_bit_set;
-use profile::{HexText, Sink, SwiName, WriteFault, push_all, push_parts};
+use profile::{Sink, SwiName, WriteFault, push_all, push_parts};
 use std::alloc::Global;
 use trace_effects::Cause;
-use trace_effects::columns::line_sink;
+use trace_effects::columns::{LineRooms, line_sink, push_word};
 use trace_store_text::without_x_bit;
 
 /// Writes the columns before an instruction's text: the address and the word that stand there.
@@ -26,7 +26,8 @@ use trace_store_text::without_x_bit;
 pub fn push_front<W: Sink>(sink: &mut W, pc: u32, cause: Cause) -> Result<(), WriteFault>
     ensures { Writes W.contents W.has_failed sink.old sink.new result (front_text pc cause) }
 {
-    push_parts(sink, &[HexText::word(pc).as_slice(), b" ".as_slice()])?;
+    push_word(sink, pc)?;
+    push_all(sink, b" ")?;
     push_word_column(sink, cause)?;
     push_all(sink, b" ")
 }
@@ -35,7 +36,7 @@ fn push_word_column<W: Sink>(sink: &mut W, cause: Cause) -> Result<(), WriteFaul
     ensures { Writes W.contents W.has_failed sink.old sink.new result (word_column cause) }
 {
     match cause {
-        Cause::Skipped(word) | Cause::Word(word) => push_all(sink, HexText::word(word).as_slice()),
+        Cause::Skipped(word) | Cause::Word(word) => push_word(sink, word),
         Cause::Gate | Cause::Unmapped => push_all(sink, b"--------"),
     }
 }
@@ -70,7 +71,7 @@ fn push_what<W: Sink>(sink: &mut W, pc: u32, cause: Cause) -> Result<(), WriteFa
 ///
 /// Where memory ran out.
 pub(crate) fn named_text(
-    alloc: Global,
+    rooms: &mut LineRooms,
     pc: u32,
     cause: Cause,
     label: Option<&[u8]>,
@@ -78,15 +79,16 @@ pub(crate) fn named_text(
     ensures { IfOk result (λ text. sink_text_of text
         ≡ named_text pc cause (option_map (λ l. l.now) label.entry)) }
 {
-    let text = text_of(alloc, pc, cause)?;
+    let mut text = rooms.take_text();
+    push_what(&mut text, pc, cause)?;
     match (swi_standing(cause), label) {
-        (Some(number), _) => with_call(alloc, text, number),
-        (None, Some(label)) => by_name(alloc, text.bytes(), b"", label),
+        (Some(number), _) => with_call(rooms, text, number),
+        (None, Some(label)) => by_name(rooms, text, b"", label),
         (None, None) => Ok(text),
     }
 }
 
-fn with_call(alloc: Global, text: TextSink, number: u32) -> Result<TextSink, WriteFault>
+fn with_call(rooms: &mut LineRooms, text: TextSink, number: u32) -> Result<TextSink, WriteFault>
     ensures { IfOk result (λ named. sink_text_of named
         ≡ with_call (sink_text_of text) number (swi_of (without_x number))) }
 {
@@ -98,18 +100,24 @@ fn with_call(alloc: Global, text: TextSink, number: u32) -> Result<TextSink, Wri
             } else {
                 b"".as_slice()
             };
-            by_name(alloc, text.bytes(), front, call.name().as_bytes())
+            by_name(rooms, text, front, call.name().as_bytes())
         }
     }
 }
 
 // An instruction's mnemonic, and another operand.
-fn by_name(alloc: Global, text: &[u8], front: &[u8], name: &[u8]) -> Result<TextSink, WriteFault>
-    ensures { IfOk result (λ named. sink_text_of named ≡ by_name text.now front.now name.now) }
+fn by_name(
+    rooms: &mut LineRooms,
+    text: TextSink,
+    front: &[u8],
+    name: &[u8],
+) -> Result<TextSink, WriteFault>
+    ensures { IfOk result (λ named. sink_text_of named ≡ by_name (sink_text_of text) front.now name.now) }
 {
-    let (word, _) = cut(text, b' ');
-    let mut named = line_sink(alloc)?;
+    let (word, _) = cut(text.bytes(), b' ');
+    let mut named = rooms.take_words();
     push_parts(&mut named, &[word, b" ".as_slice(), front, name])?;
+    rooms.words = text.into_bytes();
     Ok(named)
 }
 

@@ -16,4 +16,5 @@ pub mod strings;
 
 pub use below::push_prints_line;
 pub use start::StepStart;
+pub use trace_effects::columns::LineRooms;
 pub use trace_store_text::StoreCopy;

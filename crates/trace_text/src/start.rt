@@ -23,7 +23,7 @@ use profile::word::is_bit_set;
 use profile::{Sink, WriteFault, push_all};
 use std::alloc::Global;
 use trace_effects::changes::following_word;
-use trace_effects::columns::{line_sink, push_behind};
+use trace_effects::columns::{LineRooms, line_sink, push_behind};
 use trace_effects::outside::{calling_text, loading_text, push_outside};
 use trace_effects::word_text::{MOST_STORED, old_words};
 use trace_effects::{Cause, Effects, StoredWords, call_leaves, effects_of};
@@ -101,10 +101,10 @@ impl StepStart {
     ///
     /// Where the sink failed, or memory ran out.
     pub fn print_step<W: Sink>(
-        alloc: Global,
         machine: &Machine,
         label: Option<&[u8]>,
         scratch: Option<Box<StoreCopy>>,
+        rooms: &mut LineRooms,
         sink: &mut W,
     ) -> Result<StepStart, WriteFault>
         ensures text { let s = state_of machine.now.guest in OnOk result
@@ -116,9 +116,9 @@ impl StepStart {
         let cause = Cause::of(machine.cpu(), machine.memory());
         let effects = effects_of(cause, machine.cpu());
         let taking = taking_of(cause, effects.swi);
-        let text_length = push_start(alloc, machine, cause, taking, label, sink)?;
-        let areas = areas_before(alloc, machine, taking)?;
-        let (before, rest) = store_before(alloc, machine, taking, scratch)?;
+        let text_length = push_start(machine, cause, taking, label, rooms, sink)?;
+        let areas = areas_before(rooms.alloc, machine, taking)?;
+        let (before, rest) = store_before(rooms.alloc, machine, taking, scratch)?;
         Ok(StepStart::keeping(machine, cause, &effects, text_length, areas, before, rest))
     }
 
@@ -303,11 +303,11 @@ fn is_skipped(cause: Cause) -> bool
 // Writes what stands at a program counter, and answers how long its text is.
 #[tactic(auto, unfolding(crate::specs::Step::start_text))]
 fn push_start<W: Sink>(
-    alloc: Global,
     machine: &Machine,
     cause: Cause,
     taking: Taking,
     label: Option<&[u8]>,
+    rooms: &mut LineRooms,
     sink: &mut W,
 ) -> Result<usize, WriteFault>
     requires cause { let s = state_of machine.now.guest in cause ≡ cause_of s.cpu s.store.bytes }
@@ -320,11 +320,12 @@ fn push_start<W: Sink>(
         (option_map (λ l. l.now) label.entry))) }
 {
     let cpu = machine.cpu();
-    let text = named_text(alloc, cpu.pc(), cause, label)?;
+    let text = named_text(rooms, cpu.pc(), cause, label)?;
     let len = text.bytes().len();
     push_front(sink, cpu.pc(), cause)?;
     push_all(sink, text.bytes())?;
-    push_taking(alloc, cpu, machine.memory(), len, taking, sink)?;
+    rooms.text = text.into_bytes();
+    push_taking(rooms.alloc, cpu, machine.memory(), len, taking, sink)?;
     Ok(len)
 }
 

@@ -1,5 +1,5 @@
 -- The registers that differ between two cores, by their places in the file of all banks.
-use Rattle.std.specs.Prelude.{ℕ, zero, suc, ◌≡◌, ◌<◌, ◌≤◌, ◌==◌, List, [], ◌∷◌, ◌++◌, ◌-◌, nat_lt, slice_index, if◌then◌else◌}
+use Rattle.std.specs.Prelude.{ℕ, zero, suc, ◌≡◌, ◌<◌, ◌≤◌, ◌==◌, List, [], ◌∷◌, ◌++◌, ◌+◌, ◌-◌, nat_lt, slice_index, Option, Some, None, if◌then◌else◌}
 use Rattle.arm_core.specs.declared.psr.Mode.{Mode}
 use Rattle.arm_core.specs.declared.psr.Mode.TheVariants.{User, FastInterrupt, Interrupt, Supervisor}
 use Rattle.arm_core.specs.State.{State, slot_of}
@@ -38,3 +38,17 @@ changes_below old new (suc n) = changes_below old new n ++ change_at old new n
 -- those of all 26
 abbrev pub changes_of : State → State → List RegisterChange
 changes_of s s' = changes_below s.file s'.file 26
+
+-- The first change at the places from one up to another: up to it nothing else differs.
+pub record IsNext (old new : List ℕ) (first end : ℕ) (c : RegisterChange) : Type 0 where
+  pub above : first ≤ c.place
+  pub inside : c.place < end
+  pub listed : changes_below old new (c.place + 1) ≡ changes_below old new first ++ c ∷ []
+
+-- ..or that nothing differs there
+abbrev pub IsNextIn : List ℕ → List ℕ → ℕ → ℕ → Option RegisterChange → Type 0
+IsNextIn old new first end None = changes_below old new end ≡ changes_below old new first
+IsNextIn old new first end (Some c) = IsNext old new first end c
+
+abbrev pub IsNextChange : State → State → ℕ → Option RegisterChange → Type 0
+IsNextChange s s' first next = IsNextIn s.file s'.file first 26 next

@@ -1,11 +1,10 @@
 //! The registers that differ between two cores.
 
-ghost use Rattle.std.specs.Prelude.{◌≡◌, ◌+◌, ◌<◌, ◌≤◌, length};
+ghost use Rattle.std.specs.Prelude.{◌≡◌, ◌<◌, ◌≤◌, max};
 ghost use Rattle.arm_core.specs.State.{slot_of};
-ghost use Rattle.trace_effects.specs.changes.Registers.{IsBank, changes_below, changes_of, home_of};
+ghost use Rattle.trace_effects.specs.changes.Registers.{IsBank, IsNextChange, IsNextIn, home_of};
 
 use arm_core::{Cpu, Mode};
-use arrayvec::ArrayVec;
 
 /// How many registers a core has: those of all banks.
 pub const REGISTERS: usize = 26;
@@ -20,78 +19,79 @@ pub struct RegisterChange {
     pub new: u32,
 }
 
-/// The registers of all banks that differ, in the order of their places. Most code runs in user mode,
-/// and there each register lies at a place that is known where this is compiled.
-pub fn changed_registers(before: &Cpu, after: &Cpu) -> ArrayVec<RegisterChange, REGISTERS>
-    ensures { result.items ≡ changes_of before.now after.now }
+/// The first register from a place on that differs, by the places of the registers of all banks. Most code
+/// runs in user mode, and there each register lies at a place that is known where this is compiled.
+pub fn next_change(before: &Cpu, after: &Cpu, from: u32) -> Option<RegisterChange>
+    requires { from ≤ 26 }
+    ensures { IsNextChange before.now after.now from result }
 {
     match (before.psr().mode, after.psr().mode) {
-        (Mode::User, Mode::User) => changes_in_banks(before, after),
-        _ => changes_in_banks(before, after),
+        (Mode::User, Mode::User) => next_by_banks(before, after, from),
+        _ => next_of_all(before, after, from),
     }
 }
 
 #[inline(always)]
-fn changes_in_banks(before: &Cpu, after: &Cpu) -> ArrayVec<RegisterChange, REGISTERS>
-    ensures { result.items ≡ changes_of before.now after.now }
+fn next_by_banks(before: &Cpu, after: &Cpu, from: u32) -> Option<RegisterChange>
+    requires { from ≤ 26 }
+    ensures { IsNextChange before.now after.now from result }
 {
-    let mut changes = ArrayVec::new();
-    add_bank(&mut changes, before, after, Mode::User, 0, 0, 15);
-    add_bank(&mut changes, before, after, Mode::FastInterrupt, 7, 15, 22);
-    add_bank(&mut changes, before, after, Mode::Interrupt, 9, 22, 24);
-    add_bank(&mut changes, before, after, Mode::Supervisor, 11, 24, 26);
-    changes
+    let users = next_in_bank(before, after, Mode::User, 0, from, 0, 15);
+    if users.is_some() {
+        return users;
+    }
+    let fast = next_in_bank(before, after, Mode::FastInterrupt, 7, from, 15, 22);
+    if fast.is_some() {
+        return fast;
+    }
+    let interrupts = next_in_bank(before, after, Mode::Interrupt, 9, from, 22, 24);
+    if interrupts.is_some() {
+        return interrupts;
+    }
+    next_in_bank(before, after, Mode::Supervisor, 11, from, 24, 26)
 }
 
-// Those at the places from `first` up to `end`, where a mode's registers lie so many places behind
-// their numbers. The mode is known where this is called, so that no look-up of a register asks for it.
+// That of the places from `first` up to `end`, where a mode's registers lie so many places behind their
+// numbers. The mode is known where this is called, so that no look-up of a register asks for it.
 #[inline(always)]
-fn add_bank(
-    changes: &mut ArrayVec<RegisterChange, REGISTERS>,
+fn next_in_bank(
     before: &Cpu,
     after: &Cpu,
     mode: Mode,
     behind: u32,
+    from: u32,
     first: u32,
     end: u32,
-)
+) -> Option<RegisterChange>
     requires bank { IsBank mode behind first end }
     requires range { first ≤ end }
     requires inside { end ≤ 26 }
-    requires few { length changes.old.items ≤ first }
-    requires listed { changes.old.items ≡ changes_below before.now.file after.now.file first }
-    ensures few { length changes.new.items ≤ end }
-    ensures listed { changes.new.items ≡ changes_below before.now.file after.now.file end }
+    ensures { IsNextIn before.now.file after.now.file (max from first) (max from end) result }
 {
-    for place in first..end {
-        add_place(changes, before, after, mode, place - behind, place);
+    for place in from.max(first)..end {
+        let old = before.register_in(mode, place - behind);
+        let new = after.register_in(mode, place - behind);
+        if old != new {
+            return Some(RegisterChange { place, old, new });
+        }
     }
+    None
 }
 
-// That of one place, if the register there differs.
-#[tactic(auto, using(crate::proofs::ChangesLemmas::ChangeLemmas::change_steps))]
-#[inline(always)]
-fn add_place(
-    changes: &mut ArrayVec<RegisterChange, REGISTERS>,
-    before: &Cpu,
-    after: &Cpu,
-    mode: Mode,
-    number: u32,
-    place: u32,
-)
-    requires number { number < 15 }
-    requires home { slot_of mode number ≡ place }
-    requires inside { place < 26 }
-    requires few { length changes.old.items ≤ place }
-    requires listed { changes.old.items ≡ changes_below before.now.file after.now.file place }
-    ensures few { length changes.new.items ≤ place + 1 }
-    ensures listed { changes.new.items ≡ changes_below before.now.file after.now.file (place + 1) }
+// The same, whatever the modes are.
+fn next_of_all(before: &Cpu, after: &Cpu, from: u32) -> Option<RegisterChange>
+    requires { from ≤ 26 }
+    ensures { IsNextChange before.now after.now from result }
 {
-    let old = before.register_in(mode, number);
-    let new = after.register_in(mode, number);
-    if old != new {
-        changes.push(RegisterChange { place, old, new });
+    for place in from..REGISTERS as u32 {
+        let (mode, number) = home_of(place);
+        let old = before.register_in(mode, number);
+        let new = after.register_in(mode, number);
+        if old != new {
+            return Some(RegisterChange { place, old, new });
+        }
     }
+    None
 }
 
 /// The bank and the number of the register at a place.

@@ -26,7 +26,7 @@ returns-clause-reported c =
     let label = label_ahead labels s.machine in
     let is_label = c.label_ahead-label.ensures ∙ ap (λ (m : MachineValue). label_ahead labels (state_of m.guest)) c.machine-machine.ensures in
     let all = c.in_ok-take_step.ensures.text ∙ ap (λ (xs : List ℕ). xs ++ o.printed) c.new-printed.ensures in
-    answer_pushed c.push_all.result c.args.self.now (record c.args.self.now { text = c.print_taken.new.sink; printed = c.push_all.new.sink; scratch = c.into_scratch.result })
+    answer_pushed c.push_all.result c.args.self.now (record c.args.self.now { text = c.print_taken.new.sink; printed = c.push_all.new.sink; scratch = c.into_scratch.result; rooms = c.print_taken.new.rooms })
     (step_text label s.machine o) o.printed c.bytes-2.result.now
     (step_answer label s (script_state c.take_step.new.self images) o kept t u (sink_text_of c.print_taken.new.sink) c.bytes.result.now
     c.in_ok-take_step.ensures.state

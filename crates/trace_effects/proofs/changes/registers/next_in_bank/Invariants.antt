@@ -1,0 +1,8 @@
+use Rattle.std.proofs.Common.{◌≡◌, max}
+use Rattle.trace_effects.specs.changes.Registers.{changes_below}
+use Rattle.trace_effects.proofs.changes.registers.next_in_bank.Given as goal
+
+-- so far nothing differs
+abbrev pub invariant-loop-place : goal.invariant-loop-place
+invariant-loop-place l = changes_below l.before.file l.after.file l.place
+    ≡ changes_below l.before.file l.after.file (max l.fn.from l.fn.first)
