@@ -41,6 +41,14 @@ trace_text false = codes "trace off\n"
 abbrev pub trace_line_answer : DebugModes → Bool → ModeAnswer
 trace_line_answer m is_on = record { modes = record m { is_tracing = is_on }; text = trace_text is_on }
 
+-- WHY ON, WHY OFF
+abbrev pub why_mode_text : Bool → List ℕ
+why_mode_text true = codes "why on\n"
+why_mode_text false = codes "why off\n"
+
+abbrev pub why_line_answer : DebugModes → Bool → ModeAnswer
+why_line_answer m is_on = record { modes = record m { is_explaining = is_on }; text = why_mode_text is_on }
+
 -- TRACE LIMIT
 abbrev pub limit_text : ℕ → List ℕ
 limit_text limit = codes "trace limit " ++ (decimal limit ++ codes "\n")

@@ -9,13 +9,14 @@ abbrev pub no_modes : DebugModes
 no_modes = record {
   steps = record { stubs = []; watches = [] };
   counts = no_counts;
+  is_explaining = false;
   is_tracing = false;
   limit = 1000;
 }
 
--- whether the steps of the lines of a script are taken otherwise than in a script
+-- whether the lines of a script that take steps are answered otherwise than in a script
 abbrev pub takes_over : DebugModes → Bool
-takes_over m = m.is_tracing || (m.counts.is_on || not (are_plain m.steps))
+takes_over m = m.is_tracing || (m.is_explaining || (m.counts.is_on || not (are_plain m.steps)))
 
 -- how many steps of a line are shown, where they are
 abbrev pub answer_of_line : DebugModes → Bool → Option ℕ

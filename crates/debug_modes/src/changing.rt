@@ -1,8 +1,8 @@
 //! The lines that change modes.
 
-ghost use Rattle.std.specs.Prelude.{◌≡◌, true, false, IfOk, OnErr};
+ghost use Rattle.std.specs.Prelude.{◌≡◌, IfOk, OnErr};
 ghost use Rattle.debug_lines.specs.ModeRequests.{mode_request_of};
-ghost use Rattle.debug_modes.specs.Changes.{IsModeAnswer, counting_line_answer, limit_line_answer, mode_answer, stub_line_answer, trace_line_answer, unstub_line_answer, unwatch_line_answer, watch_line_answer};
+ghost use Rattle.debug_modes.specs.Changes.{IsModeAnswer, counting_line_answer, limit_line_answer, mode_answer, stub_line_answer, trace_line_answer, unstub_line_answer, unwatch_line_answer, watch_line_answer, why_line_answer};
 ghost use Rattle.command_shell.specs.GuestState.{state_of};
 
 use crate::answers::{at_line, limit_line, refused_line};
@@ -47,8 +47,7 @@ impl DebugModes {
             ModeCommand::Unstub(number) => self.remove_stub(alloc, number),
             ModeCommand::Watch(address) => self.add_watch(alloc, address),
             ModeCommand::Unwatch(address) => self.remove_watch(alloc, address),
-            ModeCommand::Count(true) => self.begin_counts(alloc),
-            ModeCommand::Count(false) => self.stop_counts(alloc),
+            ModeCommand::Count(is_on) => self.count(alloc, is_on),
         }
     }
 
@@ -63,6 +62,22 @@ impl DebugModes {
         Ok(text)
     }
 
+    /// Sets whether what WHY shows stands below each answer that ends with an error: `why on`, `why off`.
+    ///
+    /// # Errors
+    ///
+    /// Memory ran out; the modes stay then.
+    pub fn explain(&mut self, alloc: Global, is_on: bool) -> Result<Vec<u8>, AllocError>
+        ensures reported { IfOk result (λ text.
+            IsModeAnswer (why_line_answer self.old is_on) self.new text.items) }
+        ensures same { OnErr result (self.new ≡ self.old) }
+    {
+        let text: &[u8] = if is_on { b"why on\n" } else { b"why off\n" };
+        let text = Vec::from_slice(alloc, text)?;
+        self.is_explaining = is_on;
+        Ok(text)
+    }
+
     fn set_limit(&mut self, alloc: Global, limit: u32) -> Result<Vec<u8>, AllocError>
         ensures reported { IfOk result (λ text.
             IsModeAnswer (limit_line_answer self.old limit) self.new text.items) }
@@ -73,23 +88,18 @@ impl DebugModes {
         Ok(text)
     }
 
-    fn begin_counts(&mut self, alloc: Global) -> Result<Vec<u8>, AllocError>
+    fn count(&mut self, alloc: Global, is_on: bool) -> Result<Vec<u8>, AllocError>
         ensures reported { IfOk result (λ text.
-            IsModeAnswer (counting_line_answer self.old true) self.new text.items) }
+            IsModeAnswer (counting_line_answer self.old is_on) self.new text.items) }
         ensures same { OnErr result (self.new ≡ self.old) }
     {
+        if !is_on {
+            let text = Vec::from_slice(alloc, b"count off\n")?;
+            self.counts.stop();
+            return Ok(text);
+        }
         let text = Vec::from_slice(alloc, b"count on\n")?;
         self.counts.begin()?;
-        Ok(text)
-    }
-
-    fn stop_counts(&mut self, alloc: Global) -> Result<Vec<u8>, AllocError>
-        ensures reported { IfOk result (λ text.
-            IsModeAnswer (counting_line_answer self.old false) self.new text.items) }
-        ensures same { OnErr result (self.new ≡ self.old) }
-    {
-        let text = Vec::from_slice(alloc, b"count off\n")?;
-        self.counts.stop();
         Ok(text)
     }
 

@@ -19,4 +19,4 @@ pub use endings::{answer_parts, begins_ending, push_line_answer};
 pub use halted::{halting_fault, push_halted};
 pub use reasons::push_reason;
 pub use status::status_with;
-pub use why::show_why;
+pub use why::{push_why_below, show_why};

@@ -12,6 +12,7 @@ lines of a debugging script:
   WORDS a n, STACK n, BANKS, WHERE           words, the stack, the banks, the PC
   FRAMES, LABELS                             open calls of module code; labels of images
   DUMP a n, WHY                              bytes and characters; the error that R0 leads to
+  WHY ON, WHY OFF                            what WHY shows below each answer error n
   SET PC a, SET PSR Nz SVC                   letters left out stay
   SET SP v, SET LR v, SET R0 -1, CALL OS_Heap  names of registers and of SWIs
   POKE a \"text\", POKE a BYTES v ..           bytes to any address

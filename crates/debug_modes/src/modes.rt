@@ -17,6 +17,8 @@ pub struct DebugModes {
     pub steps: StepModes,
     /// How often steps were taken at each word of memory.
     pub counts: StepCounts,
+    /// Whether what WHY shows stands below each answer that ends with an error.
+    pub(crate) is_explaining: bool,
     /// Whether the steps of all lines are shown one by one.
     pub(crate) is_tracing: bool,
     /// How many steps of a line are shown at most.
@@ -24,24 +26,26 @@ pub struct DebugModes {
 }
 
 impl DebugModes {
-    /// Steps go as in a script, not shown and uncounted; 1,000 would be shown of a line.
+    /// Steps go as in a script, not shown and uncounted, and errors not explained; 1,000 steps would be
+    /// shown of a line.
     pub fn new(alloc: Global) -> DebugModes
         ensures { result ≡ no_modes }
     {
         DebugModes {
             steps: StepModes::new(),
             counts: StepCounts::new(alloc),
+            is_explaining: false,
             is_tracing: false,
             limit: FIRST_LIMIT,
         }
     }
 
-    /// Whether the steps of RUN, STEP, CALL and LOAD are taken otherwise than in a script. Where they
-    /// are only counted, the answer is the script's.
+    /// Whether RUN, STEP, CALL and LOAD are answered otherwise than in a script. Where their steps are only
+    /// counted, or errors only explained, the answer is the script's.
     pub fn takes_over(&self) -> bool
         ensures { result ≡ takes_over self.now }
     {
-        self.is_tracing || self.counts.is_on() || !self.steps.is_plain()
+        self.is_tracing || self.is_explaining || self.counts.is_on() || !self.steps.is_plain()
     }
 
     /// How many steps are shown of a line, `None` where they are not shown: shown they are behind TRACE,

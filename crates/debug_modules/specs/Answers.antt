@@ -11,13 +11,14 @@ use Rattle.debug_history.specs.Noted.{has_returned, past_with_deed}
 use Rattle.debug_history.specs.Past.{PastState}
 use Rattle.debug_history.specs.declared.act.PastDeed.TheVariants.{Bytes}
 use Rattle.debug_labels.specs.Labels.{ImageLabels}
+use Rattle.debug_modes.specs.Changes.{ModeAnswer, why_line_answer}
 use Rattle.debug_modes.specs.declared.modes.DebugModes.{DebugModes}
 use Rattle.debug_modes.specs.expectations.Why.{why_text}
 use Rattle.debug_tables.specs.byte_writes.Put.{script_after_put}
 use Rattle.debug_modules.specs.Entering.{module_code_entered}
 use Rattle.debug_modules.specs.Listing.{commands_text}
 use Rattle.debug_modules.specs.Plans.{command_plan, tail_address, tail_bytes}
-use Rattle.debug_modules.specs.Requests.{Command, Commands, Form, ModuleAsked, ModuleView, Needs, Service, module_request}
+use Rattle.debug_modules.specs.Requests.{Command, Commands, Explain, Form, ModuleAsked, ModuleView, Needs, Service, module_request}
 use Rattle.debug_modules.specs.Services.{is_served, service_called}
 use Rattle.debug_modules.specs.Taking.{LineSteps}
 use Rattle.debug_modules.specs.declared.answering.ModuleAnswer.{ModuleAnswer}
@@ -100,6 +101,12 @@ service_answered m labels budget s p number service title =
     then entered_so (service_called m labels budget s p number service title)
     else only_shown m s p (refused_text (codes "NoModule")))
 
+-- WHY ON, WHY OFF
+
+-- a line that changes modes
+abbrev pub mode_shown : ScriptState → PastState → ModeAnswer → ModuleAnswered
+mode_shown s p a = only_shown a.modes s p a.text
+
 -- ALL LINES
 
 -- what is only shown
@@ -113,6 +120,7 @@ module_answered m labels budget s p number (Command name tail) =
     command_answered m labels budget s p number name tail
 module_answered m labels budget s p number (Service service title) =
     service_answered m labels budget s p number service title
+module_answered m labels budget s p number (Explain is_on) = mode_shown s p (why_line_answer m is_on)
 module_answered m labels budget s p number (Form view) = only_shown m s p (view_shown s.machine view)
 
 -- what such a line is answered, and nothing of any other

@@ -1,5 +1,5 @@
--- The lines that have to do with the code of modules.
-use Rattle.std.specs.Prelude.{ℕ, ◌+◌, ◌==◌, List, [], drop, codes, Option, Some, None, if◌then◌else◌}
+-- The lines that have to do with the code of modules, and with the errors of calls.
+use Rattle.std.specs.Prelude.{ℕ, ◌+◌, ◌==◌, Bool, true, false, List, [], drop, codes, Option, Some, None, if◌then◌else◌}
 use Rattle.std.specs.Option.{option_map}
 use Rattle.std.specs.List.{position}
 use Rattle.command_shell_lines.specs.Numbers.{script_number}
@@ -18,6 +18,8 @@ pub data ModuleAsked : Type 0 where
   Command : List ℕ → List ℕ → ModuleAsked
   -- a service call's number, and a title, which is empty for all modules
   Service : ℕ → List ℕ → ModuleAsked
+  -- whether errors are explained
+  Explain : Bool → ModuleAsked
   -- nothing but a text
   Form : ModuleView → ModuleAsked
 
@@ -26,6 +28,7 @@ abbrev pub module_request_of : ModuleRequest → ModuleAsked
 module_request_of (line.Command name tail) = Command name.now tail.now
 module_request_of (line.Service service title) = Service service title.now
 module_request_of line.Commands = Form Commands
+module_request_of (line.Explain is_on) = Explain is_on
 module_request_of (line.Form text) = Form (Needs text.now)
 
 -- the word before the first space (32), and what stands behind that
@@ -48,18 +51,20 @@ abbrev pub service_request : List ℕ → Option ModuleAsked
 service_request text =
     option_map (λ service. Service service (text_behind_word text)) (script_number (word_in_front text))
 
--- `COMMANDS`, `HELP COMMANDS`, `HELP COMMAND`, `HELP SERVICE`
+-- `COMMANDS`, `WHY ON`, `WHY OFF`, `HELP COMMANDS`, `HELP COMMAND`, `HELP SERVICE`
 abbrev pub whole_request : List ℕ → Option ModuleAsked
 whole_request line =
     if is_same_word line (codes "COMMANDS") then Some (Form Commands) else (
+    if is_same_word line (codes "WHY ON") then Some (Explain true) else (
+    if is_same_word line (codes "WHY OFF") then Some (Explain false) else (
     if is_same_word line (codes "HELP COMMANDS") then Some (Form (Needs (codes "COMMANDS stands alone"))) else (
     if is_same_word line (codes "HELP COMMAND") then Some (Form (Needs
     (codes "COMMAND wants a module's command, with what stands behind it, as COMMAND PotSet 1 5"))) else (
     if is_same_word line (codes "HELP SERVICE") then Some (Form (Needs
     (codes "SERVICE wants a number, and may have a module's title, as SERVICE &27 Pots"))) else
-    None)))
+    None)))))
 
--- what a tidy line asks for, if it has to do with the code of modules
+-- what a tidy line asks for, if it has to do with the code of modules or with the errors of calls
 abbrev pub service_asked : List ℕ → Option (List ℕ) → Option ModuleAsked
 service_asked line (Some text) = service_request text
 service_asked line None = whole_request line

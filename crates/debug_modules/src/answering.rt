@@ -76,6 +76,9 @@ pub fn answer_module_line(
             let text = commands_text(alloc, session.machine())?;
             Ok(Some(ModuleAnswer::Shown(text)))
         }
+        Some(ModuleRequest::Explain(is_on)) => {
+            Ok(Some(ModuleAnswer::Shown(modes.explain(alloc, is_on)?)))
+        }
         Some(ModuleRequest::Form(text)) => {
             Ok(Some(ModuleAnswer::Shown(form_line(alloc, text)?)))
         }

@@ -1,4 +1,4 @@
-//! The lines that have to do with the code of modules.
+//! The lines that have to do with the code of modules, and with the errors of calls.
 
 ghost use Rattle.std.specs.Prelude.{◌≡◌, ◌==◌};
 ghost use Rattle.std.specs.List.{position};
@@ -8,7 +8,7 @@ ghost use Rattle.debug_modules.specs.Requests.{command_request, module_request, 
 use command_shell_lines::debug_words::text_behind;
 use command_shell_lines::number_of;
 
-/// What a line asks for that has to do with the code of modules.
+/// What a line asks for that has to do with the code of modules, or with the errors of calls.
 #[derive(Clone, Copy, Debug)]
 pub enum ModuleRequest<'a> {
     /// `COMMAND name tail`: the command of that name, with what stands behind it.
@@ -18,11 +18,13 @@ pub enum ModuleRequest<'a> {
     Service(u32, &'a [u8]),
     /// `COMMANDS`: the commands of all modules.
     Commands,
+    /// `WHY ON` or `WHY OFF`: whether what WHY shows stands below each answer that ends with an error.
+    Explain(bool),
     /// `HELP COMMAND`, `HELP SERVICE`: what such a line needs.
     Form(&'a [u8]),
 }
 
-/// What a tidy line asks for, if it has to do with the code of modules.
+/// What a tidy line asks for, if it has to do with the code of modules or with the errors of calls.
 pub fn module_request(line: &[u8]) -> Option<ModuleRequest<'_>>
     ensures { option_map module_request_of result ≡ module_request line.now }
 {
@@ -41,6 +43,10 @@ fn whole_request(line: &[u8]) -> Option<ModuleRequest<'static>>
 {
     if line.eq_ignore_ascii_case(b"COMMANDS") {
         Some(ModuleRequest::Commands)
+    } else if line.eq_ignore_ascii_case(b"WHY ON") {
+        Some(ModuleRequest::Explain(true))
+    } else if line.eq_ignore_ascii_case(b"WHY OFF") {
+        Some(ModuleRequest::Explain(false))
     } else if line.eq_ignore_ascii_case(b"HELP COMMANDS") {
         Some(ModuleRequest::Form(b"COMMANDS stands alone"))
     } else if line.eq_ignore_ascii_case(b"HELP COMMAND") {

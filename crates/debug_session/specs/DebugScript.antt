@@ -18,6 +18,7 @@ use Rattle.command_shell_lines.specs.Requests.{Request, Asm, Hex, request_of}
 use Rattle.debug_modes.specs.expectations.Checks.{Seen, check_answer, status_after_pattern}
 use Rattle.debug_modes.specs.expectations.Halted.{halted_at_text, halting_fault}
 use Rattle.debug_modes.specs.expectations.Endings.{ending_of, output_of}
+use Rattle.debug_modes.specs.expectations.Why.{why_below}
 use Rattle.debug_lines.specs.DebugRequests.{DebugRequest, Script, Stepping, Mode, Remark, SetPc, SetPsr, Put, Write, Forget, Counts, Reset, Quit, Expect, Repeat, NotKnown, debug_opens_block, debug_request, is_script_request, View}
 use Rattle.debug_tables.specs.run_meter.MachineState.{MachineState, stop_of}
 use Rattle.debug_lines.specs.ModeRequests.{ModeRequest}
@@ -106,7 +107,8 @@ plain_line_answer c d number request block =
 -- LINES THAT TAKE STEPS IN MODES
 
 -- what is kept and written of a line that took steps: the state, what is shown of the steps, what the
--- guest printed, and the line's usual ending
+-- guest printed, and the line's usual ending; behind that stands, while WHY is on, what WHY shows of an error, which
+-- no line EXPECT finds
 abbrev pub stepping_answer_by : DebugSettings → DebugState → ScriptState → List ℕ → List ℕ → List ℕ →
     DebugAnswered
 stepping_answer_by c d now text printed ending = debug_answer
@@ -116,7 +118,7 @@ stepping_answer_by c d now text printed ending = debug_answer
       output = printed;
       steps = c.budget - now.left;
     })
-    (answer_in c.form (text ++ ending))
+    (answer_in c.form ((text ++ ending) ++ why_below d.modes now.machine ending))
 
 -- It may take the whole budget, too.
 abbrev pub stepping_line_answer : DebugSettings → DebugState → ℕ → Bool → SteppingRequest → DebugAnswered

@@ -10,6 +10,7 @@ ghost use Rattle.debug_lines.specs.SteppingRequests.{stepping_request_of};
 use crate::session::DebugSession;
 use command_shell_lines::ScriptCommand;
 use debug_lines::{ModeCommand, SteppingCommand, stepping_in};
+use debug_modes::expectations::push_why_below;
 use debug_modes::expectations::reports::push_answer;
 use debug_modules::take_steps;
 use debug_tables::block_errors::errors_of_block;
@@ -138,8 +139,8 @@ impl DebugSession {
         Ok(self.print_steps(sink, taken.text, taken.printed, taken.ending)?)
     }
 
-    /// Writes what a line that took steps left to write, and keeps it for the lines that expect
-    /// something.
+    /// Writes what a line that took steps left to write, and while WHY is on, what WHY shows of an error in
+    /// which it ended; keeps all but that for the lines that expect something.
     pub(crate) fn print_steps<W: Sink>(
         &mut self,
         sink: &mut W,
@@ -158,6 +159,8 @@ impl DebugSession {
         let form = self.setting.form;
         push_answer(sink, form, text.as_slice())?;
         push_answer(sink, form, ending.as_slice())?;
+        let machine = self.session.machine();
+        push_why_below(sink, form, &self.modes, machine, ending.as_slice())?;
         self.steps = self.steps_taken();
         self.answer = ending;
         self.output = printed;

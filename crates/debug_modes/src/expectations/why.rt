@@ -5,9 +5,12 @@ ghost use Rattle.address_map.specs.Bytes.{byte_loaded};
 ghost use Rattle.address_map.specs.Memory.{bytes_of};
 ghost use Rattle.profile.specs.Output.{Writes};
 ghost use Rattle.debugger.specs.GuestState.{state_of};
-ghost use Rattle.debug_modes.specs.expectations.Why.{error_line, loaded_or_zero, message_text, why_text};
+ghost use Rattle.debug_modes.specs.expectations.Why.{error_line, loaded_or_zero, message_text, why_below, why_text};
+ghost use Rattle.debug_modes.specs.expectations.reports.Reports.{answer_in};
 
 use crate::expectations::dump::character_of;
+use crate::expectations::reports::ReportForm;
+use crate::modes::DebugModes;
 use address_map::AddressMap;
 use debugger::Machine;
 use itoa::Buffer;
@@ -32,6 +35,26 @@ pub fn show_why<W: Sink>(machine: &Machine, sink: &mut W) -> Result<(), WriteFau
     match map.load_word(block) {
         Ok(number) => show_error(map, number, block.wrapping_add(4), sink),
         Err(_) => push_all(sink, b"no error block at R0\n"),
+    }
+}
+
+/// Writes below how a line ended, where that is an error and it is asked for, what WHY shows; the protocol leaves
+/// it out.
+pub fn push_why_below<W: Sink>(
+    sink: &mut W,
+    form: ReportForm,
+    modes: &DebugModes,
+    machine: &Machine,
+    ending: &[u8],
+) -> Result<(), WriteFault>
+    ensures { Writes W.contents W.has_failed sink.old sink.new result
+        (answer_in form (why_below modes.now (state_of machine.now.guest) ending.now)) }
+{
+    match form {
+        ReportForm::Answers if modes.is_explaining && ending.starts_with(b"error ") => {
+            show_why(machine, sink)
+        }
+        _ => Ok(()),
     }
 }
 
