@@ -18,6 +18,7 @@ from ..programs import ProgramEngine
 OPENS_BLOCK = re.compile(r"\s*(ASM\s+[!-~]+\s+(&[0-9A-F]+|\d+)|HEX\s+[!-~]+)\s*(\s;.*)?", re.IGNORECASE)
 TRACES = re.compile(r"\s*(REPEAT\s+\S+\s+)?TRACE\s+(?!LIMIT\b|ON\b|OFF\b)", re.IGNORECASE)
 TRACE_MODE = re.compile(r"\s*TRACE\s+(ON|OFF)\s*(\s;.*)?", re.IGNORECASE)
+WHY_MODE = re.compile(r"\s*WHY\s+(ON|OFF)\s*(\s;.*)?", re.IGNORECASE)
 TAKES_STEPS = re.compile(r"\s*(REPEAT\s+\S+\s+)?(RUN|STEP|CALL|LOAD|FINISH|GOSUB|COMMAND|SERVICE)\b", re.IGNORECASE)
 AGAIN = re.compile(r"\s*(TRACE\s+)?(STEP\s+\S+|\d+|&[0-9A-F]+)\s*", re.IGNORECASE)
 OWN_HELP = """lines of this prompt:
@@ -130,15 +131,24 @@ class Talk:
             return lines_of("trace", self._traced())
         shown = lines_of("output", guest_text(answered.output))
         text = with_texts(answered.text, list(line.block)) if answered.refused else answered.text
-        return shown + lines_of(kind_of(answered), text)
+        return shown + lines_of(kind_of(answered), text) + self._why_below(answered)
 
     def is_traced(self, line: Line) -> bool:
         """Whether the steps of a line are shown."""
         if TRACES.match(line.text):
             return True
-        modes = [found[1].upper() for entry in self.session.entries
-                 if (found := TRACE_MODE.fullmatch(entry.line.text))]
-        return bool(modes) and modes[-1] == "ON" and bool(TAKES_STEPS.match(line.text))
+        return self._is_on(TRACE_MODE) and bool(TAKES_STEPS.match(line.text))
+
+    def _is_on(self, mode: re.Pattern[str]) -> bool:
+        """Whether the last line that set a mode set it on."""
+        modes = [found[1].upper() for entry in self.session.entries if (found := mode.fullmatch(entry.line.text))]
+        return modes[-1:] == ["ON"]
+
+    def _why_below(self, answered: Answered) -> list[Shown]:
+        """While WHY is on, the line below an answer that is an error, which records don't have."""
+        if answered.error is None or answered.stop or not self._is_on(WHY_MODE):
+            return []
+        return lines_of("answer", self._traced().rstrip("\n").rpartition("\n")[2])
 
     def _traced(self) -> str:
         """The last line's answer with its trace, which a transcript of all lines has."""

@@ -78,6 +78,12 @@ def test_traces_are_those_of_the_program(talk: Talk) -> None:
     assert texts(typed(talk, "RUN")) == ["stop Exit"]
 
 
+def test_errors_are_explained_while_why_is_on(talk: Talk) -> None:
+    assert texts(typed(talk, "WHY ON", "CALL &99")) == ["why on", "error 80", "error 80 &50 SwiUnknown"]
+    assert texts(typed(talk, "EXPECT ERROR 80", "CALL &99")) == ["pass", "error 80", "error 80 &50 SwiUnknown"]
+    assert texts(typed(talk, "WHY", "why off", "CALL &99")) == ["error 80 &50 SwiUnknown", "why off", "error 80"]
+
+
 def test_back(talk: Talk) -> None:
     typed(talk, *COUNTDOWN, "BOOT c", "RUN")
     assert texts(typed(talk, "BACK 1")) == ["at &800C, after 7 steps"]
