@@ -10,7 +10,7 @@ pub const HELP: &[u8] = b"lines of a script:
 lines of a debugging script:
   ; text, # text                             a comment, a heading
   WORDS a n, STACK n, BANKS, WHERE           words, the stack, the banks, the PC
-  FRAMES, LABELS                             open calls of module code; labels of images
+  FRAMES, LABELS, COMMANDS                   open calls of module code; labels; modules' commands
   DUMP a n, WHY                              bytes and characters; the error that R0 leads to
   WHY ON, WHY OFF                            what WHY shows below each answer error n
   SET PC a, SET PSR Nz SVC                   letters left out stay
@@ -24,12 +24,13 @@ lines of a debugging script:
   LAST CLAIM a, LAST FREE a                  what made the block round a, or took it away
   LAST STEPS n                               the last n steps, as TRACE shows them
   FORGET name, REPEAT n line                 an image goes; a line, n times
+  INCLUDE file                               the lines of a file, in its place
   TRACE line, TRACE n, TRACE ON, TRACE OFF   steps shown one by one; TRACE LIMIT n of a line
   STEP                                       STEP 1
   TRACE LAST n                               RUN, of which the last n steps are shown
   FINISH, GOSUB a                            until a frame has gone back; a routine called
   COMMAND name tail, SERVICE n Title         code of loaded modules is entered
-  PUT name a                                 an image's bytes to an address
+  PUT name a, COMPARE name other             an image's bytes to an address; where two images differ
   STUB n R0 v .., UNSTUB n                   a SWI that the machine doesn't have
   WATCH a, UNWATCH a                         a run ends where the word changes
   COUNT ON, COUNT OFF, COUNTS name           how often the steps of an image were taken

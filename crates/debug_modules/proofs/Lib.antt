@@ -1,4 +1,5 @@
 pub mod TableLemmas
+pub mod ComparingLemmas
 pub mod EnteringLemmas
 pub mod ListingLemmas
 pub mod PlanLemmas

@@ -15,10 +15,11 @@ use Rattle.debug_modes.specs.Changes.{ModeAnswer, why_line_answer}
 use Rattle.debug_modes.specs.declared.modes.DebugModes.{DebugModes}
 use Rattle.debug_modes.specs.expectations.Why.{why_text}
 use Rattle.debug_tables.specs.byte_writes.Put.{script_after_put}
+use Rattle.debug_modules.specs.Comparing.{images_compared}
 use Rattle.debug_modules.specs.Entering.{module_code_entered}
 use Rattle.debug_modules.specs.Listing.{commands_text}
 use Rattle.debug_modules.specs.Plans.{command_plan, tail_address, tail_bytes}
-use Rattle.debug_modules.specs.Requests.{Command, Commands, Explain, Form, ModuleAsked, ModuleView, Needs, Service, module_request}
+use Rattle.debug_modules.specs.Requests.{Command, Commands, Compare, Form, ModuleAsked, ModuleView, Needs, Service, module_request}
 use Rattle.debug_modules.specs.Services.{is_served, service_called}
 use Rattle.debug_modules.specs.Taking.{LineSteps}
 use Rattle.debug_modules.specs.declared.answering.ModuleAnswer.{ModuleAnswer}
@@ -110,9 +111,10 @@ mode_shown s p a = only_shown a.modes s p a.text
 -- ALL LINES
 
 -- what is only shown
-abbrev pub view_shown : MachineState → ModuleView → List ℕ
+abbrev pub view_shown : ScriptState → ModuleView → List ℕ
 view_shown s (Needs text) = text ++ codes "\n"
-view_shown s Commands = commands_text s
+view_shown s Commands = commands_text s.machine
+view_shown s (Compare one other) = images_compared s.images one other
 
 abbrev pub module_answered : DebugModes → List ImageLabels → ℕ → ScriptState → PastState → ℕ → ModuleAsked
     → ModuleAnswered
@@ -120,8 +122,7 @@ module_answered m labels budget s p number (Command name tail) =
     command_answered m labels budget s p number name tail
 module_answered m labels budget s p number (Service service title) =
     service_answered m labels budget s p number service title
-module_answered m labels budget s p number (Explain is_on) = mode_shown s p (why_line_answer m is_on)
-module_answered m labels budget s p number (Form view) = only_shown m s p (view_shown s.machine view)
+module_answered m labels budget s p number (Form view) = only_shown m s p (view_shown s view)
 
 -- what such a line is answered, and nothing of any other
 abbrev pub module_line_answered : DebugModes → List ImageLabels → ℕ → ScriptState → PastState → ℕ → List ℕ

@@ -1,6 +1,7 @@
 -- Lines that enter the code of loaded modules. Begin with Answers, over Tables, Commands and Entering.
 pub mod Answers
 pub mod Commands
+pub mod Comparing
 pub mod Entering
 pub mod Listing
 pub mod Plans

@@ -6,6 +6,7 @@ ghost use Rattle.command_shell.specs.Session.{script_state};
 ghost use Rattle.debug_modules.specs.Answers.{IsModuleAnswered, command_answered, command_called, command_put, code_error_text, module_line_answered, modes_after_modules, past_after_modules, script_after_modules, service_answered, shown_of};
 ghost use Rattle.debug_modules.specs.Taking.{HasLineSteps};
 
+use crate::comparing::images_compared;
 use crate::entering::{ModuleEntry, enter_code};
 use crate::listing::commands_text;
 use crate::plans::{CommandPlan, TAIL, command_plan, tail_bytes};
@@ -76,8 +77,9 @@ pub fn answer_module_line(
             let text = commands_text(alloc, session.machine())?;
             Ok(Some(ModuleAnswer::Shown(text)))
         }
-        Some(ModuleRequest::Explain(is_on)) => {
-            Ok(Some(ModuleAnswer::Shown(modes.explain(alloc, is_on)?)))
+        Some(ModuleRequest::Compare(one, other)) => {
+            let text = images_compared(alloc, images, one, other)?;
+            Ok(Some(ModuleAnswer::Shown(text)))
         }
         Some(ModuleRequest::Form(text)) => {
             Ok(Some(ModuleAnswer::Shown(form_line(alloc, text)?)))

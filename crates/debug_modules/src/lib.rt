@@ -6,6 +6,7 @@
 
 mod answering;
 mod commands;
+mod comparing;
 mod entering;
 mod listing;
 mod plans;

@@ -3,7 +3,7 @@
 ghost use Rattle.std.specs.Prelude.{◌≡◌, ◌==◌};
 ghost use Rattle.std.specs.List.{position};
 ghost use Rattle.std.specs.Option.{option_map};
-ghost use Rattle.debug_modules.specs.Requests.{command_request, module_request, module_request_of, service_request, text_behind_word, whole_request, word_in_front};
+ghost use Rattle.debug_modules.specs.Requests.{command_request, compare_request, module_request, module_request_of, service_request, text_behind_word, whole_request, word_in_front};
 
 use command_shell_lines::debug_words::text_behind;
 use command_shell_lines::number_of;
@@ -18,8 +18,8 @@ pub enum ModuleRequest<'a> {
     Service(u32, &'a [u8]),
     /// `COMMANDS`: the commands of all modules.
     Commands,
-    /// `WHY ON` or `WHY OFF`: whether what WHY shows stands below each answer that ends with an error.
-    Explain(bool),
+    /// `COMPARE name other`: where the images of two names differ.
+    Compare(&'a [u8], &'a [u8]),
     /// `HELP COMMAND`, `HELP SERVICE`: what such a line needs.
     Form(&'a [u8]),
 }
@@ -32,7 +32,10 @@ pub fn module_request(line: &[u8]) -> Option<ModuleRequest<'_>>
         Some(text) => Some(command_request(text)),
         None => match text_behind(b"SERVICE ", line) {
             Some(text) => service_request(text),
-            None => whole_request(line),
+            None => match text_behind(b"COMPARE ", line) {
+                Some(text) => compare_request(text),
+                None => whole_request(line),
+            },
         },
     }
 }
@@ -57,6 +60,10 @@ fn whole_request(line: &[u8]) -> Option<ModuleRequest<'static>>
         Some(ModuleRequest::Form(
             b"SERVICE wants a number, and may have a module's title, as SERVICE &27 Pots",
         ))
+    } else if line.eq_ignore_ascii_case(b"HELP COMPARE") {
+        Some(ModuleRequest::Form(
+            b"COMPARE wants the names of two images, as COMPARE mine original",
+        ))
     } else {
         None
     }
@@ -73,6 +80,17 @@ fn service_request(text: &[u8]) -> Option<ModuleRequest<'_>>
 {
     let service = number_of(word_in_front(text))?;
     Some(ModuleRequest::Service(service, text_behind_word(text)))
+}
+
+// Two names, and no word more.
+fn compare_request(text: &[u8]) -> Option<ModuleRequest<'_>>
+    ensures { option_map module_request_of result ≡ compare_request text.now }
+{
+    let other = text_behind_word(text);
+    if other.is_empty() || space_in(other).is_some() {
+        return None;
+    }
+    Some(ModuleRequest::Compare(word_in_front(text), other))
 }
 
 // The bytes before the first space.
