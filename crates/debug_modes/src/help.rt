@@ -38,5 +38,5 @@ lines of a debugging script:
   EXPECT R0 v, R13_svc v, PC v, FLAGS Zc     what should be so, or the script fails
   EXPECT WORD a v, BYTE a v, STEPS n, STEPS <= n
   EXPECT ANSWER text, LINE text, ERROR n, OUTPUT \"text\"
-  HELP, HELP STEP, QUIT                      these lines; what a line needs
+  HELP, HELP STEP, HELP Title, QUIT          these lines; what a line needs; what a module says
 ";

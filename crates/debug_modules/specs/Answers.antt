@@ -1,6 +1,6 @@
 -- What lines are answered that enter the code of modules, and what they leave.
 use Rattle.std.specs.Prelude.{◌≡◌, ℕ, ◌&&◌, ◌++◌, is_some, codes, List, [], Option, Some, None, Result, Ok, Err, if◌then◌else◌}
-use Rattle.std.specs.Option.{option_map}
+use Rattle.std.specs.Option.{option_map, option_or}
 use Rattle.profile.specs.FaultNames.{fault_name}
 use Rattle.profile.specs.declared.fault.Fault.{Fault}
 use Rattle.command_shell.specs.Answers.{refused_text}
@@ -16,10 +16,11 @@ use Rattle.debug_modes.specs.declared.modes.DebugModes.{DebugModes}
 use Rattle.debug_modes.specs.expectations.Why.{why_text}
 use Rattle.debug_tables.specs.byte_writes.Put.{script_after_put}
 use Rattle.debug_modules.specs.Comparing.{images_compared}
+use Rattle.debug_modules.specs.Describing.{module_described, module_meant}
 use Rattle.debug_modules.specs.Entering.{module_code_entered}
 use Rattle.debug_modules.specs.Listing.{commands_text}
 use Rattle.debug_modules.specs.Plans.{command_plan, tail_address, tail_bytes}
-use Rattle.debug_modules.specs.Requests.{Command, Commands, Compare, Form, ModuleAsked, ModuleView, Needs, Service, module_request}
+use Rattle.debug_modules.specs.Requests.{Command, Commands, Compare, Description, Form, ModuleAsked, ModuleView, Needs, Service, module_request}
 use Rattle.debug_modules.specs.Services.{is_served, service_called}
 use Rattle.debug_modules.specs.Taking.{LineSteps}
 use Rattle.debug_modules.specs.declared.answering.ModuleAnswer.{ModuleAnswer}
@@ -115,6 +116,7 @@ abbrev pub view_shown : ScriptState → ModuleView → List ℕ
 view_shown s (Needs text) = text ++ codes "\n"
 view_shown s Commands = commands_text s.machine
 view_shown s (Compare one other) = images_compared s.images one other
+view_shown s (Description m) = module_described s.machine.store.bytes m
 
 abbrev pub module_answered : DebugModes → List ImageLabels → ℕ → ScriptState → PastState → ℕ → ModuleAsked
     → ModuleAnswered
@@ -124,11 +126,15 @@ module_answered m labels budget s p number (Service service title) =
     service_answered m labels budget s p number service title
 module_answered m labels budget s p number (Form view) = only_shown m s p (view_shown s view)
 
+-- what a line asks for: HELP and the title of a loaded module asks for what that says of itself
+abbrev pub module_line_asked : MachineState → List ℕ → Option ModuleAsked
+module_line_asked s line = option_or (module_request line) (option_map (λ m. Form (Description m)) (module_meant s line))
+
 -- what such a line is answered, and nothing of any other
 abbrev pub module_line_answered : DebugModes → List ImageLabels → ℕ → ScriptState → PastState → ℕ → List ℕ
     → Option ModuleAnswered
 module_line_answered m labels budget s p number line =
-    option_map (module_answered m labels budget s p number) (module_request line)
+    option_map (module_answered m labels budget s p number) (module_line_asked s.machine line)
 
 -- what a line leaves that may be such a line
 abbrev pub script_after_modules : ScriptState → Option ModuleAnswered → ScriptState

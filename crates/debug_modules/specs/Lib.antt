@@ -2,6 +2,7 @@
 pub mod Answers
 pub mod Commands
 pub mod Comparing
+pub mod Describing
 pub mod Entering
 pub mod Listing
 pub mod Plans

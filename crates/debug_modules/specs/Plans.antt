@@ -48,15 +48,15 @@ abbrev pub code_place : ℕ → ℕ → ℕ → Option ℕ
 code_place image len offset = let at = address_further image offset in
     if nat_lt 0 offset && (nat_lt offset len && (at % 4 == 0 && nat_lt at (2 ^ 26))) then Some at else None
 
--- the text on a command's syntax, empty where the table has none
-abbrev pub syntax_text : Bytes → FoundCommand → List ℕ
-syntax_text b f =
-    if f.entry.syntax == 0 || not (nat_lt f.entry.syntax f.len) then []
-    else unwrap_or (text_at (ends end.Zero) 255 b (address_further f.image f.entry.syntax)) []
+-- the text at an offset of an image, empty where that has none
+abbrev pub text_of_image : Bytes → ℕ → ℕ → ℕ → List ℕ
+text_of_image b image len offset =
+    if offset == 0 || not (nat_lt offset len) then []
+    else unwrap_or (text_at (ends end.Zero) 255 b (address_further image offset)) []
 
--- from a space (32) to `~` (126), else `.` (46)
+-- from a space (32) to `~` (126); a tab (9) is a space, any other byte `.` (46)
 abbrev pub shown_character : ℕ → ℕ
-shown_character byte = if is_in_range 32 126 byte then byte else 46
+shown_character byte = if is_in_range 32 126 byte then byte else (if byte == 9 then 32 else 46)
 
 -- `error 220 &DC Syntax: *PotSet <pot> <seeds>`
 abbrev pub syntax_line : List ℕ → List ℕ
@@ -72,7 +72,7 @@ is_outside limits count = nat_lt count (limits % 256) || nat_lt (limits / 65536 
 
 abbrev pub plan_of_count : Bytes → FoundCommand → ℕ → Result ModuleEntry (List ℕ)
 plan_of_count b f count =
-    if is_outside f.entry.limits count then Err (syntax_line (syntax_text b f))
+    if is_outside f.entry.limits count then Err (syntax_line (text_of_image b f.image f.len f.entry.syntax))
     else entry_of_command f count (code_place f.image f.len f.entry.code)
 
 abbrev pub found_plan : Bytes → FoundCommand → List ℕ → Result ModuleEntry (List ℕ)

@@ -5,14 +5,17 @@ use Rattle.std.specs.List.{position}
 use Rattle.command_shell_lines.specs.Numbers.{script_number}
 use Rattle.command_shell_lines.specs.Requests.{is_same_word}
 use Rattle.command_shell_lines.specs.debug_words.Texts.{front_before, text_behind}
+use Rattle.instances_table.specs.declared.parts.ModuleInfo.{ModuleInfo}
 use Rattle.debug_modules.specs.declared.requests.ModuleRequest.{ModuleRequest}
 use Rattle.debug_modules.specs.declared.requests.ModuleRequest.TheVariants as line
 
--- what is only shown: what a line needs, the commands of all modules, or where the images of two names differ
+-- what is only shown: what a line needs, the commands of all modules, where the images of two names differ, or what
+-- a module says of itself
 pub data ModuleView : Type 0 where
   Needs : List ℕ → ModuleView
   Commands : ModuleView
   Compare : List ℕ → List ℕ → ModuleView
+  Description : ModuleInfo → ModuleView
 
 pub data ModuleAsked : Type 0 where
   -- a command's name, and what stands behind it

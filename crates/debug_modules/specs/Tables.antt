@@ -70,9 +70,9 @@ unfoldable pub table_from : ℕ → Bytes → ℕ → ℕ → CommandList
 table_from zero b limit at = no_commands false
 table_from (suc more) b limit at = command_table_by (λ next. table_from more b limit next) (command_entry_at b limit at)
 
--- the offset of a module's table, 0 where it has none
-abbrev pub table_place : Bytes → ModuleInfo → ℕ
-table_place b m = if nat_le 28 m.len then loaded_word b (address_further m.image 24) else 0
+-- a word of a module's header by its place, 0 where the image is too short for it
+abbrev pub header_word : Bytes → ModuleInfo → ℕ → ℕ
+header_word b m place = if nat_le (place + 4) m.len then loaded_word b (address_further m.image place) else 0
 
 abbrev pub table_at : Bytes → ModuleInfo → ℕ → CommandList
 table_at b m offset =
@@ -83,4 +83,4 @@ table_at b m offset =
 
 -- a module's commands
 abbrev pub commands_of : Bytes → ModuleInfo → CommandList
-commands_of b m = table_at b m (table_place b m)
+commands_of b m = table_at b m (header_word b m 24)

@@ -7,6 +7,7 @@ ghost use Rattle.debug_modules.specs.Answers.{IsModuleAnswered, command_answered
 ghost use Rattle.debug_modules.specs.Taking.{HasLineSteps};
 
 use crate::comparing::images_compared;
+use crate::describing::{module_described, module_meant};
 use crate::entering::{ModuleEntry, enter_code};
 use crate::listing::commands_text;
 use crate::plans::{CommandPlan, TAIL, command_plan, tail_bytes};
@@ -84,7 +85,13 @@ pub fn answer_module_line(
         Some(ModuleRequest::Form(text)) => {
             Ok(Some(ModuleAnswer::Shown(form_line(alloc, text)?)))
         }
-        None => Ok(None),
+        None => match module_meant(session.machine(), line) {
+            Some(info) => {
+                let text = module_described(alloc, session.machine().memory(), &info)?;
+                Ok(Some(ModuleAnswer::Shown(text)))
+            }
+            None => Ok(None),
+        },
     }
 }
 

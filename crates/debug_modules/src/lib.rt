@@ -7,6 +7,7 @@
 mod answering;
 mod commands;
 mod comparing;
+mod describing;
 mod entering;
 mod listing;
 mod plans;

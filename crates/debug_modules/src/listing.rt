@@ -97,7 +97,8 @@ fn push_table(
     Ok(())
 }
 
-fn table_end_text(is_whole: bool) -> &'static [u8]
+/// What stands below the entries of a table.
+pub(crate) fn table_end_text(is_whole: bool) -> &'static [u8]
     ensures { result.now ≡ table_end_text is_whole }
 {
     if is_whole {
@@ -107,8 +108,13 @@ fn table_end_text(is_whole: bool) -> &'static [u8]
     }
 }
 
+/// A line for each entry.
+///
+/// # Errors
+///
+/// Memory ran out.
 #[tactic(auto, using(crate::proofs::ListingLemmas::next_entry))]
-fn push_entries(
+pub(crate) fn push_entries(
     memory: &AddressMap,
     entries: &[CommandEntry],
     text: &mut Vec<u8>,

@@ -4,7 +4,7 @@ ghost use Rattle.std.specs.Prelude.{◌≡◌, ◌++◌, ◌≤◌, codes, lengt
 ghost use Rattle.address_map.specs.Memory.{bytes_of};
 ghost use Rattle.command_shell.specs.Answers.{refused_text};
 ghost use Rattle.command_shell.specs.GuestState.{state_of};
-ghost use Rattle.debug_modules.specs.Plans.{code_place, command_plan, found_plan, command_plan_of, shown_character, syntax_line, syntax_text, tail_bytes, words_begun, tail_words, parts_words, quotes_behind};
+ghost use Rattle.debug_modules.specs.Plans.{code_place, command_plan, found_plan, command_plan_of, shown_character, syntax_line, tail_bytes, text_of_image, words_begun, tail_words, parts_words, quotes_behind};
 
 use crate::commands::{CommandSearch, FoundCommand, command_found};
 use crate::entering::ModuleEntry;
@@ -84,7 +84,7 @@ fn found_plan(
     let least = found.entry.limits % 256;
     let most = found.entry.limits / 65536 % 256;
     if count < least || count > most {
-        let text = syntax_text(memory, found);
+        let text = text_of_image(memory, found.image, found.len, found.entry.syntax);
         return Ok(CommandPlan::Refused(syntax_line(alloc, text.as_slice())?));
     }
     match code_place(found.image, found.len, found.entry.code) {
@@ -175,26 +175,31 @@ pub(crate) fn push_shown(line: &mut Vec<u8>, text: &[u8]) -> Result<(), AllocErr
     Ok(())
 }
 
-// The text on a command's syntax, empty where the table has none.
-fn syntax_text(memory: &AddressMap, found: &FoundCommand) -> ArrayVec<u8, MAX_TEXT>
-    ensures { result.items ≡ syntax_text (bytes_of memory.now) found.now }
+/// The text at an offset of an image, empty where that has none.
+pub(crate) fn text_of_image(
+    memory: &AddressMap,
+    image: u32,
+    len: u32,
+    offset: u32,
+) -> ArrayVec<u8, MAX_TEXT>
+    ensures { result.items ≡ text_of_image (bytes_of memory.now) image len offset }
 {
-    let offset = found.entry.syntax;
-    if offset == 0 || offset >= found.len {
+    if offset == 0 || offset >= len {
         return ArrayVec::new();
     }
-    match text_at::<MAX_TEXT>(memory, found.image.wrapping_add(offset), TextEnd::Zero) {
+    match text_at::<MAX_TEXT>(memory, image.wrapping_add(offset), TextEnd::Zero) {
         Some(text) => text,
         None => ArrayVec::new(),
     }
 }
 
-// A byte as a character, `.` where it is none from a space to `~`.
+// A byte as a character: a tab as a space, and `.` for one that is none from a space to `~`.
 fn shown_character(byte: u8) -> u8
     ensures { result ≡ shown_character byte }
 {
     match byte {
         b' '..=b'~' => byte,
+        b'\t' => b' ',
         _ => b'.',
     }
 }

@@ -2,7 +2,7 @@
 
 ghost use Rattle.std.specs.Prelude.{◌≡◌, ◌≤◌, ◌^◌, IfOk};
 ghost use Rattle.address_map.specs.Memory.{bytes_of};
-ghost use Rattle.debug_modules.specs.Tables.{commands_of, command_entry_at, entry_of_words, loaded_word, table_from, table_place};
+ghost use Rattle.debug_modules.specs.Tables.{commands_of, command_entry_at, entry_of_words, header_word, loaded_word, table_from};
 
 use address_map::AddressMap;
 use debug_labels::ModuleInfo;
@@ -10,10 +10,8 @@ use std::alloc::{AllocError, Global};
 use swi_dispatch_answers::strings::{next_word, text_at};
 use swi_dispatch_answers::{MAX_TEXT, TextEnd};
 
-// Where the header has the offset of the table, and how long an image is that has it.
+// Where the header has the offset of the table.
 const TABLE_WORD: u32 = 0x18;
-
-const LEAST_BYTES: u32 = 0x1C;
 
 // A table has so many entries at most.
 const MOST_ENTRIES: u32 = 256;
@@ -60,7 +58,7 @@ pub(crate) fn commands_of(
         ≡ (commands_of (bytes_of memory.now) module.now).entries) }
     ensures whole { IfOk result (λ t. t.is_whole ≡ (commands_of (bytes_of memory.now) module.now).is_whole) }
 {
-    let offset = table_place(memory, module);
+    let offset = header_word(memory, module, TABLE_WORD);
     if offset == 0 {
         return Ok(CommandTable {
             entries: Vec::new(alloc),
@@ -77,17 +75,15 @@ pub(crate) fn commands_of(
     table_from(alloc, memory, limit, module.image.wrapping_add(offset))
 }
 
-// The offset of a module's table, 0 where it has none.
-fn table_place(memory: &AddressMap, module: &ModuleInfo) -> u32
-    ensures { result ≡ table_place (bytes_of memory.now) module.now }
+/// A word of a module's header by its place, 0 where the image is too short for it.
+pub(crate) fn header_word(memory: &AddressMap, module: &ModuleInfo, place: u32) -> u32
+    requires { place ≤ 48 }
+    ensures { result ≡ header_word (bytes_of memory.now) module.now place }
 {
-    if module.len < LEAST_BYTES {
+    if module.len < place + 4 {
         return 0;
     }
-    match memory.load_word(module.image.wrapping_add(TABLE_WORD)) {
-        Ok(offset) => offset,
-        Err(_) => 0,
-    }
+    loaded_word(memory, module.image.wrapping_add(place))
 }
 
 // The table at an address, of an image that ends at another.

@@ -16,10 +16,10 @@ use Rattle.debug_lines.specs.SteppingRequests as stepping
 use Rattle.debug_modes.specs.Modes.{answer_of_line}
 use Rattle.debug_modes.specs.declared.modes.DebugModes.{DebugModes}
 use Rattle.debug_modes.specs.expectations.Why.{why_text}
-use Rattle.debug_modules.specs.Answers.{ModuleAnswered, ModuleShown, Steps, Text, command_by, command_called, command_put_by, entered_so, error_below, module_answered, module_line_answered, modes_after_modules, only_shown, past_after_modules, script_after_modules}
+use Rattle.debug_modules.specs.Answers.{ModuleAnswered, ModuleShown, Steps, Text, command_by, command_called, command_put_by, entered_so, error_below, module_answered, module_line_answered, module_line_asked, modes_after_modules, only_shown, past_after_modules, script_after_modules}
 use Rattle.debug_modules.specs.Entering.{at_entry, back_if_returned, module_code_entered, past_at_entry, status_gone_back, supervisor, with_status_back}
 use Rattle.debug_modules.specs.Plans.{command_plan, tail_address, tail_bytes}
-use Rattle.debug_modules.specs.Requests.{Command, Explain, Form, ModuleAsked, Service, module_request}
+use Rattle.debug_modules.specs.Requests.{Command, Form, ModuleAsked, Service}
 use Rattle.debug_modules.specs.Services.{ServiceState, entry_of_service, is_served, served_at, served_from, served_if, service_begun, service_called, service_code, service_left}
 use Rattle.debug_modules.specs.Taking.{LineSteps, line_steps}
 use Rattle.debug_modules.specs.declared.services.ServiceCode.{ServiceCode}
@@ -186,7 +186,7 @@ asked_kept c d number line (Some asked) was =
 pub module_line_kept : (c : DebugSettings) (d : DebugState) (number : ℕ) (line : List ℕ) → IsPastOf d.script d.past
     → (let e = (module_line_by c d number line
     (module_line_answered d.modes d.labels c.budget d.script d.past number line)).state in IsPastOf e.script e.past)
-module_line_kept c d number line was = asked_kept c d number line (module_request line) was
+module_line_kept c d number line was = asked_kept c d number line (module_line_asked d.script.machine line) was
 
 -- WITH ANOTHER PAST
 
@@ -318,4 +318,4 @@ pub module_line_same : (c : DebugSettings) (d : DebugState) (p : PastState) (num
     → IsSameButPast p (module_line_by c (record d { past = p }) number line
     (module_line_answered d.modes d.labels c.budget d.script p number line))
     (module_line_by c d number line (module_line_answered d.modes d.labels c.budget d.script d.past number line))
-module_line_same c d p number line = asked_same c d p number line (module_request line)
+module_line_same c d p number line = asked_same c d p number line (module_line_asked d.script.machine line)
