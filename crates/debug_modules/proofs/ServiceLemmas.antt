@@ -11,13 +11,13 @@ use Rattle.command_shell.specs.State.{ScriptState}
 use Rattle.debug_history.specs.Past.{PastState}
 use Rattle.debug_modes.specs.declared.modes.DebugModes.{DebugModes}
 
-served_suc : (more : ℕ) (labels : List ImageLabels) (number : ℕ) (title : List ℕ) (place : ℕ) (v : ServiceState)
+pub served_suc : (more : ℕ) (labels : List ImageLabels) (number : ℕ) (title : List ℕ) (place : ℕ) (v : ServiceState)
     → served_from (suc more) labels number title place v
     ≡ served_from more labels number title (place + 1) (served_at labels number title place v)
 unfolding served_from
 served_suc more labels number title place v = refl
 
-none_served : (labels : List ImageLabels) (number : ℕ) (title : List ℕ) (place : ℕ) (v : ServiceState)
+pub none_served : (labels : List ImageLabels) (number : ℕ) (title : List ℕ) (place : ℕ) (v : ServiceState)
     → served_from 0 labels number title place v ≡ v
 unfolding served_from
 none_served labels number title place v = refl

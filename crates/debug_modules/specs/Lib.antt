@@ -4,6 +4,7 @@ pub mod Commands
 pub mod Comparing
 pub mod Describing
 pub mod Entering
+pub mod Laws
 pub mod Listing
 pub mod Plans
 pub mod Requests

@@ -9,6 +9,7 @@ mod commands;
 mod comparing;
 mod describing;
 mod entering;
+mod laws;
 mod listing;
 mod plans;
 mod requests;
@@ -18,6 +19,7 @@ mod taking;
 
 pub use answering::{ModuleAnswer, answer_module_line};
 pub use entering::ModuleEntry;
+pub use laws::{service_calls_in_turn, tail_words_are_words};
 pub use requests::{ModuleRequest, module_request};
 pub use services::ServiceCode;
 pub use taking::take_steps;
