@@ -4,5 +4,4 @@ pub mod EnteringLemmas
 pub mod ListingLemmas
 pub mod PlanLemmas
 pub mod ServiceLemmas
-pub mod TailLemmas
-pub mod TurnLemmas
+pub mod SourceLemmas

@@ -3,6 +3,7 @@ use Rattle.std.specs.Prelude.{◌≡◌, ℕ, ◌&&◌, ◌++◌, is_some, codes
 use Rattle.std.specs.Option.{option_map, option_or}
 use Rattle.profile.specs.FaultNames.{fault_name}
 use Rattle.profile.specs.declared.fault.Fault.{Fault}
+use Rattle.profile.specs.images.Entries.{Entry}
 use Rattle.command_shell.specs.Answers.{refused_text}
 use Rattle.command_shell.specs.MachineState.{MachineState}
 use Rattle.command_shell.specs.Memory.{script_with_budget}
@@ -11,7 +12,7 @@ use Rattle.debug_history.specs.Noted.{has_returned, past_with_deed}
 use Rattle.debug_history.specs.Past.{PastState}
 use Rattle.debug_history.specs.declared.act.PastDeed.TheVariants.{Bytes}
 use Rattle.debug_labels.specs.Labels.{ImageLabels}
-use Rattle.debug_modes.specs.Changes.{ModeAnswer, why_line_answer}
+use Rattle.debug_labels.specs.place_views.Places.{naming_on}
 use Rattle.debug_modes.specs.declared.modes.DebugModes.{DebugModes}
 use Rattle.debug_modes.specs.expectations.Why.{why_text}
 use Rattle.debug_tables.specs.byte_writes.Put.{script_after_put}
@@ -20,8 +21,9 @@ use Rattle.debug_modules.specs.Describing.{module_described, module_meant}
 use Rattle.debug_modules.specs.Entering.{module_code_entered}
 use Rattle.debug_modules.specs.Listing.{commands_text}
 use Rattle.debug_modules.specs.Plans.{command_plan, tail_address, tail_bytes}
-use Rattle.debug_modules.specs.Requests.{Command, Commands, Compare, Description, Form, ModuleAsked, ModuleView, Needs, Service, module_request}
+use Rattle.debug_modules.specs.Requests.{Command, Commands, Form, Listing, ModuleAsked, ModuleView, Needs, Service, module_request}
 use Rattle.debug_modules.specs.Services.{is_served, service_called}
+use Rattle.debug_modules.specs.SourceListing.{listing_text}
 use Rattle.debug_modules.specs.Taking.{LineSteps}
 use Rattle.debug_modules.specs.declared.answering.ModuleAnswer.{ModuleAnswer}
 use Rattle.debug_modules.specs.declared.answering.ModuleAnswer.TheVariants.{Shown, Entered}
@@ -112,29 +114,26 @@ mode_shown s p a = only_shown a.modes s p a.text
 -- ALL LINES
 
 -- what is only shown
-abbrev pub view_shown : ScriptState → ModuleView → List ℕ
-view_shown s (Needs text) = text ++ codes "\n"
-view_shown s Commands = commands_text s.machine
-view_shown s (Compare one other) = images_compared s.images one other
-view_shown s (Description m) = module_described s.machine.store.bytes m
+abbrev pub view_shown : DebugModes → List ImageLabels → List Entry → ScriptState → ModuleView → List ℕ
+view_shown m labels sources s (Needs text) = text ++ codes "\n"
+view_shown m labels sources s Commands = commands_text s.machine
+view_shown m labels sources s (Listing name) =
+    listing_text m.counts (naming_on labels s.machine) s.images sources name
 
-abbrev pub module_answered : DebugModes → List ImageLabels → ℕ → ScriptState → PastState → ℕ → ModuleAsked
-    → ModuleAnswered
-module_answered m labels budget s p number (Command name tail) =
+abbrev pub module_answered : DebugModes → List ImageLabels → List Entry → ℕ → ScriptState → PastState → ℕ
+    → ModuleAsked → ModuleAnswered
+module_answered m labels sources budget s p number (Command name tail) =
     command_answered m labels budget s p number name tail
-module_answered m labels budget s p number (Service service title) =
+module_answered m labels sources budget s p number (Service service title) =
     service_answered m labels budget s p number service title
-module_answered m labels budget s p number (Form view) = only_shown m s p (view_shown s view)
-
--- what a line asks for: HELP and the title of a loaded module asks for what that says of itself
-abbrev pub module_line_asked : MachineState → List ℕ → Option ModuleAsked
-module_line_asked s line = option_or (module_request line) (option_map (λ m. Form (Description m)) (module_meant s line))
+module_answered m labels sources budget s p number (Form view) =
+    only_shown m s p (view_shown m labels sources s view)
 
 -- what such a line is answered, and nothing of any other
-abbrev pub module_line_answered : DebugModes → List ImageLabels → ℕ → ScriptState → PastState → ℕ → List ℕ
-    → Option ModuleAnswered
-module_line_answered m labels budget s p number line =
-    option_map (module_answered m labels budget s p number) (module_line_asked s.machine line)
+abbrev pub module_line_answered : DebugModes → List ImageLabels → List Entry → ℕ → ScriptState → PastState → ℕ
+    → List ℕ → Option ModuleAnswered
+module_line_answered m labels sources budget s p number line =
+    option_map (module_answered m labels sources budget s p number) (module_request line)
 
 -- what a line leaves that may be such a line
 abbrev pub script_after_modules : ScriptState → Option ModuleAnswered → ScriptState

@@ -9,13 +9,11 @@ use Rattle.instances_table.specs.declared.parts.ModuleInfo.{ModuleInfo}
 use Rattle.debug_modules.specs.declared.requests.ModuleRequest.{ModuleRequest}
 use Rattle.debug_modules.specs.declared.requests.ModuleRequest.TheVariants as line
 
--- what is only shown: what a line needs, the commands of all modules, where the images of two names differ, or what
--- a module says of itself
+-- what is only shown: what a line needs, the commands of all modules, or the listing of an image
 pub data ModuleView : Type 0 where
   Needs : List ℕ → ModuleView
   Commands : ModuleView
-  Compare : List ℕ → List ℕ → ModuleView
-  Description : ModuleInfo → ModuleView
+  Listing : List ℕ → ModuleView
 
 pub data ModuleAsked : Type 0 where
   -- a command's name, and what stands behind it
@@ -32,7 +30,7 @@ abbrev pub module_request_of : ModuleRequest → ModuleAsked
 module_request_of (line.Command name tail) = Command name.now tail.now
 module_request_of (line.Service service title) = Service service title.now
 module_request_of line.Commands = Form Commands
-module_request_of (line.Compare one other) = Form (Compare one.now other.now)
+module_request_of (line.Listing name) = Form (Listing name.now)
 module_request_of (line.Form text) = Form (Needs text.now)
 
 -- the word before the first space (32), and what stands behind that
@@ -55,35 +53,29 @@ abbrev pub service_request : List ℕ → Option ModuleAsked
 service_request text =
     option_map (λ service. Service service (text_behind_word text)) (script_number (word_in_front text))
 
--- `COMPARE name other`: of two names, and no word more
-abbrev pub compare_request : List ℕ → Option ModuleAsked
-compare_request text = let other = text_behind_word text in
-    if length other == 0 || is_some (position (λ b. b == 32) other) then None
-    else Some (Form (Compare (word_in_front text) other))
-
--- `COMMANDS`, `HELP COMMANDS`, `HELP COMMAND`, `HELP SERVICE`, `HELP COMPARE`
+-- `COMMANDS`, `HELP COMMANDS`, `HELP LISTING`, `HELP COMMAND`, `HELP SERVICE`
 abbrev pub whole_request : List ℕ → Option ModuleAsked
 whole_request line =
     if is_same_word line (codes "COMMANDS") then Some (Form Commands) else (
     if is_same_word line (codes "WHY ON") then Some (Explain true) else (
     if is_same_word line (codes "WHY OFF") then Some (Explain false) else (
     if is_same_word line (codes "HELP COMMANDS") then Some (Form (Needs (codes "COMMANDS stands alone"))) else (
+    if is_same_word line (codes "HELP LISTING") then Some (Form (Needs
+    (codes "LISTING wants the name of an image that a block has made, as LISTING main"))) else (
     if is_same_word line (codes "HELP COMMAND") then Some (Form (Needs
     (codes "COMMAND wants a module's command, with what stands behind it, as COMMAND PotSet 1 5"))) else (
     if is_same_word line (codes "HELP SERVICE") then Some (Form (Needs
-    (codes "SERVICE wants a number, and may have a module's title, as SERVICE &27 Pots"))) else (
-    if is_same_word line (codes "HELP COMPARE") then Some (Form (Needs
-    (codes "COMPARE wants the names of two images, as COMPARE mine original"))) else
+    (codes "SERVICE wants a number, and may have a module's title, as SERVICE &27 Pots"))) else
     None))))
 
 -- what a tidy line asks for, if it has to do with the code of modules
-abbrev pub compare_asked : List ℕ → Option (List ℕ) → Option ModuleAsked
-compare_asked line (Some text) = compare_request text
-compare_asked line None = whole_request line
+abbrev pub listing_asked : List ℕ → Option (List ℕ) → Option ModuleAsked
+listing_asked line (Some name) = Some (Form (Listing name))
+listing_asked line None = whole_request line
 
 abbrev pub service_asked : List ℕ → Option (List ℕ) → Option ModuleAsked
 service_asked line (Some text) = service_request text
-service_asked line None = compare_asked line (text_behind (codes "COMPARE ") line)
+service_asked line None = listing_asked line (text_behind (codes "LISTING ") line)
 
 abbrev pub command_asked : List ℕ → Option (List ℕ) → Option ModuleAsked
 command_asked line (Some text) = Some (command_request text)

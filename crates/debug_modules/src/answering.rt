@@ -13,6 +13,7 @@ use crate::listing::commands_text;
 use crate::plans::{CommandPlan, TAIL, command_plan, tail_bytes};
 use crate::requests::{ModuleRequest, module_request};
 use crate::services::{call_service, is_served};
+use crate::source_listing::listing_text;
 use debug_history::{KeptText, Past, PastDeed, has_returned};
 use debug_labels::LabelTable;
 use debug_lines::DebugView;
@@ -45,21 +46,22 @@ pub fn answer_module_line(
     past: &mut Past,
     images: &Images,
     labels: &LabelTable,
+    sources: &Images,
     number: u64,
     line: &[u8],
 ) -> Result<Option<ModuleAnswer>, AllocError>
     ensures script { let s = script_state session.old images.now in
         OnOk result (script_state session.new images.now ≡ script_after_modules s
-        (module_line_answered modes.old labels.now budget s past.old number line.now)) }
+        (module_line_answered modes.old labels.now sources.now budget s past.old number line.now)) }
     ensures modes { let s = script_state session.old images.now in
         OnOk result (modes.new ≡ modes_after_modules modes.old
-        (module_line_answered modes.old labels.now budget s past.old number line.now)) }
+        (module_line_answered modes.old labels.now sources.now budget s past.old number line.now)) }
     ensures past { let s = script_state session.old images.now in
         OnOk result (past.new ≡ past_after_modules past.old
-        (module_line_answered modes.old labels.now budget s past.old number line.now)) }
+        (module_line_answered modes.old labels.now sources.now budget s past.old number line.now)) }
     ensures shown { let s = script_state session.old images.now in
         IfOk result (λ answer. option_map shown_of answer ≡ option_map (λ a. a.shown)
-        (module_line_answered modes.old labels.now budget s past.old number line.now)) }
+        (module_line_answered modes.old labels.now sources.now budget s past.old number line.now)) }
 {
     match module_request(line) {
         Some(ModuleRequest::Command(name, tail)) => {
@@ -78,8 +80,9 @@ pub fn answer_module_line(
             let text = commands_text(alloc, session.machine())?;
             Ok(Some(ModuleAnswer::Shown(text)))
         }
-        Some(ModuleRequest::Compare(one, other)) => {
-            let text = images_compared(alloc, images, one, other)?;
+        Some(ModuleRequest::Listing(name)) => {
+            let (counts, machine) = (&modes.counts, session.machine());
+            let text = listing_text(alloc, counts, machine, images, labels, sources, name)?;
             Ok(Some(ModuleAnswer::Shown(text)))
         }
         Some(ModuleRequest::Form(text)) => {

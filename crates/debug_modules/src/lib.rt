@@ -1,5 +1,5 @@
-//! Lines of a debugging script that enter the code of loaded modules, and the steps that lines take, with what
-//! is kept of them.
+//! Lines of a debugging script that enter the code of loaded modules, the steps that lines take, with what is kept
+//! of them, and the listing of an image that a block has made.
 //!
 //! Promise: code finds what the manual says, and where a line is not done, nothing is changed.
 #![tactic(auto)]
@@ -14,6 +14,7 @@ mod listing;
 mod plans;
 mod requests;
 mod services;
+mod source_listing;
 mod tables;
 mod taking;
 
@@ -22,4 +23,5 @@ pub use entering::ModuleEntry;
 pub use laws::{service_calls_in_turn, tail_words_are_words};
 pub use requests::{ModuleRequest, module_request};
 pub use services::ServiceCode;
+pub use source_listing::keep_source;
 pub use taking::take_steps;

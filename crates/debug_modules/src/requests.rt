@@ -18,8 +18,8 @@ pub enum ModuleRequest<'a> {
     Service(u32, &'a [u8]),
     /// `COMMANDS`: the commands of all modules.
     Commands,
-    /// `COMPARE name other`: where the images of two names differ.
-    Compare(&'a [u8], &'a [u8]),
+    /// `LISTING name`: the listing of the image of that name.
+    Listing(&'a [u8]),
     /// `HELP COMMAND`, `HELP SERVICE`: what such a line needs.
     Form(&'a [u8]),
 }
@@ -32,8 +32,8 @@ pub fn module_request(line: &[u8]) -> Option<ModuleRequest<'_>>
         Some(text) => Some(command_request(text)),
         None => match text_behind(b"SERVICE ", line) {
             Some(text) => service_request(text),
-            None => match text_behind(b"COMPARE ", line) {
-                Some(text) => compare_request(text),
+            None => match text_behind(b"LISTING ", line) {
+                Some(name) => Some(ModuleRequest::Listing(name)),
                 None => whole_request(line),
             },
         },
@@ -52,6 +52,10 @@ fn whole_request(line: &[u8]) -> Option<ModuleRequest<'static>>
         Some(ModuleRequest::Explain(false))
     } else if line.eq_ignore_ascii_case(b"HELP COMMANDS") {
         Some(ModuleRequest::Form(b"COMMANDS stands alone"))
+    } else if line.eq_ignore_ascii_case(b"HELP LISTING") {
+        Some(ModuleRequest::Form(
+            b"LISTING wants the name of an image that a block has made, as LISTING main",
+        ))
     } else if line.eq_ignore_ascii_case(b"HELP COMMAND") {
         Some(ModuleRequest::Form(
             b"COMMAND wants a module's command, with what stands behind it, as COMMAND PotSet 1 5",

@@ -4,6 +4,7 @@ use Rattle.std.specs.Prelude.{unwrap_or, ◌&&◌, ◌++◌, codes, is_some}
 use Rattle.std.specs.Option.{option_map}
 use Rattle.profile.specs.Outcome.{Leaves}
 use Rattle.profile.specs.declared.fault.Fault.{Fault}
+use Rattle.profile.specs.images.Entries.{Entry}
 use Rattle.arm_core.specs.declared.psr.Psr.{Psr}
 use Rattle.debug_history.proofs.AgainLemmas.{beside_at, moment_at, put_at}
 use Rattle.debug_history.proofs.NotedLemmas.{deed_noted}
@@ -159,14 +160,13 @@ service_kept m labels budget s p number service title false true was =
     places_kept 4096 labels number title 0 (service_begun m budget s p service) was
 service_kept m labels budget s p number service title false false was = was
 
-answer_kept : (m : DebugModes) (labels : List ImageLabels) (budget : ℕ) (s : ScriptState) (p : PastState) (number : ℕ) (asked : ModuleAsked)
-    → IsPastOf s p → (let a = module_answered m labels budget s p number asked in IsPastOf a.script a.past)
-answer_kept m labels budget s p number (Command name tail) was =
+answer_kept : (m : DebugModes) (labels : List ImageLabels) (sources : List Entry) (budget : ℕ) (s : ScriptState) (p : PastState) (number : ℕ) (asked : ModuleAsked)
+    → IsPastOf s p → (let a = module_answered m labels sources budget s p number asked in IsPastOf a.script a.past)
+answer_kept m labels sources budget s p number (Command name tail) was =
     command_kept m labels budget s p number tail (command_plan s.machine name tail) was
-answer_kept m labels budget s p number (Service service title) was =
+answer_kept m labels sources budget s p number (Service service title) was =
     service_kept m labels budget s p number service title (is_some s.machine.halt) (is_served s.machine.tables.modules title) was
-answer_kept m labels budget s p number (Explain is_on) was = was
-answer_kept m labels budget s p number (Form text) was = was
+answer_kept m labels sources budget s p number (Form text) was = was
 
 shown_kept : (c : DebugSettings) (d : DebugState) (now : ScriptState) (shown : ModuleShown) → IsPastOf now d.past
     → (let e = (module_line_shown c d now shown).state in IsPastOf e.script e.past)
@@ -175,18 +175,18 @@ shown_kept c d now (Steps text printed ending) was = was
 
 asked_kept : (c : DebugSettings) (d : DebugState) (number : ℕ) (line : List ℕ) (o : Option ModuleAsked) → IsPastOf d.script d.past
     → (let e = (module_line_by c d number line
-    (option_map (module_answered d.modes d.labels c.budget d.script d.past number) o)).state in IsPastOf e.script e.past)
+    (option_map (module_answered d.modes d.labels d.sources c.budget d.script d.past number) o)).state in IsPastOf e.script e.past)
 asked_kept c d number line None was = was
 asked_kept c d number line (Some asked) was =
-    let a = module_answered d.modes d.labels c.budget d.script d.past number asked in
+    let a = module_answered d.modes d.labels d.sources c.budget d.script d.past number asked in
     shown_kept c (record d { modes = a.modes; past = a.past }) a.script a.shown
-    (answer_kept d.modes d.labels c.budget d.script d.past number asked was)
+    (answer_kept d.modes d.labels d.sources c.budget d.script d.past number asked was)
 
 -- a line that may enter the code of modules leaves the past of the machine that it leaves
 pub module_line_kept : (c : DebugSettings) (d : DebugState) (number : ℕ) (line : List ℕ) → IsPastOf d.script d.past
     → (let e = (module_line_by c d number line
-    (module_line_answered d.modes d.labels c.budget d.script d.past number line)).state in IsPastOf e.script e.past)
-module_line_kept c d number line was = asked_kept c d number line (module_line_asked d.script.machine line) was
+    (module_line_answered d.modes d.labels d.sources c.budget d.script d.past number line)).state in IsPastOf e.script e.past)
+module_line_kept c d number line was = asked_kept c d number line (module_request line) was
 
 -- WITH ANOTHER PAST
 
@@ -279,15 +279,15 @@ service_same m labels budget s q p r number service title false true =
     (places_same 4096 labels number title 0 q p r (service_begun m budget s p service))
 service_same m labels budget s q p r number service title false false = refl
 
-answer_same : (m : DebugModes) (labels : List ImageLabels) (budget : ℕ) (s : ScriptState) (q p r : PastState) (number : ℕ)
+answer_same : (m : DebugModes) (labels : List ImageLabels) (sources : List Entry) (budget : ℕ) (s : ScriptState) (q p r : PastState) (number : ℕ)
     (asked : ModuleAsked)
-    → answer_without q (module_answered m labels budget s p number asked) ≡ answer_without q (module_answered m labels budget s r number asked)
-answer_same m labels budget s q p r number (Command name tail) =
+    → answer_without q (module_answered m labels sources budget s p number asked)
+    ≡ answer_without q (module_answered m labels sources budget s r number asked)
+answer_same m labels sources budget s q p r number (Command name tail) =
     command_same m labels budget s q p r number tail (command_plan s.machine name tail)
-answer_same m labels budget s q p r number (Service service title) =
+answer_same m labels sources budget s q p r number (Service service title) =
     service_same m labels budget s q p r number service title (is_some s.machine.halt) (is_served s.machine.tables.modules title)
-answer_same m labels budget s q p r number (Explain is_on) = refl
-answer_same m labels budget s q p r number (Form text) = refl
+answer_same m labels sources budget s q p r number (Form text) = refl
 
 shown_same : (c : DebugSettings) (d : DebugState) (p : PastState) (a : ModuleAnswered) (shown : ModuleShown)
     → (record (module_line_shown c (record d { modes = a.modes; past = a.past }) a.script shown).state { past = p }
@@ -299,13 +299,13 @@ shown_same c d p a (Steps text printed ending) = (refl, refl)
 
 asked_same : (c : DebugSettings) (d : DebugState) (p : PastState) (number : ℕ) (line : List ℕ) (o : Option ModuleAsked)
     → IsSameButPast p (module_line_by c (record d { past = p }) number line
-    (option_map (module_answered d.modes d.labels c.budget d.script p number) o))
-    (module_line_by c d number line (option_map (module_answered d.modes d.labels c.budget d.script d.past number) o))
+    (option_map (module_answered d.modes d.labels d.sources c.budget d.script p number) o))
+    (module_line_by c d number line (option_map (module_answered d.modes d.labels d.sources c.budget d.script d.past number) o))
 asked_same c d p number line None = record { text = refl; state = refl }
 asked_same c d p number line (Some asked) =
-    let one = module_answered d.modes d.labels c.budget d.script p number asked in
-    let two = module_answered d.modes d.labels c.budget d.script d.past number asked in
-    let same = answer_same d.modes d.labels c.budget d.script p p d.past number asked in
+    let one = module_answered d.modes d.labels d.sources c.budget d.script p number asked in
+    let two = module_answered d.modes d.labels d.sources c.budget d.script d.past number asked in
+    let same = answer_same d.modes d.labels d.sources c.budget d.script p p d.past number asked in
     let first = shown_same c (record d { past = p }) p one one.shown in
     let second = shown_same c d p two two.shown in
     let answer : ModuleAnswered → DebugAnswered =
@@ -316,6 +316,6 @@ asked_same c d p number line (Some asked) =
 
 pub module_line_same : (c : DebugSettings) (d : DebugState) (p : PastState) (number : ℕ) (line : List ℕ)
     → IsSameButPast p (module_line_by c (record d { past = p }) number line
-    (module_line_answered d.modes d.labels c.budget d.script p number line))
-    (module_line_by c d number line (module_line_answered d.modes d.labels c.budget d.script d.past number line))
-module_line_same c d p number line = asked_same c d p number line (module_line_asked d.script.machine line)
+    (module_line_answered d.modes d.labels d.sources c.budget d.script p number line))
+    (module_line_by c d number line (module_line_answered d.modes d.labels d.sources c.budget d.script d.past number line))
+module_line_same c d p number line = asked_same c d p number line (module_request line)

@@ -15,8 +15,9 @@ use Rattle.command_shell_lines.specs.FailedBlocks.{FailedBlockPlace, block_reaso
 use Rattle.debug_modes.specs.expectations.Endings.{ending_of, output_of}
 use Rattle.debug_labels.specs.Labels.{ImageLabels}
 use Rattle.debug_modes.specs.declared.modes.DebugModes.{DebugModes}
+use Rattle.debug_modules.specs.SourceListing.{with_source_of}
 use Rattle.debug_session.specs.Naming.{labels_with_block}
-use Rattle.debug_session.specs.DebugScript.{machine_change_answer, checked_answer, labels_after, past_after_line, simple_request_answer, state_after_line, state_with_answer, script_line_answer, script_line_answer_by, answer_or_refused, line_in_modes_answer, past_after_reset, view_answer, with_block_noted}
+use Rattle.debug_session.specs.DebugScript.{machine_change_answer, checked_answer, labels_after, past_after_line, sources_after, simple_request_answer, state_after_line, state_with_answer, script_line_answer, script_line_answer_by, answer_or_refused, line_in_modes_answer, past_after_reset, view_answer, with_block_noted}
 use Rattle.debug_lines.specs.LineKinds.{asks_nothing, is_named_image, is_refused_block, takes_steps}
 use Rattle.debug_history.specs.Noted.{is_faulted, past_after_request, past_with_deed}
 use Rattle.debug_history.specs.Past.{PastState, past_from_start}
@@ -96,10 +97,11 @@ answer_with before after now at_print c e line number refused text setting at re
     (subst (λ (n : ℕ). IsDebugged before after now (answer_or_refused c at_print n refused at_print text)) at reported)
 
 -- a state by its parts
-made : ScriptState → List ImageLabels → List FailedBlockPlace → DebugModes → List ℕ → List ℕ → ℕ → CheckTally → Bool → PastState → DebugState
-made script labels failed modes answer output steps tally quit past = record {
+made : ScriptState → List ImageLabels → List Entry → List FailedBlockPlace → DebugModes → List ℕ → List ℕ → ℕ → CheckTally → Bool → PastState → DebugState
+made script labels sources failed modes answer output steps tally quit past = record {
   script = script;
   labels = labels;
+  sources = sources;
   failed = failed;
   modes = modes;
   answer = answer;
@@ -110,10 +112,10 @@ made script labels failed modes answer output steps tally quit past = record {
   past = past;
 }
 
-made_same : (s s' : ScriptState) (l l' : List ImageLabels) (f f' : List FailedBlockPlace) (m m' : DebugModes) (a a' o o' : List ℕ) (n n' : ℕ) (t t' : CheckTally) (q q' : Bool) (p p' : PastState)
-    → s ≡ s' → l ≡ l' → f ≡ f' → m ≡ m' → a ≡ a' → o ≡ o' → n ≡ n' → t ≡ t' → q ≡ q' → p ≡ p'
-    → made s l f m a o n t q p ≡ made s' l' f' m' a' o' n' t' q' p'
-made_same s s' l l' f f' m m' a a' o o' n n' t t' q q' p p' script labels failed modes answer output steps tally quit past = cc
+made_same : (s s' : ScriptState) (l l' : List ImageLabels) (x x' : List Entry) (f f' : List FailedBlockPlace) (m m' : DebugModes) (a a' o o' : List ℕ) (n n' : ℕ) (t t' : CheckTally) (q q' : Bool) (p p' : PastState)
+    → s ≡ s' → l ≡ l' → x ≡ x' → f ≡ f' → m ≡ m' → a ≡ a' → o ≡ o' → n ≡ n' → t ≡ t' → q ≡ q' → p ≡ p'
+    → made s l x f m a o n t q p ≡ made s' l' x' f' m' a' o' n' t' q' p'
+made_same s s' l l' x x' f f' m m' a a' o o' n n' t t' q q' p p' script labels sources failed modes answer output steps tally quit past = cc
 
 by_takes : {A : Type 0} (takes other : Bool) (x x' y y' : A) → takes ≡ other → x ≡ x' → y ≡ y'
     → (if takes then x else y) ≡ (if other then x' else y')
@@ -141,11 +143,11 @@ pub session_noted : (old mid new : DebugSession) (images after : List Entry) (an
 unfolding made noted_state
 session_noted old mid new images after answer takes r reported first next kept printed counted is state text =
     ap (λ (s : DebugSession). debug_state s after) next
-    ∙ made_same (script_state mid.session after) reported.state mid.labels old.labels mid.failed old.failed mid.modes old.modes new.answer.items
+    ∙ made_same (script_state mid.session after) reported.state mid.labels old.labels mid.sources old.sources mid.failed old.failed mid.modes old.modes new.answer.items
     (if takes_steps r then ending_of reported.text else reported.text) new.output.items
     (if takes_steps r then output_of reported.text else old.output.items) new.steps
     (if takes_steps r then old.setting.budget - reported.state.left else old.steps) mid.tally old.tally mid.has_quit old.has_quit mid.past old.past
-    state (ap (λ (s : DebugSession). s.labels) first) (ap (λ (s : DebugSession). s.failed) first) (ap (λ (s : DebugSession). s.modes) first)
+    state (ap (λ (s : DebugSession). s.labels) first) (ap (λ (s : DebugSession). s.sources) first) (ap (λ (s : DebugSession). s.failed) first) (ap (λ (s : DebugSession). s.modes) first)
     (kept ∙ by_takes takes (takes_steps r) (ending_of answer) (ending_of reported.text) answer reported.text is (ap ending_of text) text)
     (printed ∙ by_takes takes (takes_steps r) (output_of answer) (output_of reported.text) mid.output.items old.output.items is
     (ap output_of text) (ap (λ (s : DebugSession). s.output.items) first))
@@ -202,16 +204,45 @@ pub noted_labels : (old mid new : DebugSession) → mid ≡ record old { session
 noted_labels old mid new first next =
     ap (λ (s : DebugSession). s.labels) next ∙ ap (λ (s : DebugSession). s.labels) first
 
+-- and with the labels
+pub labelled_state : DebugSettings → DebugState → ℕ → Request → Answered → List (List ℕ) → DebugState
+labelled_state c d number r reported block = record (kept_state c d number r reported) { labels = labels_after d r reported block }
+
 pub session_labelled : (noted new : DebugSession) (after : List Entry) (c : DebugSettings) (d : DebugState) (number : ℕ) (r : Request)
     (reported : Answered) (block : List (List ℕ))
     → new ≡ record noted { labels = new.labels } → debug_state noted after ≡ kept_state c d number r reported
-    → new.labels ≡ labels_after d r reported block → debug_state new after ≡ state_with_answer c d number r reported block
-unfolding noted_state kept_state
+    → new.labels ≡ labels_after d r reported block → debug_state new after ≡ labelled_state c d number r reported block
+unfolding noted_state kept_state labelled_state
 session_labelled noted new after c d number r reported block next state labels =
     ap (λ (s : DebugSession). debug_state s after) next
     ∙ ap (λ (x : DebugState). let with_labels : DebugState = record x { labels = new.labels } in with_labels) state
     ∙ ap (λ (ls : List ImageLabels). let with_labels : DebugState = record (kept_state c d number r reported) { labels = ls } in with_labels)
     labels
+
+-- the texts of blocks that a session takes in
+pub sources_taken : (taken noted : List Entry) (d : DebugState) (refused : Bool) (r : Request) (reported : Answered)
+    (block : List (List ℕ))
+    → taken ≡ (if refused then noted else with_source_of noted r block) → noted ≡ d.sources
+    → refused ≡ is_refused_block d.script.images reported.state.images r → taken ≡ sources_after d r reported block
+sources_taken taken noted d refused r reported block is same refusal = is
+    ∙ ap (λ (es : List Entry). if refused then es else with_source_of es r block) same
+    ∙ ap (λ (b : Bool). if b then d.sources else with_source_of d.sources r block) refusal
+
+pub noted_sources : (old mid new : DebugSession) → mid ≡ record old { session = mid.session; scratch = mid.scratch }
+    → new ≡ record mid { answer = new.answer; output = new.output; steps = new.steps } → new.sources ≡ old.sources
+noted_sources old mid new first next =
+    ap (λ (s : DebugSession). s.sources) next ∙ ap (λ (s : DebugSession). s.sources) first
+
+pub session_sourced : (noted : DebugSession) (sources : List Entry) (after : List Entry) (c : DebugSettings) (d : DebugState)
+    (number : ℕ) (r : Request) (reported : Answered) (block : List (List ℕ))
+    → debug_state noted after ≡ labelled_state c d number r reported block → sources ≡ sources_after d r reported block
+    → (let new : DebugState = record (debug_state noted after) { sources = sources } in
+    new ≡ state_with_answer c d number r reported block)
+unfolding noted_state kept_state labelled_state
+session_sourced noted sources after c d number r reported block state is =
+    ap (λ (x : DebugState). let with_sources : DebugState = record x { sources = sources } in with_sources) state
+    ∙ ap (λ (es : List Entry). let with_sources : DebugState = record (labelled_state c d number r reported block) { sources = es } in
+    with_sources) is
 
 -- a session whose script alone is another
 pub session_moved : (old mid : DebugSession) (images after : List Entry) (to : ScriptState)
@@ -255,6 +286,29 @@ lone_labels d Areas reported block is = refl
 lone_labels d Modules reported block is = refl
 lone_labels d Flex reported block is = refl
 lone_labels d Unknown reported block is = refl
+
+pub lone_sources : (d : DebugState) (r : Request) (reported : Answered) (block : List (List ℕ)) → opens_block r ≡ false
+    → sources_after d r reported block ≡ d.sources
+lone_sources d Nothing reported block is = refl
+lone_sources d (Hex name) reported block is = absurd (cc)
+lone_sources d (Asm name origin) reported block is = absurd (cc)
+lone_sources d (Boot name) reported block is = refl
+lone_sources d Run reported block is = refl
+lone_sources d Regs reported block is = refl
+lone_sources d (Set register value) reported block is = refl
+lone_sources d (Poke address value) reported block is = refl
+lone_sources d (Call called) reported block is = refl
+lone_sources d (Load text) reported block is = refl
+lone_sources d (Step count) reported block is = refl
+lone_sources d (Break address) reported block is = refl
+lone_sources d (Unbreak address) reported block is = refl
+lone_sources d (Mem address count) reported block is = refl
+lone_sources d (Code address count) reported block is = refl
+lone_sources d (Heap address) reported block is = refl
+lone_sources d Areas reported block is = refl
+lone_sources d Modules reported block is = refl
+lone_sources d Flex reported block is = refl
+lone_sources d Unknown reported block is = refl
 
 empty_in : (form : ReportForm) → answer_in form [] ≡ []
 empty_in Answers = refl
@@ -331,11 +385,11 @@ mapped_some f None = refl
 mapped_some f (Some a) = refl
 
 -- a session whose images and labels are others
-pub without_image : (d : DebugState) (images after : List Entry) (labels left : List ImageLabels) (p q : PastState)
-    → after ≡ images → labels ≡ left → p ≡ q
-    → record d { script = record d.script { images = after }; labels = labels; past = p }
-    ≡ record d { script = record d.script { images = images }; labels = left; past = q }
-without_image d images after labels left p q stay go kept = rw (stay, go, kept) refl
+pub without_image : (d : DebugState) (images after : List Entry) (labels left : List ImageLabels) (sources behind : List Entry)
+    (p q : PastState) → after ≡ images → labels ≡ left → sources ≡ behind → p ≡ q
+    → record d { script = record d.script { images = after }; labels = labels; sources = sources; past = p }
+    ≡ record d { script = record d.script { images = images }; labels = left; sources = behind; past = q }
+without_image d images after labels left sources behind p q stay go leave kept = rw (stay, go, leave, kept) refl
 
 -- a view of another state
 pub view_after : (before after : Option (List ℕ)) (now d e : DebugState) (c f : DebugSettings) (text shown : List ℕ)

@@ -29,6 +29,7 @@ use Rattle.command_shell_lines.specs.FailedBlocks.{FailedBlockPlace, block_reaso
 use Rattle.debug_modes.specs.Modes.{takes_over}
 use Rattle.debug_modes.specs.ViewTexts.{view_text}
 use Rattle.debug_modules.specs.Answers.{ModuleAnswered, ModuleShown, Text, Steps, module_line_answered}
+use Rattle.debug_modules.specs.SourceListing.{with_source_of}
 use Rattle.debug_modules.specs.Taking.{modes_after, note_of, stepping_in_modes}
 use Rattle.debug_lines.specs.Tidy.{tidied_line}
 use Rattle.debug_history.specs.Answers.{PastAnswered, past_line_answered}
@@ -56,6 +57,12 @@ labels_after d request reported block =
     if is_refused_block d.script.images reported.state.images request then d.labels
     else labels_with_block d.labels reported.state.images request block
 
+-- and the texts of their blocks
+abbrev pub sources_after : DebugState → Request → Answered → List (List ℕ) → List Entry
+sources_after d request reported block =
+    if is_refused_block d.script.images reported.state.images request then d.sources
+    else with_source_of d.sources request block
+
 -- what is kept of what a line did: nothing of a block that is refused
 abbrev pub past_after_line : DebugSettings → DebugState → ℕ → Request → Answered → PastState
 past_after_line c d number request reported =
@@ -70,6 +77,7 @@ abbrev pub state_with_answer : DebugSettings → DebugState → ℕ → Request 
 state_with_answer c d number request reported block = record d {
   script = reported.state;
   labels = labels_after d request reported block;
+  sources = sources_after d request reported block;
   answer = if takes_steps request then ending_of reported.text else reported.text;
   output = if takes_steps request then output_of reported.text else d.output;
   steps = if takes_steps request then c.budget - reported.state.left else d.steps;
@@ -211,12 +219,13 @@ reset_answer c d number = view_answer c
     })
     (codes "reset\n")
 
--- FORGET: the image of that name goes, if there is one, and its labels.
+-- FORGET: the image of that name goes, if there is one, its labels, and the text of its block.
 abbrev pub forget_answer : DebugSettings → DebugState → List ℕ → DebugAnswered
 forget_answer c d name = view_answer c
     (record d {
       script = record d.script { images = without_entry d.script.images name };
       labels = without_labels d.labels name;
+      sources = without_entry d.sources name;
       past = past_with_images (is_some (bytes_of_image d.script.images name)) d.past;
     })
     (forget_text (is_some (bytes_of_image d.script.images name)) name)
@@ -292,7 +301,7 @@ module_line_by c d number line None = unknown_answer c d number line
 
 abbrev pub module_line_answer : DebugSettings → DebugState → ℕ → List ℕ → DebugAnswered
 module_line_answer c d number line = module_line_by c d number line
-    (module_line_answered d.modes d.labels c.budget d.script d.past number line)
+    (module_line_answered d.modes d.labels d.sources c.budget d.script d.past number line)
 
 -- A line that goes back or looks into the past is a view of what it leaves; any other may be about modules.
 abbrev pub past_line_by : DebugSettings → DebugState → ℕ → List ℕ → Option PastAnswered → DebugAnswered

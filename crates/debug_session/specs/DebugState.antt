@@ -14,13 +14,14 @@ use Rattle.debug_modes.specs.expectations.reports.Reports.{no_tally}
 use Rattle.debug_modes.specs.declared.expectations.reports.reports.CheckTally.{CheckTally}
 use Rattle.debug_session.specs.declared.session.DebugSettings.{DebugSettings}
 
--- What a debugging script works on: what a script does, the labels of the images that were assembled, the
--- ASM blocks that had errors, the modes in which lines that take steps are answered, the last answer of a line that is no EXPECT,
+-- What a debugging script works on: what a script does, the labels of the images that were assembled, the texts
+-- of their blocks by the images' names, the ASM blocks that had errors, the modes in which lines that take steps are answered, the last answer of a line that is no EXPECT,
 -- without what the guest printed, what it printed in the last line that takes steps, how many steps that
 -- took, the tally, whether QUIT was among the lines, and what was done to the machine.
 pub record DebugState : Type 0 where
   pub script : ScriptState
   pub labels : List ImageLabels
+  pub sources : List Entry
   pub failed : List FailedBlockPlace
   pub modes : DebugModes
   pub answer : List ℕ
@@ -56,6 +57,7 @@ abbrev pub debug_start_state : DebugSettings → List Entry → DebugState
 debug_start_state setting images = record {
   script = script_start_state setting.config images setting.budget;
   labels = [];
+  sources = [];
   failed = [];
   modes = no_modes;
   answer = [];

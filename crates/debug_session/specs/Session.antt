@@ -9,6 +9,7 @@ abbrev pub debug_state : DebugSession → List Entry → DebugState
 debug_state s images = record {
   script = script_state s.session images;
   labels = s.labels;
+  sources = s.sources;
   failed = s.failed;
   modes = s.modes;
   answer = s.answer.items;

@@ -61,7 +61,7 @@ impl DebugSession {
         Ok(self.view(sink, text)?)
     }
 
-    /// Takes the image of that name out, and its labels.
+    /// Takes the image of that name out, its labels, and the text of its block.
     pub(crate) fn forget<W: Sink>(
         &mut self,
         images: &mut Images,
@@ -78,6 +78,7 @@ impl DebugSession {
         let text = forget_text(self.alloc, is_there, name)?;
         let _was_there = images.remove(name);
         self.labels.remove(name);
+        let _had_source = self.sources.remove(name);
         self.past.change_images_if(is_there);
         Ok(self.view(sink, text)?)
     }

@@ -81,6 +81,7 @@ impl DebugSession {
             &mut self.past,
             images,
             &self.labels,
+            &self.sources,
             number as u64,
             words,
         )? {

@@ -40,6 +40,8 @@ pub struct DebugSession {
     /// The script's own session, which a face may move on by itself.
     pub session: Session,
     pub(crate) labels: LabelTable,
+    /// The texts of ASM blocks, by the names of the images that they have made.
+    pub(crate) sources: Images,
     pub(crate) failed: FailedBlocks,
     pub(crate) modes: DebugModes,
     pub(crate) answer: Vec<u8>,
@@ -78,6 +80,7 @@ impl DebugSession {
             setting,
             session: Session::on_fresh_machine(alloc, setting.config, setting.budget)?,
             labels: LabelTable::new(alloc),
+            sources: Images::new(),
             failed: FailedBlocks::new(alloc),
             modes: DebugModes::new(alloc),
             answer: Vec::new(alloc),

@@ -14,10 +14,12 @@ returns-clause-reported g c =
     let there : c.is_some-is_there.result ≡ is_some (bytes_of_image c.args.images.now c.args.name.now) =
     c.is_some-is_there.ensures ∙ mapped_some (λ bytes. bytes.now) c.get.result ∙ ap (λ (o : Option (List ℕ)). is_some o) c.get.ensures.bytes in
     let old = c.args.self.now in
-    let gone : DebugSession = record old { labels = c.remove.new.self; past = c.change_images_if.new.self } in
+    let left = c.remove-had_source.new.self in
+    let gone : DebugSession = record old { labels = c.remove.new.self; sources = left; past = c.change_images_if.new.self } in
     view_after _ _ _ (debug_state gone after) _ old.setting old.setting
     c.in_ok-text.text.items _ refl
-    (without_image (debug_state old c.args.images.now) _ after c.remove.new.self _ c.change_images_if.new.self _ c.remove-was_there.ensures.left c.remove.ensures
+    (without_image (debug_state old c.args.images.now) _ after c.remove.new.self _ left _ c.change_images_if.new.self _
+    c.remove-was_there.ensures.left c.remove.ensures c.remove-had_source.ensures.left
     (c.change_images_if.ensures ∙ ap (λ (b : Bool). past_with_images b old.past) there))
     (c.in_ok-text.ensures ∙ ap (λ (b : Bool). forget_text b c.args.name.now) there)
     (c.in_ok-view.ensures.reported after)

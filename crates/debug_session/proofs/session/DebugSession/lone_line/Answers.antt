@@ -4,7 +4,7 @@ use Rattle.debug_tables.specs.run_meter.Script.{request_answer}
 use Rattle.command_shell_lines.specs.Blocks.{block_lines}
 use Rattle.command_shell_lines.specs.Requests.{request_of_command}
 use Rattle.debug_session.specs.Session.{debug_state}
-use Rattle.debug_session.proofs.OwnLemmas.{answer_with, line_answer, lone_labels, lone_refused, no_answer, noted_labels, session_kept, session_labelled, session_moved, session_noted}
+use Rattle.debug_session.proofs.OwnLemmas.{answer_with, line_answer, lone_labels, lone_refused, lone_sources, no_answer, noted_labels, noted_sources, session_kept, session_labelled, session_moved, session_noted, session_sourced}
 use Rattle.debug_session.specs.declared.session.DebugSession.{DebugSession}
 use Rattle.debug_session.proofs.session.DebugSession.lone_line.Goals as goal
 
@@ -40,6 +40,7 @@ returns-clause-reported g c =
     let past = c.in_ok-note_past.ensures in
     line_answer (g.W.Sink.contents c.args.sink.now) (g.W.Sink.contents c.push_line_answer.new.sink) old.setting d at_print
     at_print number r reported block text text false c.asks_nothing.result
+    (session_sourced with_past with_past.sources after old.setting d number r reported block
     (session_labelled with_past with_past after old.setting d number r reported block refl
     (session_kept noted with_past after old.setting d c.number-number.result number r reported false past.rest
     (session_noted old mid noted c.args.images.now after text c.takes_steps.result r reported
@@ -49,6 +50,8 @@ returns-clause-reported g c =
     (sym (lone_refused c.args.images.now reported.state.images r c.requires)) (past.past after))
     (ap (λ (s : DebugSession). s.labels) past.rest ∙ noted_labels old mid noted answered.rest kept.rest
     ∙ sym (lone_labels d r reported block c.requires)))
+    (ap (λ (s : DebugSession). s.sources) past.rest ∙ noted_sources old mid noted answered.rest kept.rest
+    ∙ sym (lone_sources d r reported block c.requires)))
     (c.as_slice-text.ensures.value ∙ answered.reported.text) refl
     c.asks_nothing.ensures c.if-asks_nothing.false (sym (lone_refused c.args.images.now reported.state.images r c.requires))
     (answer_with _ _ at_print at_print with_past.setting old.setting number number false text

@@ -13,7 +13,7 @@ returns-in_ok-view-in-Some-Shown-clause-reported g c =
     let old = c.args.self.now in
     let images = c.args.images.now in
     let d = debug_state old images in
-    let o = module_line_answered d.modes d.labels old.setting.budget d.script d.past c.args.number c.args.words.now in
+    let o = module_line_answered d.modes d.labels d.sources old.setting.budget d.script d.past c.args.number c.args.words.now in
     module_viewed (g.W.Sink.contents c.args.sink.now) (g.W.Sink.contents c.view.new.sink) old.setting d _
     (debug_state c.view.new.self images) c.args.number c.args.words.now c.in-Some-Shown.text.items o
     (ap (λ (x : ModuleAnswer). Some (shown_of x)) (sym c.in-Some-Shown.field-0-is)
@@ -26,7 +26,7 @@ returns-in_ok-print_steps-in-Some-Entered-clause-reported g c =
     let old = c.args.self.now in
     let images = c.args.images.now in
     let d = debug_state old images in
-    let o = module_line_answered d.modes d.labels old.setting.budget d.script d.past c.args.number c.args.words.now in
+    let o = module_line_answered d.modes d.labels d.sources old.setting.budget d.script d.past c.args.number c.args.words.now in
     let taken = c.in-Some-Entered.taken in
     module_stepped (g.W.Sink.contents c.args.sink.now) (g.W.Sink.contents c.print_steps.new.sink) old.setting d _
     (debug_state c.print_steps.new.self images) c.args.number c.args.words.now taken.text.items taken.printed.items taken.ending.items o
@@ -40,7 +40,7 @@ returns-in-None-clause-reported g c =
     let old = c.args.self.now in
     let images = c.args.images.now in
     let d = debug_state old images in
-    let o = module_line_answered d.modes d.labels old.setting.budget d.script d.past c.args.number c.args.words.now in
+    let o = module_line_answered d.modes d.labels d.sources old.setting.budget d.script d.past c.args.number c.args.words.now in
     subst (λ (x : DebugAnswered). OnOk c.refuse.result (IsDebugged (g.W.Sink.contents c.args.sink.now)
     (g.W.Sink.contents c.refuse.new.sink) (debug_state c.refuse.new.self images) x))
     (module_refused old.setting d _ c.args.number c.args.words.now o (sym (rw c.in-None.is at c.in_ok-text.ensures.shown))

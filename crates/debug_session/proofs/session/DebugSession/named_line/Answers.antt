@@ -5,7 +5,7 @@ use Rattle.debug_tables.specs.run_meter.State.{ScriptState}
 use Rattle.command_shell_lines.specs.Blocks.{block_lines}
 use Rattle.command_shell_lines.specs.Requests.{request_of_command}
 use Rattle.debug_session.specs.Session.{debug_state}
-use Rattle.debug_session.proofs.OwnLemmas.{labels_taken, line_answer, noted_labels, no_answer, refused_as_answer, session_labelled, session_kept, session_moved, session_noted, answer_with}
+use Rattle.debug_session.proofs.OwnLemmas.{labels_taken, line_answer, noted_labels, no_answer, noted_sources, refused_as_answer, session_labelled, session_kept, session_moved, session_noted, session_sourced, sources_taken, answer_with}
 use Rattle.debug_session.specs.declared.session.DebugSession.{DebugSession}
 use Rattle.debug_session.proofs.session.DebugSession.named_line.Goals as goal
 
@@ -35,7 +35,8 @@ returns-clause-reported g c =
     let with_past = c.note_past.new.self in
     let taken = c.take_labels.new.self in
     let after = c.answer_to.new.images in
-    let at_print = debug_state taken after in
+    let sourced : DebugSession = record taken { sources = c.keep_source.new.sources } in
+    let at_print = debug_state sourced after in
     let answered = c.in_ok-answer.ensures in
     let kept = c.in_ok-note.ensures in
     let past = c.in_ok-note_past.ensures in
@@ -47,6 +48,7 @@ returns-clause-reported g c =
     line_answer (g.W.Sink.contents c.args.sink.now) (g.W.Sink.contents c.print.new.sink) old.setting d at_print
     (debug_state c.print.new.self after) c.args.named.now.number r reported named c.as_slice-text.result.now
     c.as_slice-shown.result.now refused c.asks_nothing.result
+    (session_sourced taken c.keep_source.new.sources after old.setting d c.args.named.now.number r reported named
     (session_labelled with_past taken after old.setting d c.args.named.now.number r reported named labelled.rest
     (session_kept noted with_past after old.setting d c.number.result c.args.named.now.number r reported refused past.rest
     (session_noted old mid noted c.args.images.now after c.as_slice-text.result.now c.takes_steps.result r reported
@@ -55,10 +57,13 @@ returns-clause-reported g c =
     (kept.setting ∙ ap (λ (s : DebugSession). s.setting) answered.rest) c.number.ensures refusal (past.past after))
     (labels_taken taken.labels with_past.labels d refused after r reported named named labelled.labels
     (ap (λ (s : DebugSession). s.labels) past.rest ∙ noted_labels old mid noted answered.rest kept.rest) refusal there refl))
+    (sources_taken c.keep_source.new.sources taken.sources d refused r reported named c.in_ok-keep_source.ensures
+    (ap (λ (s : DebugSession). s.sources) labelled.rest ∙ ap (λ (s : DebugSession). s.sources) past.rest
+    ∙ noted_sources old mid noted answered.rest kept.rest) refusal))
     (c.as_slice-text.ensures.value ∙ answered.reported.text)
     (c.as_slice-shown.ensures.value ∙ c.in_ok-explained.ensures)
     c.asks_nothing.ensures c.if-asks_nothing.false refusal
-    (answer_with _ _ _ at_print taken.setting old.setting c.number-2.result c.args.named.now.number
+    (answer_with _ _ _ at_print sourced.setting old.setting c.number-2.result c.args.named.now.number
     refused c.as_slice-shown.result.now
     (labelled.setting ∙ past.setting ∙ kept.setting ∙ ap (λ (s : DebugSession). s.setting) answered.rest) c.number-2.ensures
     (c.in_ok-print.ensures.reported after))
