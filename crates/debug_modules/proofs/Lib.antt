@@ -4,4 +4,3 @@ pub mod EnteringLemmas
 pub mod ListingLemmas
 pub mod PlanLemmas
 pub mod ServiceLemmas
-pub mod SourceLemmas

@@ -3,7 +3,7 @@ use Rattle.std.specs.Prelude.{◌≡◌, ℕ, ◌&&◌, ◌++◌, is_some, codes
 use Rattle.std.specs.Option.{option_map, option_or}
 use Rattle.profile.specs.FaultNames.{fault_name}
 use Rattle.profile.specs.declared.fault.Fault.{Fault}
-use Rattle.profile.specs.images.Entries.{Entry}
+use Rattle.profile.specs.images.Entries.{Entry, bytes_of_image}
 use Rattle.command_shell.specs.Answers.{refused_text}
 use Rattle.command_shell.specs.MachineState.{MachineState}
 use Rattle.command_shell.specs.Memory.{script_with_budget}
@@ -11,8 +11,11 @@ use Rattle.command_shell.specs.State.{ScriptState}
 use Rattle.debug_history.specs.Noted.{has_returned, past_with_deed}
 use Rattle.debug_history.specs.Past.{PastState}
 use Rattle.debug_history.specs.declared.act.PastDeed.TheVariants.{Bytes}
+use Rattle.debug_labels.specs.Images.{image_place}
 use Rattle.debug_labels.specs.Labels.{ImageLabels}
+use Rattle.debug_labels.specs.declared.images.ImagePlace.{ImagePlace}
 use Rattle.debug_labels.specs.place_views.Places.{naming_on}
+use Rattle.debug_listing.specs.SourceListing.{listing_text}
 use Rattle.debug_modes.specs.declared.modes.DebugModes.{DebugModes}
 use Rattle.debug_modes.specs.expectations.Why.{why_text}
 use Rattle.debug_tables.specs.byte_writes.Put.{script_after_put}
@@ -23,7 +26,6 @@ use Rattle.debug_modules.specs.Listing.{commands_text}
 use Rattle.debug_modules.specs.Plans.{command_plan, tail_address, tail_bytes}
 use Rattle.debug_modules.specs.Requests.{Command, Commands, Form, Listing, ModuleAsked, ModuleView, Needs, Service, module_request}
 use Rattle.debug_modules.specs.Services.{is_served, service_called}
-use Rattle.debug_modules.specs.SourceListing.{listing_text}
 use Rattle.debug_modules.specs.Taking.{LineSteps}
 use Rattle.debug_modules.specs.declared.answering.ModuleAnswer.{ModuleAnswer}
 use Rattle.debug_modules.specs.declared.answering.ModuleAnswer.TheVariants.{Shown, Entered}
@@ -118,7 +120,8 @@ abbrev pub view_shown : DebugModes → List ImageLabels → List Entry → Scrip
 view_shown m labels sources s (Needs text) = text ++ codes "\n"
 view_shown m labels sources s Commands = commands_text s.machine
 view_shown m labels sources s (Listing name) =
-    listing_text m.counts (naming_on labels s.machine) s.images sources name
+    listing_text m.counts (bytes_of_image s.images name) (bytes_of_image sources name)
+    (option_map (λ (p : ImagePlace). p.start) (image_place (naming_on labels s.machine) name))
 
 abbrev pub module_answered : DebugModes → List ImageLabels → List Entry → ℕ → ScriptState → PastState → ℕ
     → ModuleAsked → ModuleAnswered

@@ -9,6 +9,6 @@ pub mod Listing
 pub mod Plans
 pub mod Requests
 pub mod Services
-pub mod SourceListing
+pub use Rattle.debug_listing.specs.SourceListing
 pub mod Tables
 pub mod Taking

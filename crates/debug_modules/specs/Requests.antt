@@ -61,7 +61,7 @@ whole_request line =
     if is_same_word line (codes "WHY OFF") then Some (Explain false) else (
     if is_same_word line (codes "HELP COMMANDS") then Some (Form (Needs (codes "COMMANDS stands alone"))) else (
     if is_same_word line (codes "HELP LISTING") then Some (Form (Needs
-    (codes "LISTING wants the name of an image that a block has made, as LISTING main"))) else (
+    (codes "LISTING wants the name of an image, as LISTING main"))) else (
     if is_same_word line (codes "HELP COMMAND") then Some (Form (Needs
     (codes "COMMAND wants a module's command, with what stands behind it, as COMMAND PotSet 1 5"))) else (
     if is_same_word line (codes "HELP SERVICE") then Some (Form (Needs

@@ -13,10 +13,11 @@ use crate::listing::commands_text;
 use crate::plans::{CommandPlan, TAIL, command_plan, tail_bytes};
 use crate::requests::{ModuleRequest, module_request};
 use crate::services::{call_service, is_served};
-use crate::source_listing::listing_text;
 use debug_history::{KeptText, Past, PastDeed, has_returned};
 use debug_labels::LabelTable;
+use debug_labels::place_views::names_on;
 use debug_lines::DebugView;
+use debug_listing::listing_text;
 use debug_modes::{DebugModes, form_line, refused_line, view_text};
 use debug_runs::LineAnswer;
 use debug_tables::byte_writes::put_bytes;
@@ -81,8 +82,10 @@ pub fn answer_module_line(
             Ok(Some(ModuleAnswer::Shown(text)))
         }
         Some(ModuleRequest::Listing(name)) => {
-            let (counts, machine) = (&modes.counts, session.machine());
-            let text = listing_text(alloc, counts, machine, images, labels, sources, name)?;
+            let place = names_on(labels, session.machine()).image_place(name);
+            let (image, source) = (images.get(name), sources.get(name));
+            let start = place.map(|place| place.start);
+            let text = listing_text(alloc, &modes.counts, image, source, start)?;
             Ok(Some(ModuleAnswer::Shown(text)))
         }
         Some(ModuleRequest::Form(text)) => {

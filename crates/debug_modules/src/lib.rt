@@ -1,5 +1,5 @@
-//! Lines of a debugging script that enter the code of loaded modules, the steps that lines take, with what is kept
-//! of them, and the listing of an image that a block has made.
+//! Lines of a debugging script that enter the code of loaded modules, and the steps that lines take, with what
+//! is kept of them.
 //!
 //! Promise: code finds what the manual says, and where a line is not done, nothing is changed.
 #![tactic(auto)]
@@ -14,14 +14,13 @@ mod listing;
 mod plans;
 mod requests;
 mod services;
-mod source_listing;
 mod tables;
 mod taking;
 
 pub use answering::{ModuleAnswer, answer_module_line};
+pub use debug_listing::keep_source;
 pub use entering::ModuleEntry;
 pub use laws::{service_calls_in_turn, tail_words_are_words};
 pub use requests::{ModuleRequest, module_request};
 pub use services::ServiceCode;
-pub use source_listing::keep_source;
 pub use taking::take_steps;

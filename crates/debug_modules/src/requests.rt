@@ -53,9 +53,7 @@ fn whole_request(line: &[u8]) -> Option<ModuleRequest<'static>>
     } else if line.eq_ignore_ascii_case(b"HELP COMMANDS") {
         Some(ModuleRequest::Form(b"COMMANDS stands alone"))
     } else if line.eq_ignore_ascii_case(b"HELP LISTING") {
-        Some(ModuleRequest::Form(
-            b"LISTING wants the name of an image that a block has made, as LISTING main",
-        ))
+        Some(ModuleRequest::Form(b"LISTING wants the name of an image, as LISTING main"))
     } else if line.eq_ignore_ascii_case(b"HELP COMMAND") {
         Some(ModuleRequest::Form(
             b"COMMAND wants a module's command, with what stands behind it, as COMMAND PotSet 1 5",

@@ -15,6 +15,7 @@ pub mod RefusalLemmas
 pub mod RepeatLemmas
 pub mod RunPastLemmas
 pub mod ShownStepsLemmas
+pub mod SourceLemmas
 pub mod SteppingLemmas
 pub mod SteppingPastLemmas
 pub mod UnreadLemmas

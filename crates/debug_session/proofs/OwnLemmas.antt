@@ -15,9 +15,8 @@ use Rattle.command_shell_lines.specs.FailedBlocks.{FailedBlockPlace, block_reaso
 use Rattle.debug_modes.specs.expectations.Endings.{ending_of, output_of}
 use Rattle.debug_labels.specs.Labels.{ImageLabels}
 use Rattle.debug_modes.specs.declared.modes.DebugModes.{DebugModes}
-use Rattle.debug_modules.specs.SourceListing.{with_source_of}
 use Rattle.debug_session.specs.Naming.{labels_with_block}
-use Rattle.debug_session.specs.DebugScript.{machine_change_answer, checked_answer, labels_after, past_after_line, sources_after, simple_request_answer, state_after_line, state_with_answer, script_line_answer, script_line_answer_by, answer_or_refused, line_in_modes_answer, past_after_reset, view_answer, with_block_noted}
+use Rattle.debug_session.specs.DebugScript.{machine_change_answer, checked_answer, labels_after, past_after_line, simple_request_answer, state_after_line, state_with_answer, script_line_answer, script_line_answer_by, answer_or_refused, line_in_modes_answer, past_after_reset, view_answer, with_block_noted}
 use Rattle.debug_lines.specs.LineKinds.{asks_nothing, is_named_image, is_refused_block, takes_steps}
 use Rattle.debug_history.specs.Noted.{is_faulted, past_after_request, past_with_deed}
 use Rattle.debug_history.specs.Past.{PastState, past_from_start}
@@ -219,31 +218,6 @@ session_labelled noted new after c d number r reported block next state labels =
     ∙ ap (λ (ls : List ImageLabels). let with_labels : DebugState = record (kept_state c d number r reported) { labels = ls } in with_labels)
     labels
 
--- the texts of blocks that a session takes in
-pub sources_taken : (taken noted : List Entry) (d : DebugState) (refused : Bool) (r : Request) (reported : Answered)
-    (block : List (List ℕ))
-    → taken ≡ (if refused then noted else with_source_of noted r block) → noted ≡ d.sources
-    → refused ≡ is_refused_block d.script.images reported.state.images r → taken ≡ sources_after d r reported block
-sources_taken taken noted d refused r reported block is same refusal = is
-    ∙ ap (λ (es : List Entry). if refused then es else with_source_of es r block) same
-    ∙ ap (λ (b : Bool). if b then d.sources else with_source_of d.sources r block) refusal
-
-pub noted_sources : (old mid new : DebugSession) → mid ≡ record old { session = mid.session; scratch = mid.scratch }
-    → new ≡ record mid { answer = new.answer; output = new.output; steps = new.steps } → new.sources ≡ old.sources
-noted_sources old mid new first next =
-    ap (λ (s : DebugSession). s.sources) next ∙ ap (λ (s : DebugSession). s.sources) first
-
-pub session_sourced : (noted : DebugSession) (sources : List Entry) (after : List Entry) (c : DebugSettings) (d : DebugState)
-    (number : ℕ) (r : Request) (reported : Answered) (block : List (List ℕ))
-    → debug_state noted after ≡ labelled_state c d number r reported block → sources ≡ sources_after d r reported block
-    → (let new : DebugState = record (debug_state noted after) { sources = sources } in
-    new ≡ state_with_answer c d number r reported block)
-unfolding noted_state kept_state labelled_state
-session_sourced noted sources after c d number r reported block state is =
-    ap (λ (x : DebugState). let with_sources : DebugState = record x { sources = sources } in with_sources) state
-    ∙ ap (λ (es : List Entry). let with_sources : DebugState = record (labelled_state c d number r reported block) { sources = es } in
-    with_sources) is
-
 -- a session whose script alone is another
 pub session_moved : (old mid : DebugSession) (images after : List Entry) (to : ScriptState)
     → mid ≡ record old { session = mid.session; scratch = mid.scratch } → script_state mid.session after ≡ to
@@ -286,29 +260,6 @@ lone_labels d Areas reported block is = refl
 lone_labels d Modules reported block is = refl
 lone_labels d Flex reported block is = refl
 lone_labels d Unknown reported block is = refl
-
-pub lone_sources : (d : DebugState) (r : Request) (reported : Answered) (block : List (List ℕ)) → opens_block r ≡ false
-    → sources_after d r reported block ≡ d.sources
-lone_sources d Nothing reported block is = refl
-lone_sources d (Hex name) reported block is = absurd (cc)
-lone_sources d (Asm name origin) reported block is = absurd (cc)
-lone_sources d (Boot name) reported block is = refl
-lone_sources d Run reported block is = refl
-lone_sources d Regs reported block is = refl
-lone_sources d (Set register value) reported block is = refl
-lone_sources d (Poke address value) reported block is = refl
-lone_sources d (Call called) reported block is = refl
-lone_sources d (Load text) reported block is = refl
-lone_sources d (Step count) reported block is = refl
-lone_sources d (Break address) reported block is = refl
-lone_sources d (Unbreak address) reported block is = refl
-lone_sources d (Mem address count) reported block is = refl
-lone_sources d (Code address count) reported block is = refl
-lone_sources d (Heap address) reported block is = refl
-lone_sources d Areas reported block is = refl
-lone_sources d Modules reported block is = refl
-lone_sources d Flex reported block is = refl
-lone_sources d Unknown reported block is = refl
 
 empty_in : (form : ReportForm) → answer_in form [] ≡ []
 empty_in Answers = refl

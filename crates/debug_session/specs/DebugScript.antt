@@ -29,7 +29,7 @@ use Rattle.command_shell_lines.specs.FailedBlocks.{FailedBlockPlace, block_reaso
 use Rattle.debug_modes.specs.Modes.{takes_over}
 use Rattle.debug_modes.specs.ViewTexts.{view_text}
 use Rattle.debug_modules.specs.Answers.{ModuleAnswered, ModuleShown, Text, Steps, module_line_answered}
-use Rattle.debug_modules.specs.SourceListing.{with_source_of}
+use Rattle.debug_modules.specs.SourceListing.{sources_after}
 use Rattle.debug_modules.specs.Taking.{modes_after, note_of, stepping_in_modes}
 use Rattle.debug_lines.specs.Tidy.{tidied_line}
 use Rattle.debug_history.specs.Answers.{PastAnswered, past_line_answered}
@@ -57,12 +57,6 @@ labels_after d request reported block =
     if is_refused_block d.script.images reported.state.images request then d.labels
     else labels_with_block d.labels reported.state.images request block
 
--- and the texts of their blocks
-abbrev pub sources_after : DebugState → Request → Answered → List (List ℕ) → List Entry
-sources_after d request reported block =
-    if is_refused_block d.script.images reported.state.images request then d.sources
-    else with_source_of d.sources request block
-
 -- what is kept of what a line did: nothing of a block that is refused
 abbrev pub past_after_line : DebugSettings → DebugState → ℕ → Request → Answered → PastState
 past_after_line c d number request reported =
@@ -77,7 +71,7 @@ abbrev pub state_with_answer : DebugSettings → DebugState → ℕ → Request 
 state_with_answer c d number request reported block = record d {
   script = reported.state;
   labels = labels_after d request reported block;
-  sources = sources_after d request reported block;
+  sources = sources_after (is_refused_block d.script.images reported.state.images request) d.sources request block;
   answer = if takes_steps request then ending_of reported.text else reported.text;
   output = if takes_steps request then output_of reported.text else d.output;
   steps = if takes_steps request then c.budget - reported.state.left else d.steps;

@@ -19,7 +19,6 @@ use debug_history::is_faulted;
 use debug_lines::{asks_nothing, is_named_image, is_refused_block, takes_steps};
 use debug_modes::expectations::reports::{push_answer, push_refusal};
 use debug_modes::expectations::{answer_parts, push_line_answer};
-use debug_modules::keep_source;
 use debug_tables::run_meter::{RunError, answer_metered};
 use debug_tables::with_errors;
 use profile::images::Images;
@@ -132,7 +131,7 @@ impl DebugSession {
         let is_refused = is_refused_block(was_there, images, command);
         self.note_past(named.number(), command, is_refused)?;
         self.take_labels(images, command, named, is_refused)?;
-        keep_source(self.alloc, &mut self.sources, command, named, is_refused)?;
+        debug_modules::keep_source(self.alloc, &mut self.sources, command, named, is_refused)?;
         let explained = with_errors(self.alloc, is_refused, command, named, text)?;
         let shown = explained.as_slice();
         self.print(sink, named.number(), is_refused, shown)?;
@@ -257,7 +256,6 @@ impl DebugSession {
         ensures labels { OnOk result (self.new.labels ≡ labels_with_image self.old.labels name.now origin
             (Some bytes.now) (labels_of_lines (block_lines block.now.left) origin)) }
         ensures rest { OnOk result (self.new ≡ record self.old { labels = self.new.labels }) }
-        ensures setting { self.new.setting ≡ self.old.setting }
         ensures errors { IfErr result (λ error. error ≡ RunError.Memory) }
     {
         let mut after = block.again();

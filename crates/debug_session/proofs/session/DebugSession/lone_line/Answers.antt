@@ -4,7 +4,8 @@ use Rattle.debug_tables.specs.run_meter.Script.{request_answer}
 use Rattle.command_shell_lines.specs.Blocks.{block_lines}
 use Rattle.command_shell_lines.specs.Requests.{request_of_command}
 use Rattle.debug_session.specs.Session.{debug_state}
-use Rattle.debug_session.proofs.OwnLemmas.{answer_with, line_answer, lone_labels, lone_refused, lone_sources, no_answer, noted_labels, noted_sources, session_kept, session_labelled, session_moved, session_noted, session_sourced}
+use Rattle.debug_session.proofs.OwnLemmas.{answer_with, line_answer, lone_labels, lone_refused, no_answer, noted_labels, session_kept, session_labelled, session_moved, session_noted}
+use Rattle.debug_session.proofs.SourceLemmas.{lone_sources, noted_sources, session_sourced}
 use Rattle.debug_session.specs.declared.session.DebugSession.{DebugSession}
 use Rattle.debug_session.proofs.session.DebugSession.lone_line.Goals as goal
 

@@ -5,7 +5,8 @@ use Rattle.debug_tables.specs.run_meter.State.{ScriptState}
 use Rattle.command_shell_lines.specs.Blocks.{block_lines}
 use Rattle.command_shell_lines.specs.Requests.{request_of_command}
 use Rattle.debug_session.specs.Session.{debug_state}
-use Rattle.debug_session.proofs.OwnLemmas.{labels_taken, line_answer, noted_labels, no_answer, noted_sources, refused_as_answer, session_labelled, session_kept, session_moved, session_noted, session_sourced, sources_taken, answer_with}
+use Rattle.debug_session.proofs.OwnLemmas.{labels_taken, line_answer, noted_labels, no_answer, refused_as_answer, session_labelled, session_kept, session_moved, session_noted, answer_with}
+use Rattle.debug_session.proofs.SourceLemmas.{noted_sources, session_sourced, sources_taken}
 use Rattle.debug_session.specs.declared.session.DebugSession.{DebugSession}
 use Rattle.debug_session.proofs.session.DebugSession.named_line.Goals as goal
 

@@ -6,16 +6,12 @@ use Rattle.std.specs.Fmt.{decimal}
 use Rattle.std.specs.Int.{from_be_bytes, from_le_bytes, w32}
 use Rattle.std.specs.Str.Lines.{lines}
 use Rattle.profile.specs.Digits.{hex_word}
-use Rattle.profile.specs.images.Entries.{Entry, bytes_of_image, refusal_for, with_entry}
+use Rattle.profile.specs.images.Entries.{Entry, refusal_for, with_entry}
 use Rattle.assembler.specs.Passes.{labels_of_lines}
 use Rattle.assembler.specs.declared.error.AsmError.{AsmError}
 use Rattle.assembler_text.specs.naming.Labels.{Entries}
 use Rattle.assembler_text.specs.naming.Words.{after_spaces, after_word, is_end_of_line, is_same_name, word}
-use Rattle.command_shell.specs.Answers.{refused_text}
 use Rattle.command_shell_lines.specs.Requests.{Request, Asm}
-use Rattle.debug_labels.specs.Images.{image_place}
-use Rattle.debug_labels.specs.Words.{Naming}
-use Rattle.debug_labels.specs.declared.images.ImagePlace.{ImagePlace}
 use Rattle.debug_tables.specs.BlockErrors.{source_without}
 use Rattle.debug_tables.specs.counts.Counts.{CountTable, times_at}
 
@@ -27,10 +23,11 @@ abbrev pub with_source : List Entry → List ℕ → List ℕ → List Entry
 with_source sources name text =
     if is_none (refusal_for sources name (length text)) then with_entry sources name text else sources
 
--- with that of a line's ASM block
-abbrev pub with_source_of : List Entry → Request → List (List ℕ) → List Entry
-with_source_of sources (Asm name origin) block = with_source sources name (source_without [] 1 block)
-with_source_of sources request block = sources
+-- with that of a line's ASM block, unless the block is refused
+abbrev pub sources_after : Bool → List Entry → Request → List (List ℕ) → List Entry
+sources_after true sources request block = sources
+sources_after false sources (Asm name origin) block = with_source sources name (source_without [] 1 block)
+sources_after false sources request block = sources
 
 -- WHERE LINES STAND
 
@@ -76,14 +73,14 @@ abbrev pub first_bytes : List ℕ → List ℕ
 first_bytes made = slice_index_or made 0 0 ∷ slice_index_or made 1 0 ∷ slice_index_or made 2 0
     ∷ slice_index_or made 3 0 ∷ []
 
-abbrev pub first_word : Bool → List ℕ → ℕ
-first_word of_bytes made =
+abbrev pub made_word : Bool → List ℕ → ℕ
+made_word of_bytes made =
     if of_bytes then from_be_bytes w32 (first_bytes made) else from_le_bytes w32 (first_bytes made)
 
 -- two digits for each of the first four bytes, and `..` where there are more
 abbrev pub digits_made : Bool → List ℕ → List ℕ
-digits_made of_bytes made = if nat_lt 4 (length made) then hex_word (first_word of_bytes made) ++ codes ".."
-    else take (2 * length made) (hex_word (first_word of_bytes made)) ++ replicate (10 - 2 * length made) 32
+digits_made of_bytes made = if nat_lt 4 (length made) then hex_word (made_word of_bytes made) ++ codes ".."
+    else take (2 * length made) (hex_word (made_word of_bytes made)) ++ replicate (10 - 2 * length made) 32
 
 -- behind the address, in nineteen columns
 abbrev pub made_text : Bool → ℕ → List ℕ → List ℕ
@@ -98,13 +95,13 @@ times_text c address is_blank = if c.is_on
 -- ROWS
 
 -- of the line of a number, which has made bytes that stand there
-abbrev pub row_text : CountTable → ℕ → List ℕ → ℕ → List ℕ → List ℕ
-row_text c address made number line = times_text c address (length made == 0)
+abbrev pub listing_row : CountTable → ℕ → List ℕ → ℕ → List ℕ → List ℕ
+listing_row c address made number line = times_text c address (length made == 0)
     ++ (made_text (is_of_bytes line) address made ++ (in_columns 5 (decimal number) ++ (codes " " ++ (line ++ codes "\n"))))
 
 -- of an image that stands at an address
 abbrev pub row_of_line : CountTable → Entries → ℕ → List ℕ → ℕ → List ℕ → List ℕ
-row_of_line c places start bytes number line = row_text c ((start + offset_of_line places number) % 2 ^ 32)
+row_of_line c places start bytes number line = listing_row c ((start + offset_of_line places number) % 2 ^ 32)
     (bytes_made places bytes number line) number line
 
 -- of lines of which so many stand before
@@ -123,16 +120,9 @@ rows_text c start bytes source = rows_by c start bytes (lines source) (places_of
 
 -- LISTING
 
--- of an image whose block is known, where it stands now
-abbrev pub listing_found : CountTable → List ℕ → Option (List ℕ) → Option ImagePlace → List ℕ
-listing_found c bytes (Some source) (Some place) = rows_text c place.start bytes source
-listing_found c bytes (Some source) None = refused_text (codes "NoSource")
-listing_found c bytes None place = refused_text (codes "NoSource")
-
-abbrev pub listing_of : CountTable → Option (List ℕ) → Option (List ℕ) → Option ImagePlace → List ℕ
-listing_of c (Some bytes) source place = listing_found c bytes source place
-listing_of c None source place = refused_text (codes "NoImage")
-
-abbrev pub listing_text : CountTable → Naming → List Entry → List Entry → List ℕ → List ℕ
-listing_text c n images sources name =
-    listing_of c (bytes_of_image images name) (bytes_of_image sources name) (image_place n name)
+-- of an image's bytes, where there are some, the text of its block, and where it stands
+abbrev pub listing_text : CountTable → Option (List ℕ) → Option (List ℕ) → Option ℕ → List ℕ
+listing_text c None source start = codes "refused NoImage\n"
+listing_text c (Some bytes) (Some source) (Some start) = rows_text c start bytes source
+listing_text c (Some bytes) (Some source) None = codes "refused NoSource\n"
+listing_text c (Some bytes) None start = codes "refused NoSource\n"

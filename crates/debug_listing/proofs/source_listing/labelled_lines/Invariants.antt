@@ -1,7 +1,7 @@
 use Rattle.std.proofs.Common.{◌≡◌, ◌++◌, length}
 use Rattle.std.specs.Str.Lines.{lines}
-use Rattle.debug_modules.specs.SourceListing.{labelled_lines}
-use Rattle.debug_modules.proofs.source_listing.labelled_lines.Given as goal
+use Rattle.debug_listing.specs.SourceListing.{labelled_lines}
+use Rattle.debug_listing.proofs.source_listing.labelled_lines.Given as goal
 
 -- what stands written, and the lines that are left, is all
 abbrev pub invariant-loop-line : goal.invariant-loop-line

@@ -1,13 +1,18 @@
 -- How texts of lines go on, and how many digits a word has.
-use Rattle.std.proofs.Common.{◌≡◌, ℕ, ◌+◌, List, [], ◌∷◌, ◌++◌, length, refl, sym, ap, ◌∙◌, append_assoc}
+use Rattle.std.proofs.Common.{◌≡◌, ℕ, ◌+◌, ◌≢◌, List, [], ◌∷◌, ◌++◌, length, take, Result, Ok, Err, refl, sym, ap, ◌∙◌, append_assoc}
 use Rattle.std.specs.Fmt.{decimal}
 use Rattle.std.specs.Prelude.{codes}
+use Rattle.std.specs.Str.Lines.{lines}
+use Rattle.std.proofs.Math.Seq.{take-length}
 use Rattle.std.proofs.lemmas.List.{append-nil}
 use Rattle.profile.specs.Digits.{hex_word}
+use Rattle.assembler.specs.Passes.{labels_of_lines}
+use Rattle.assembler.specs.declared.error.AsmError.{AsmError}
+use Rattle.assembler_text.specs.declared.naming.reason.Reason.TheVariants.{Memory}
 use Rattle.assembler_text.specs.naming.Labels.{Entries}
 use Rattle.assembler_text.specs.naming.Words.{after_word}
 use Rattle.debug_tables.specs.counts.Counts.{CountTable}
-use Rattle.debug_modules.specs.SourceListing.{labelled_lines, row_of_line, rows_behind}
+use Rattle.debug_listing.specs.SourceListing.{labelled_lines, places_of_lines, row_of_line, rows_behind, rows_by, rows_text}
 
 pub eight_digits : (word : ℕ) (digits : List ℕ) → digits ≡ hex_word word → length digits ≡ 8
 unfolding hex_word
@@ -58,3 +63,18 @@ rows_go_on front after all c places start bytes before next left line rest there
     ∙ append_assoc front (row_of_line c places start bytes next line) (rows_behind c places start bytes next rest)
     ∙ ap (λ (n : ℕ). front ++ (row_of_line c places start bytes n line ++ rows_behind c places start bytes n rest)) more
     ∙ ap (λ (ls : List (List ℕ)). front ++ rows_behind c places start bytes before ls) (sym there) ∙ known
+
+-- the rows of lines whose labels of their own have places
+pub rows_are : (front text : List ℕ) (c : CountTable) (start : ℕ) (bytes source labelled : List ℕ) (places : Entries) (count : ℕ)
+    (answer : Result Entries AsmError) → front ≡ [] → text ≡ front ++ rows_behind c places start bytes 0 (lines source)
+    → labelled ≡ labelled_lines 0 (lines source) → count ≡ length (lines labelled) → answer ≡ Ok places
+    → (answer ≢ Err (record { line = 0; reason = Memory }) → answer ≡ labels_of_lines (take count (lines labelled)) 0)
+    → text ≡ rows_text c start bytes source
+rows_are front text c start bytes source labelled places count answer none pushed is all ok below =
+    let known : answer ≡ labels_of_lines (take count (lines labelled)) 0 = below (λ e. absurd (cc)) in
+    let same : Ok places ≡ places_of_lines (lines source) = sym ok ∙ known
+    ∙ ap (λ (n : ℕ). labels_of_lines (take n (lines labelled)) 0) all
+    ∙ ap (λ (ls : List (List ℕ)). labels_of_lines ls 0) (take-length (lines labelled))
+    ∙ ap (λ (xs : List ℕ). labels_of_lines (lines xs) 0) is in
+    pushed ∙ ap (λ (xs : List ℕ). xs ++ rows_behind c places start bytes 0 (lines source)) none
+    ∙ ap (λ (r : Result Entries AsmError). rows_by c start bytes (lines source) r) same

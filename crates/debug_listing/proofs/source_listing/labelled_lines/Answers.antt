@@ -1,8 +1,8 @@
 -- The lemmas of the lines of a text, at its end and at the next line.
 use Rattle.std.proofs.Common.{◌∙◌, ap}
 use Rattle.std.specs.Fmt.{decimal}
-use Rattle.debug_modules.proofs.SourceLemmas.{labels_go_on, labels_stop}
-use Rattle.debug_modules.proofs.source_listing.labelled_lines.Goals as goal
+use Rattle.debug_listing.proofs.SourceLemmas.{labels_go_on, labels_stop}
+use Rattle.debug_listing.proofs.source_listing.labelled_lines.Goals as goal
 
 pub loop-line-preserved : goal.loop-line-preserved
 loop-line-preserved c = labels_go_on _ _ _ _ _ _ _ _ _ _ _ _ _ c.in-Some.ensures.line c.in-Some.ensures.number

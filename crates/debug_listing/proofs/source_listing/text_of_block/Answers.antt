@@ -2,7 +2,7 @@
 use Rattle.std.proofs.Common.{[], arith, refl}
 use Rattle.assembler.specs.declared.error.AsmError.{AsmError}
 use Rattle.debug_tables.proofs.BlockErrorLemmas.{source_ends, source_goes_on, source_stops}
-use Rattle.debug_modules.proofs.source_listing.text_of_block.Goals as goal
+use Rattle.debug_listing.proofs.source_listing.text_of_block.Goals as goal
 
 pub returns-then-is_block_end : goal.returns-then-is_block_end
 returns-then-is_block_end c =

@@ -1,22 +1,16 @@
 //! The listing of an image that an ASM block has made, and the texts of such blocks.
 
 ghost use Rattle.debug_tables.specs.BlockErrors.{source_without};
-ghost use Rattle.std.specs.Prelude.{[], ◌≡◌, ◌≤◌, ◌++◌, length, slice_get, slice_index_or, IfOk, OnOk, if◌then◌else◌};
+ghost use Rattle.std.specs.Prelude.{[], ◌≡◌, ◌≤◌, ◌++◌, length, slice_get, slice_index_or, option_map, IfOk, OnOk};
 ghost use Rattle.std.specs.Str.Lines.{lines};
-ghost use Rattle.command_shell.specs.GuestState.{state_of};
 ghost use Rattle.command_shell_lines.specs.Blocks.{block_lines};
 ghost use Rattle.command_shell_lines.specs.Requests.{request_of_command};
-ghost use Rattle.debug_labels.specs.place_views.Places.{naming_on};
-ghost use Rattle.debug_modules.specs.SourceListing.{bytes_made, digits_made, first_word, in_columns, labelled_lines, line_offset, listing_text, made_text, row_text, rows_text, times_text, with_source_of};
+ghost use Rattle.debug_listing.specs.SourceListing.{bytes_made, digits_made, made_word, in_columns, labelled_lines, line_offset, listing_text, made_text, listing_row, rows_behind, rows_text, sources_after, times_text};
 
 use assembler::{Labels, labels_of_lines};
 use assembler_text::naming::words::{after_spaces, after_word, is_end, is_name, word};
 use command_shell_lines::{ScriptCommand, is_block_end};
-use debug_labels::LabelTable;
-use debug_labels::place_views::names_on;
-use debug_modes::refused_line;
 use debug_tables::counts::StepCounts;
-use debug_tables::run_meter::Machine;
 use itoa::Buffer;
 use profile::HexText;
 use profile::images::{ImageError, Images};
@@ -35,8 +29,8 @@ pub fn keep_source(
     block: &Lines,
     is_refused: bool,
 ) -> Result<(), AllocError>
-    ensures { OnOk result (sources.new ≡ (if is_refused then sources.old
-        else with_source_of sources.old (request_of_command command.now) (block_lines block.now.left))) }
+    ensures { OnOk result (sources.new ≡ sources_after is_refused sources.old
+        (request_of_command command.now) (block_lines block.now.left)) }
 {
     match *command {
         ScriptCommand::Asm(name, _) if !is_refused => {
@@ -66,32 +60,28 @@ fn text_of_block(alloc: Global, block: &Lines) -> Result<Vec<u8>, AllocError>
     Ok(text)
 }
 
-/// What LISTING shows of the image of a name: a row for each line of its block.
+/// What LISTING shows of an image, where there is one, with the text of its block and where it stands, where these
+/// are known: a row for each line.
 ///
 /// # Errors
 ///
 /// Memory ran out.
-pub(crate) fn listing_text(
+pub fn listing_text(
     alloc: Global,
     counts: &StepCounts,
-    machine: &Machine,
-    images: &Images,
-    labels: &LabelTable,
-    sources: &Images,
-    name: &[u8],
+    image: Option<&[u8]>,
+    source: Option<&[u8]>,
+    start: Option<u32>,
 ) -> Result<Vec<u8>, AllocError>
-    ensures { let names = naming_on labels.now (state_of machine.now.guest) in IfOk result (λ text. text.items
-        ≡ listing_text counts.now names images.now sources.now name.now) }
+    ensures { IfOk result (λ text. text.items ≡ listing_text counts.now
+        (option_map (λ bytes. bytes.now) image.entry) (option_map (λ text. text.now) source.entry) start) }
 {
-    let Some(bytes) = images.get(name) else {
-        return refused_line(alloc, b"NoImage");
-    };
-    match (
-        sources.get(name),
-        names_on(labels, machine).image_place(name),
-    ) {
-        (Some(source), Some(place)) => rows_text(alloc, counts, place.start, bytes, source),
-        _ => refused_line(alloc, b"NoSource"),
+    match (image, source, start) {
+        (None, _, _) => Vec::from_slice(alloc, b"refused NoImage\n"),
+        (Some(bytes), Some(source), Some(start)) => {
+            rows_text(alloc, counts, start, bytes, source)
+        }
+        _ => Vec::from_slice(alloc, b"refused NoSource\n"),
     }
 }
 
@@ -112,14 +102,29 @@ fn rows_text(
         return Err(AllocError);
     };
     let mut text = Vec::new(alloc);
+    push_rows(&mut text, counts, &places, start, bytes, source)?;
+    Ok(text)
+}
+
+fn push_rows(
+    text: &mut Vec<u8>,
+    counts: &StepCounts,
+    places: &Labels,
+    start: u32,
+    bytes: &[u8],
+    source: &[u8],
+) -> Result<(), AllocError>
+    ensures { OnOk result (text.new.items ≡ text.old.items
+        ++ rows_behind counts.now places.now start bytes.now 0 (lines source.now)) }
+{
     let mut lines = Lines::new(source);
     while let Some(line) = lines.next_line() {
         let number = lines.number();
-        let address = start.wrapping_add(offset_at(&places, number.saturating_sub(1)));
-        let made = bytes_made(&places, bytes, number, line);
-        push_row(&mut text, counts, address, made, number, line)?;
+        let address = start.wrapping_add(offset_at(places, number.saturating_sub(1)));
+        let made = bytes_made(places, bytes, number, line);
+        push_row(text, counts, address, made, number, line)?;
     }
-    Ok(text)
+    Ok(())
 }
 
 // The lines of a text, each with a label of its own in place of the one that it has.
@@ -171,7 +176,7 @@ fn push_row(
     line: &[u8],
 ) -> Result<(), AllocError>
     ensures { OnOk result (text.new.items
-        ≡ text.old.items ++ row_text counts.now address made.now number line.now) }
+        ≡ text.old.items ++ listing_row counts.now address made.now number line.now) }
 {
     let of_bytes = is_name(word(after_spaces(after_word(line))), b"DCB");
     push_times(text, counts, address, made.is_empty())?;
@@ -217,7 +222,7 @@ fn push_made(text: &mut Vec<u8>, of_bytes: bool, at: u32, made: &[u8]) -> Result
 fn push_digits(text: &mut Vec<u8>, of_bytes: bool, made: &[u8]) -> Result<(), AllocError>
     ensures { OnOk result (text.new.items ≡ text.old.items ++ digits_made of_bytes made.now) }
 {
-    let digits = HexText::word(first_word(of_bytes, made));
+    let digits = HexText::word(made_word(of_bytes, made));
     let width = 2 * made.len().min(4);
     text.extend_from_slice(&digits.as_slice()[..width])?;
     if made.len() > 4 {
@@ -228,8 +233,8 @@ fn push_digits(text: &mut Vec<u8>, of_bytes: bool, made: &[u8]) -> Result<(), Al
 }
 
 // The first four bytes, with zeros in place of those that aren't there.
-fn first_word(of_bytes: bool, made: &[u8]) -> u32
-    ensures { result ≡ first_word of_bytes made.now }
+fn made_word(of_bytes: bool, made: &[u8]) -> u32
+    ensures { result ≡ made_word of_bytes made.now }
 {
     let first = [
         byte_at(made, 0),

@@ -1,0 +1,2 @@
+-- The listing of an assembled block.
+pub mod SourceListing
