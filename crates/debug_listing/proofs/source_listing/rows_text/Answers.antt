@@ -1,5 +1,5 @@
 -- The places are those of the lines.
-use Rattle.std.proofs.Common.{◌∙◌, ap, arith}
+use Rattle.std.proofs.Common.{◌∙◌, arith}
 use Rattle.std.proofs.lemmas.Grind.{common_steps}
 use Rattle.debug_listing.proofs.SourceLemmas.{rows_are}
 use Rattle.debug_listing.proofs.source_listing.rows_text.Goals as goal
