@@ -256,6 +256,7 @@ impl DebugSession {
         ensures labels { OnOk result (self.new.labels ≡ labels_with_image self.old.labels name.now origin
             (Some bytes.now) (labels_of_lines (block_lines block.now.left) origin)) }
         ensures rest { OnOk result (self.new ≡ record self.old { labels = self.new.labels }) }
+        ensures setting { self.new.setting ≡ self.old.setting }
         ensures errors { IfErr result (λ error. error ≡ RunError.Memory) }
     {
         let mut after = block.again();
