@@ -6,7 +6,7 @@ use Rattle.debug_modules.specs.Services.{ServiceState, served_at, served_by, ser
 use Rattle.debug_modules.specs.declared.services.ServiceCode.{ServiceCode}
 use Rattle.debug_labels.specs.Labels.{ImageLabels}
 use Rattle.debug_modules.proofs.ServiceLemmas.{none_served, served_suc}
-use Rattle.debug_modules.specs.Laws.{AreServiceTurns, IsNext, NoneBetween, ServiceCallsInTurn, Turn, behind_turns, service_code_at}
+use Rattle.debug_modules.specs.Laws.{AreServiceTurns, IsNextTurn, NoneBetween, ServiceCallsInTurn, Turn, behind_turns, service_code_at}
 
 -- a place passed over, or with its turn
 at_over : (labels : List ImageLabels) (number : ℕ) (title : List ℕ) (place : ℕ) (v : ServiceState) → v.is_over ≡ true
@@ -80,7 +80,7 @@ turns_by labels number title more place v false (Some c) others within unclaimed
     let now = served_by labels number c v in
     let rest = others now in
     let t : Turn = record { place = place; code = c; before = v; after = now } in
-    let next : IsNext labels number title place v t = record {
+    let next : IsNextTurn labels number title place v t = record {
       before = refl;
       unclaimed = unclaimed;
       further = omega arith;

@@ -47,7 +47,7 @@ pub record Turn : Type 0 where
 
 -- A turn is the next from a place on: none before it has claimed the call, and all have gone back; no instance that
 -- has code is left out; this one has that code, which is entered.
-pub record IsNext (labels : List ImageLabels) (number : ℕ) (title : List ℕ) (from : ℕ) (v : ServiceState) (t : Turn) : Type 0 where
+pub record IsNextTurn (labels : List ImageLabels) (number : ℕ) (title : List ℕ) (from : ℕ) (v : ServiceState) (t : Turn) : Type 0 where
   pub before : t.before ≡ v
   pub unclaimed : v.is_over ≡ false
   pub further : from ≤ t.place
@@ -60,7 +60,7 @@ pub record IsNext (labels : List ImageLabels) (number : ℕ) (title : List ℕ) 
 abbrev pub AreServiceTurns : List ImageLabels → ℕ → List ℕ → ℕ → ServiceState → List Turn → Type 0
 AreServiceTurns labels number title from v [] = (v.is_over ≡ true) ⊎ NoneBetween v title from 4096
 AreServiceTurns labels number title from v (t ∷ ts) =
-    IsNext labels number title from v t × AreServiceTurns labels number title (t.place + 1) t.after ts
+    IsNextTurn labels number title from v t × AreServiceTurns labels number title (t.place + 1) t.after ts
 
 -- how far the call is behind them
 abbrev pub behind_turns : ServiceState → List Turn → ServiceState

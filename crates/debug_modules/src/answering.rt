@@ -78,8 +78,7 @@ pub fn answer_module_line(
             Ok(Some(answer))
         }
         Some(ModuleRequest::Commands) => {
-            let text = commands_text(alloc, session.machine())?;
-            Ok(Some(ModuleAnswer::Shown(text)))
+            Ok(Some(ModuleAnswer::Shown(commands_text(alloc, session.machine())?)))
         }
         Some(ModuleRequest::Listing(name)) => {
             let place = names_on(labels, session.machine()).image_place(name);
@@ -87,6 +86,9 @@ pub fn answer_module_line(
             let start = place.map(|place| place.start);
             let text = listing_text(alloc, &modes.counts, image, source, start)?;
             Ok(Some(ModuleAnswer::Shown(text)))
+        }
+        Some(ModuleRequest::Compare(one, other)) => {
+            Ok(Some(ModuleAnswer::Shown(images_compared(alloc, images, one, other)?)))
         }
         Some(ModuleRequest::Form(text)) => {
             Ok(Some(ModuleAnswer::Shown(form_line(alloc, text)?)))
