@@ -1,6 +1,6 @@
 -- Scripts in which lines INCLUDE name other scripts: in place of such a line stands a remark that says which lines
 -- are those of its file, and behind it these lines, each with its end. A line of a block is the block's.
-use Rattle.std.specs.Prelude.{◌≡◌, ℕ, ◌==◌, ◌&&◌, not, nat_lt, Bool, false, List, [], ◌∷◌, ◌++◌, length, drop, Option, Some, None, IfSome, codes, decimal, option_map, option_and_then, unwrap_or, suc, zero, if◌then◌else◌}
+use Rattle.std.specs.Prelude.{◌≡◌, ◌⊎◌, IsUtf8, ℕ, ◌==◌, ◌&&◌, not, nat_lt, Bool, false, List, [], ◌∷◌, ◌++◌, length, drop, Option, Some, None, IfSome, codes, decimal, option_map, option_and_then, unwrap_or, suc, zero, if◌then◌else◌}
 use Rattle.std.specs.List.{list_any}
 use Rattle.std.specs.Path.{path_join, path_parent}
 use Rattle.std.specs.Str.Lines.{strip_carriage_return}
@@ -21,6 +21,11 @@ include_of is_in_block line = if is_in_block then None else include_text (tidied
 -- one word
 abbrev pub is_path : List ℕ → Bool
 is_path text = not (length text == 0) && not (list_any (λ b. b == 32) text)
+
+-- Why words name no file to include, where files may include one another so many deep: none deeper may, they aren't one
+-- word, or no text.
+abbrev pub NamesNoFile : ℕ → List ℕ → Type 0
+NamesNoFile depth words = (depth ≡ 0) ⊎ ((is_path words ≡ false) ⊎ ¬ (IsUtf8 words))
 
 -- a path counts from the folder of the script that names it
 abbrev pub path_beside : List ℕ → List ℕ → List ℕ

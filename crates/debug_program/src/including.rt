@@ -32,13 +32,17 @@ pub trait ScriptFiles {
     // The bytes of the file of a path, or `None` where that isn't known.
     ghost text_of: { Self → List ℕ → Option (List ℕ) };
 
+    // That there is a reason against the file of a path.
+    ghost is_refused: { Self → List ℕ → Type 0 };
+
     /// The bytes of the file of a path, 1,048,576 at most.
     ///
     /// # Errors
     ///
     /// `Memory`, and `Unread` where there is no such file, or another reason against it.
     fn read_text(&self, alloc: Global, path: &str) -> Result<Vec<u8>, TextFault>
-        ensures { IfOk result (λ text. IfSome (text_of self.now path.now) (λ known. text.items ≡ known)) };
+        ensures text { IfOk result (λ t. IfSome (text_of self.now path.now) (λ known. t.items ≡ known)) }
+        ensures refused { OnErr result (is_refused self.now path.now) };
 
     /// Shows a person a line about a file that isn't included.
     fn show(&self, message: &str);
@@ -196,10 +200,7 @@ impl GivenText {
             script,
             number: self.own_number.saturating_add(1),
         };
-        let path = place.path_of(alloc, wanted.as_slice())?;
-        if depth == 0 {
-            return Err(place.refused(alloc, path.as_str(), TOO_DEEP));
-        }
+        let path = place.path_of(alloc, depth, wanted.as_slice())?;
         let bytes = place.text_at(alloc, files, path.as_str())?;
         let mut file = GivenText::new(alloc, self.number.saturating_add(1));
         for byte in &bytes {
@@ -244,21 +245,27 @@ struct IncludingLine<'a> {
 }
 
 impl IncludingLine<'_> {
-    ghost use Rattle.std.specs.Prelude.{◌&&◌};
-    ghost use Rattle.debug_program.specs.Including.{is_path, path_beside};
+    ghost use Rattle.std.specs.Prelude.{◌&&◌, ◌⊎◌, ◌<◌, IfErr};
+    ghost use Rattle.debug_program.specs.Including.{NamesNoFile, is_path, path_beside};
+    ghost use Rattle.debug_program.specs.declared.including.IncludeRefusal.TheVariants.{Memory};
 
-    // The path of the file that the line names.
-    fn path_of(&self, alloc: Global, wanted: &[u8]) -> Result<String, IncludeRefusal>
-        ensures one { OnOk result (is_path wanted.now ≡ true) }
+    // The path of the file that the line names, where files may include one another so many deep.
+    fn path_of(&self, alloc: Global, depth: usize, wanted: &[u8]) -> Result<String, IncludeRefusal>
+        ensures one { OnOk result ((is_path wanted.now ≡ true) × (0 < depth)) }
         ensures path { IfOk result (λ path. string_bytes path ≡ path_beside self.now.script.now wanted.now) }
+        ensures refused { IfErr result (λ refusal. (refusal ≡ Memory) ⊎ NamesNoFile depth wanted.now) }
     {
         if !is_path(wanted) {
             return Err(self.refused_line(alloc, NO_FILE));
         }
-        match str::from_utf8(wanted) {
-            Ok(path) => Ok(path_beside(alloc, self.script, path)?),
-            Err(_) => Err(self.refused_line(alloc, "a path is text in UTF-8")),
+        let Ok(path) = str::from_utf8(wanted) else {
+            return Err(self.refused_line(alloc, "a path is text in UTF-8"));
+        };
+        let path = path_beside(alloc, self.script, path)?;
+        if depth == 0 {
+            return Err(self.refused(alloc, path.as_str(), TOO_DEEP));
         }
+        Ok(path)
     }
 
     fn text_at<D: ScriptFiles>(
@@ -267,7 +274,8 @@ impl IncludingLine<'_> {
         files: &D,
         path: &str,
     ) -> Result<Vec<u8>, IncludeRefusal>
-        ensures { IfOk result (λ text. IfSome (D.text_of files.now path.now) (λ known. text.items ≡ known)) }
+        ensures text { IfOk result (λ t. IfSome (D.text_of files.now path.now) (λ known. t.items ≡ known)) }
+        ensures refused { OnErr result (D.is_refused files.now path.now) }
     {
         match files.read_text(alloc, path) {
             Ok(text) => Ok(text),

@@ -1,6 +1,6 @@
 //! The files that scripts include, as the host has them.
 
-ghost use Rattle.std.specs.Prelude.{◌≡◌, None};
+ghost use Rattle.std.specs.Prelude.{◌≡◌, ◌≤◌, length, None, Ok, IfOk, IsErr, OnErr};
 ghost use Rattle.rosm_tools.specs.debug.Endings.{ending_by_reader};
 
 use crate::debug::refusal::DebugRefusal;
@@ -25,22 +25,33 @@ impl<R: AllocGlobal + Eprint + fs::Files> ScriptFiles for HostScripts<'_, R> {
     // What a file of the host holds isn't known before it is read.
     ghost text_of = { λ _ _. None };
 
+    // Nor what is against it.
+    ghost is_refused = { λ _ _. Unit {0} };
+
     fn read_text(&self, alloc: Global, path: &str) -> Result<Vec<u8>, TextFault> {
-        match read_front(self.rt, alloc, path) {
-            Ok(text) if text.len() > MOST_BYTES => Err(fault_of(alloc, "more than 1048576 bytes")),
-            Ok(text) => Ok(text),
-            Err(error) => match FileError::from(error) {
-                FileError::Image(ImageError::Memory) => Err(TextFault::Memory),
-                error => match format!(in alloc; "{error}") {
-                    Ok(reason) => Err(TextFault::Unread(reason)),
-                    Err(_) => Err(TextFault::Memory),
-                },
-            },
-        }
+        text_read(alloc, read_front(self.rt, alloc, path))
     }
 
     fn show(&self, message: &str) {
         let _ = eprintln!(self.rt; "rosm_debug: {message}");
+    }
+}
+
+// The bytes that were read, or why there are none.
+fn text_read(alloc: Global, read: io::Result<Vec<u8>>) -> Result<Vec<u8>, TextFault>
+    ensures read { IfOk read (λ text. length text.items ≤ 1048576 → result ≡ Ok text) }
+    ensures unread { OnErr read (IsErr result) }
+{
+    match read {
+        Ok(text) if text.len() > MOST_BYTES => Err(fault_of(alloc, "more than 1048576 bytes")),
+        Ok(text) => Ok(text),
+        Err(error) => match FileError::from(error) {
+            FileError::Image(ImageError::Memory) => Err(TextFault::Memory),
+            error => match format!(in alloc; "{error}") {
+                Ok(reason) => Err(TextFault::Unread(reason)),
+                Err(_) => Err(TextFault::Memory),
+            },
+        },
     }
 }
 

@@ -49,19 +49,19 @@ returns-clause-taken g t c =
     let file : GivenSoFar = given_of c.include-2.new.self in
     let now : GivenSoFar = given_of c.take_file.new.self in
     let inner : Option (List ℕ) = option_map (λ w. w.items) c.in_ok-inner-2.inner in
-    let known = subst (λ (p : List ℕ). IfSome (text_of p) (λ k. c.in_ok-bytes.bytes.items ≡ k)) c.as_str-2.ensures.value c.in_ok-bytes.ensures in
+    let known = subst (λ (p : List ℕ). IfSome (text_of p) (λ k. c.in_ok-bytes.bytes.items ≡ k)) c.as_str.ensures.value c.in_ok-bytes.ensures.text in
     let all = subst (λ (bs : List ℕ). StaysKnown (given_bytes files path first c.in_ok-bytes.bytes.items) (given_bytes files path last bs))
     (drop_of_length-le c.deref-byte-items.result.now c.loop-byte-test.false)
     (subst (λ (bs : List ℕ). StaysKnown (given_bytes files path first bs)
     (given_bytes files path last (drop c.loop-byte.byte-index c.deref-byte-items.result.now))) c.deref-byte-items.ensures.value
     c.loop-byte.invariant) in
-    let there = subst (λ (p : List ℕ). IfSome (given_wanted files p mid inner) (λ k. file ≡ k)) c.as_str-3.ensures.value
+    let there = subst (λ (p : List ℕ). IfSome (given_wanted files p mid inner) (λ k. file ≡ k)) c.as_str-2.ensures.value
     c.in_ok-include-2.ensures.taken in
     let stays = file_stays text_of c.args.depth path (one_line_more c.args.self.now.number) c.in_ok-bytes.bytes.items last mid file inner
-    (omega (arith, c.if-depth-eq0.false)) known all (c.in_ok-inner-2.ensures.taken files path) there in
+    c.in_ok-path.ensures.one.1 known all (c.in_ok-inner-2.ensures.taken files path) there in
     subst (λ (w : Option (Vec ℕ Global)). IfSome (given_wanted (file_given text_of c.args.depth) script was (option_map (λ v. v.items) w)) (λ k. now ≡ k))
     (sym c.in-Some.is)
     (wanted_taken text_of c.args.depth script c.in-Some.wanted.items path was file now
-    (subst (λ (bs : List ℕ). is_path bs ≡ true) c.as_slice.ensures.value c.in_ok-path.ensures.one)
+    (subst (λ (bs : List ℕ). is_path bs ≡ true) c.as_slice.ensures.value c.in_ok-path.ensures.one.0)
     (c.in_ok-path.ensures.path ∙ ap (path_beside script) c.as_slice.ensures.value) stays
-    (c.in_ok-take_file.ensures.taken ∙ ap (λ (p : List ℕ). given_file was p file) c.as_str-4.ensures.value))
+    (c.in_ok-take_file.ensures.taken ∙ ap (λ (p : List ℕ). given_file was p file) c.as_str-3.ensures.value))
