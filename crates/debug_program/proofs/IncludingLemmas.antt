@@ -1,11 +1,11 @@
 -- What a script gives, byte by byte, and what of it is known.
 use Rattle.std.proofs.Common.{◌≡◌, ◌<◌, ◌-◌, ℕ, zero, suc, Bool, true, false, List, [], ◌∷◌, ◌++◌, length, Option, Some, None, IfSome, append_assoc, append-nil, ap, sym, subst, refl, ◌∙◌, arith}
-use Rattle.std.specs.Prelude.{◌==◌, if◌then◌else◌, option_map, option_and_then}
+use Rattle.std.specs.Prelude.{◌==◌, ◌&&◌, ◌||◌, if◌then◌else◌, is_some, option_map, option_and_then, unwrap_or}
 use Rattle.std.proofs.lemmas.Bool.Decides.{nat_tests}
 use Rattle.std.specs.Str.Lines.{strip_carriage_return}
 use Rattle.debug_lines.specs.BlockEnds.{one_line_more}
 use Rattle.debug_lines.specs.WholeDebugRequests.{is_debug_block_open_after}
-use Rattle.debug_program.specs.Including.{GivenSoFar, Included, StaysKnown, file_given, given_file, given_none, include_of, is_path, note_text, path_beside, given_all, given_byte, given_bytes, given_ended, given_last, given_read, given_wanted}
+use Rattle.debug_program.specs.Including.{GivenSoFar, Included, StaysKnown, file_given, given_file, given_none, include_of, is_path, note_text, path_beside, save_asked, saved_line, asks_save, given_all, given_byte, given_bytes, given_ended, given_last, given_read, given_wanted}
 
 -- WHAT STAYS KNOWN
 
@@ -126,7 +126,7 @@ front_of_line files script end text g None = ap (λ (t : List ℕ). let k : Give
   line = [];
   is_in_block = is_debug_block_open_after g.is_in_block (strip_carriage_return g.line);
   number = one_line_more g.number;
-} in Some k) (append_assoc text g.text (g.line ++ end))
+} in Some k) (append_assoc text g.text (saved_line (save_asked g) (g.line ++ end)))
 front_of_line files script end text g (Some path) = front_of_choice text (is_path path) _ _ _ None
     (front_of_found text g (path_beside script path) (files (path_beside script path) (one_line_more g.number))) refl
 
@@ -181,10 +181,14 @@ plain_wanted : (is : Bool) (v : Option GivenSoFar) (P : GivenSoFar → Type 0) �
 plain_wanted true v P h = h
 plain_wanted false v P h = tt
 
-plain_line : (files : Included) (script end : List ℕ) (g : GivenSoFar) (wanted : Option (List ℕ)) → NoFiles files
+plain_saved : (save : Option (List ℕ)) (line : List ℕ) → is_some save ≡ false → saved_line save line ≡ line
+plain_saved None line none = refl
+plain_saved (Some words) line none = absurd (let no : true ≡ false = none in cc)
+
+plain_line : (files : Included) (script end : List ℕ) (g : GivenSoFar) (wanted : Option (List ℕ)) → NoFiles files → is_some (save_asked g) ≡ false
     → IfSome (given_read files script end g wanted) (λ h. (h.text ≡ g.text ++ (g.line ++ end)) × (h.line ≡ []))
-plain_line files script end g None none = (refl, refl)
-plain_line files script end g (Some path) none = plain_wanted (is_path path) _ _
+plain_line files script end g None none still = (ap (λ (t : List ℕ). g.text ++ t) (plain_saved (save_asked g) (g.line ++ end) still), refl)
+plain_line files script end g (Some path) none still = plain_wanted (is_path path) _ _
     (plain_found g (path_beside script path) (files (path_beside script path) (one_line_more g.number)) _
     (none (path_beside script path) (one_line_more g.number)))
 
@@ -197,50 +201,75 @@ if_some_then : (v : Option GivenSoFar) (f : GivenSoFar → Option GivenSoFar) (P
 if_some_then None f P Q next h = tt
 if_some_then (Some g) f P Q next h = next g h
 
-plain_ended : (files : Included) (script end : List ℕ) (g : GivenSoFar) → NoFiles files
+plain_ended : (files : Included) (script end : List ℕ) (g : GivenSoFar) → NoFiles files → is_some (save_asked g) ≡ false
     → IfSome (given_ended files script end g) (λ h. h.text ++ h.line ≡ (g.text ++ g.line) ++ end)
-plain_ended files script end g none =
+plain_ended files script end g none still =
     if_some_map (given_ended files script end g) (λ h. (h.text ≡ g.text ++ (g.line ++ end)) × (h.line ≡ []))
     (λ h. h.text ++ h.line ≡ (g.text ++ g.line) ++ end)
     (λ h is. ap (λ (l : List ℕ). h.text ++ l) is.1 ∙ append-nil h.text ∙ is.0 ∙ sym (append_assoc g.text g.line end))
-    (plain_line files script end g (include_of g.is_in_block (strip_carriage_return g.line)) none)
+    (plain_line files script end g (include_of g.is_in_block (strip_carriage_return g.line)) none still)
 
-plain_choice : (is : Bool) (a b : Option GivenSoFar) (P : GivenSoFar → Type 0) → IfSome a P → IfSome b P → IfSome (if is then a else b) P
-plain_choice true a b P h k = h
+plain_choice : (is : Bool) (a b : Option GivenSoFar) (P : GivenSoFar → Type 0) → (is ≡ true → IfSome a P) → IfSome b P → IfSome (if is then a else b) P
+plain_choice true a b P h k = h refl
 plain_choice false a b P h k = k
 
-plain_byte : (files : Included) (script : List ℕ) (g : GivenSoFar) (byte : ℕ) → NoFiles files
+either_false : (one other : Bool) → (one || other) ≡ false → (one ≡ false) × (other ≡ false)
+either_false true other none = absurd (let no : true ≡ false = none in cc)
+either_false false other none = (refl, none)
+
+other_false : (one other : Bool) → (one && other) ≡ false → one ≡ true → other ≡ false
+other_false true other none is = none
+other_false false other none is = absurd (let no : false ≡ true = is in cc)
+
+plain_byte : (files : Included) (script : List ℕ) (g : GivenSoFar) (byte : ℕ) → NoFiles files → ((byte == 10) && is_some (save_asked g)) ≡ false
     → IfSome (given_byte files script g byte) (λ h. h.text ++ h.line ≡ (g.text ++ g.line) ++ byte ∷ [])
-plain_byte files script g byte none = plain_choice (byte == 10) (given_ended files script (byte ∷ []) g) (Some (record g { line = g.line ++ byte ∷ [] }))
+plain_byte files script g byte none still = plain_choice (byte == 10) (given_ended files script (byte ∷ []) g) (Some (record g { line = g.line ++ byte ∷ [] }))
     (λ h. h.text ++ h.line ≡ (g.text ++ g.line) ++ byte ∷ [])
-    (plain_ended files script (byte ∷ []) g none) (sym (append_assoc g.text g.line (byte ∷ [])))
+    (λ is. plain_ended files script (byte ∷ []) g none (other_false (byte == 10) (is_some (save_asked g)) still is))
+    (sym (append_assoc g.text g.line (byte ∷ [])))
 
-plain_bytes : (files : Included) (script : List ℕ) (g : GivenSoFar) (bytes : List ℕ) → NoFiles files
-    → IfSome (given_bytes files script g bytes) (λ h. h.text ++ h.line ≡ (g.text ++ g.line) ++ bytes)
-unfolding given_bytes
-plain_bytes files script g [] none = sym (append-nil (g.text ++ g.line))
-plain_bytes files script g (byte ∷ rest) none =
+-- what is said of a value that is there, twice
+if_some_both : (v : Option GivenSoFar) (P Q : GivenSoFar → Type 0) → IfSome v P → IfSome v Q → IfSome v (λ h. P h × Q h)
+if_some_both None P Q h k = tt
+if_some_both (Some g) P Q h k = (h, k)
+
+asked_then : (v : Option GivenSoFar) (f : GivenSoFar → Bool) → unwrap_or (option_map f v) false ≡ false → IfSome v (λ h. f h ≡ false)
+asked_then None f none = tt
+asked_then (Some g) f none = none
+
+plain_bytes : (files : Included) (script : List ℕ) (g : GivenSoFar) (bytes : List ℕ) → NoFiles files → asks_save files script g bytes ≡ false
+    → IfSome (given_bytes files script g bytes) (λ h. (h.text ++ h.line ≡ (g.text ++ g.line) ++ bytes) × (is_some (save_asked h) ≡ false))
+unfolding given_bytes asks_save
+plain_bytes files script g [] none still = (sym (append-nil (g.text ++ g.line)), still)
+plain_bytes files script g (byte ∷ rest) none still =
+    let parts = either_false ((byte == 10) && is_some (save_asked g))
+    (unwrap_or (option_map (λ h. asks_save files script h rest) (given_byte files script g byte)) false) still in
     if_some_then (given_byte files script g byte) (λ h. given_bytes files script h rest)
-    (λ h. h.text ++ h.line ≡ (g.text ++ g.line) ++ byte ∷ []) (λ k. k.text ++ k.line ≡ (g.text ++ g.line) ++ (byte ∷ rest))
-    (λ h is. if_some_map (given_bytes files script h rest) (λ k. k.text ++ k.line ≡ (h.text ++ h.line) ++ rest)
-    (λ k. k.text ++ k.line ≡ (g.text ++ g.line) ++ (byte ∷ rest))
-    (λ k same. same ∙ ap (λ (xs : List ℕ). xs ++ rest) is ∙ append_assoc (g.text ++ g.line) (byte ∷ []) rest)
-    (plain_bytes files script h rest none))
-    (plain_byte files script g byte none)
+    (λ h. (h.text ++ h.line ≡ (g.text ++ g.line) ++ byte ∷ []) × (asks_save files script h rest ≡ false))
+    (λ k. (k.text ++ k.line ≡ (g.text ++ g.line) ++ (byte ∷ rest)) × (is_some (save_asked k) ≡ false))
+    (λ h is. if_some_map (given_bytes files script h rest)
+    (λ k. (k.text ++ k.line ≡ (h.text ++ h.line) ++ rest) × (is_some (save_asked k) ≡ false))
+    (λ k. (k.text ++ k.line ≡ (g.text ++ g.line) ++ (byte ∷ rest)) × (is_some (save_asked k) ≡ false))
+    (λ k same. (same.0 ∙ ap (λ (xs : List ℕ). xs ++ rest) is.0 ∙ append_assoc (g.text ++ g.line) (byte ∷ []) rest, same.1))
+    (plain_bytes files script h rest none is.1))
+    (if_some_both (given_byte files script g byte) (λ h. h.text ++ h.line ≡ (g.text ++ g.line) ++ byte ∷ [])
+    (λ h. asks_save files script h rest ≡ false) (plain_byte files script g byte none parts.0)
+    (asked_then (given_byte files script g byte) (λ h. asks_save files script h rest) parts.1))
 
-plain_last : (files : Included) (script : List ℕ) (g : GivenSoFar) (line : List ℕ) → NoFiles files → g.line ≡ line
+plain_last : (files : Included) (script : List ℕ) (g : GivenSoFar) (line : List ℕ) → NoFiles files → g.line ≡ line → is_some (save_asked g) ≡ false
     → IfSome (if length line == 0 then Some g else given_ended files script [] g) (λ h. h.text ≡ g.text ++ g.line)
-plain_last files script g [] none is = sym (ap (λ (l : List ℕ). g.text ++ l) is ∙ append-nil g.text)
-plain_last files script g (byte ∷ rest) none is =
+plain_last files script g [] none is still = sym (ap (λ (l : List ℕ). g.text ++ l) is ∙ append-nil g.text)
+plain_last files script g (byte ∷ rest) none is still =
     subst (λ (b : Bool). IfSome (if b then Some g else given_ended files script [] g) (λ h. h.text ≡ g.text ++ g.line))
     (let shut : false ≡ (length (byte ∷ rest) == 0) = grind (arith, nat_tests) in shut)
     (if_some_map (given_ended files script [] g) (λ h. (h.text ≡ g.text ++ (g.line ++ [])) × (h.line ≡ []))
     (λ h. h.text ≡ g.text ++ g.line) (λ h same. same.0 ∙ ap (λ (l : List ℕ). g.text ++ l) (append-nil g.line))
-    (plain_line files script [] g (include_of g.is_in_block (strip_carriage_return g.line)) none))
+    (plain_line files script [] g (include_of g.is_in_block (strip_carriage_return g.line)) none still))
 
-pub plain_stays : (files : Included) → NoFiles files → (script bytes : List ℕ)
+pub plain_stays : (files : Included) → NoFiles files → (script bytes : List ℕ) → asks_save files script (given_none 0) bytes ≡ false
     → IfSome (given_all files script [] (given_none 0) bytes) (λ g. g.text ≡ bytes)
-plain_stays files none script bytes =
-    if_some_then (given_bytes files script (given_none 0) bytes) (given_last files script []) (λ h. h.text ++ h.line ≡ bytes) (λ g. g.text ≡ bytes)
-    (λ h is. if_some_map (given_last files script [] h) (λ g. g.text ≡ h.text ++ h.line) (λ g. g.text ≡ bytes) (λ g same. same ∙ is)
-    (plain_last files script h h.line none refl)) (plain_bytes files script (given_none 0) bytes none)
+plain_stays files none script bytes still =
+    if_some_then (given_bytes files script (given_none 0) bytes) (given_last files script [])
+    (λ h. (h.text ++ h.line ≡ bytes) × (is_some (save_asked h) ≡ false)) (λ g. g.text ≡ bytes)
+    (λ h is. if_some_map (given_last files script [] h) (λ g. g.text ≡ h.text ++ h.line) (λ g. g.text ≡ bytes) (λ g same. same ∙ is.0)
+    (plain_last files script h h.line none refl is.1)) (plain_bytes files script (given_none 0) bytes none still)

@@ -1,6 +1,7 @@
 -- Scripts in which lines INCLUDE name other scripts: in place of such a line stands a remark that says which lines
--- are those of its file, and behind it these lines, each with its end. A line of a block is the block's.
-use Rattle.std.specs.Prelude.{◌≡◌, ◌⊎◌, IsUtf8, ℕ, ◌==◌, ◌&&◌, not, nat_lt, Bool, false, List, [], ◌∷◌, ◌++◌, length, drop, Option, Some, None, IfSome, codes, decimal, option_map, option_and_then, unwrap_or, suc, zero, if◌then◌else◌}
+-- are those of its file, and behind it these lines, each with its end. A line SAVE stands as a remark. A line of a
+-- block is the block's.
+use Rattle.std.specs.Prelude.{◌≡◌, ◌⊎◌, IsUtf8, ℕ, ◌==◌, ◌&&◌, ◌||◌, not, nat_lt, Bool, false, List, [], ◌∷◌, ◌++◌, length, drop, Option, Some, None, IfSome, codes, decimal, option_map, option_and_then, is_some, unwrap_or, suc, zero, if◌then◌else◌}
 use Rattle.std.specs.List.{list_any}
 use Rattle.std.specs.Path.{path_join, path_parent}
 use Rattle.std.specs.Str.Lines.{strip_carriage_return}
@@ -10,13 +11,25 @@ use Rattle.debug_lines.specs.BlockEnds.{one_line_more}
 use Rattle.debug_lines.specs.Tidy.{tidied_line}
 use Rattle.debug_lines.specs.WholeDebugRequests.{is_debug_block_open_after}
 
--- what lies behind the word INCLUDE of a tidy line, which may be nothing
-abbrev pub include_text : List ℕ → Option (List ℕ)
-include_text tidy = if is_same_word tidy (codes "INCLUDE") then Some [] else text_behind (codes "INCLUDE ") tidy
+-- what lies behind a word of a tidy line, which may be nothing; the opening is the word with a blank behind it
+abbrev pub text_of_word : List ℕ → List ℕ → List ℕ → Option (List ℕ)
+text_of_word word opening tidy = if is_same_word tidy word then Some [] else text_behind opening tidy
 
 -- the same of any line, if it stands in no block
+abbrev pub words_behind : List ℕ → List ℕ → Bool → List ℕ → Option (List ℕ)
+words_behind word opening is_in_block line =
+    if is_in_block then None else text_of_word word opening (tidied_line line)
+
 abbrev pub include_of : Bool → List ℕ → Option (List ℕ)
-include_of is_in_block line = if is_in_block then None else include_text (tidied_line line)
+include_of is_in_block line = words_behind (codes "INCLUDE") (codes "INCLUDE ") is_in_block line
+
+abbrev pub save_of : Bool → List ℕ → Option (List ℕ)
+save_of is_in_block line = words_behind (codes "SAVE") (codes "SAVE ") is_in_block line
+
+-- a line with its end, or the remark in its place, by what it asks to be saved
+abbrev pub saved_line : Option (List ℕ) → List ℕ → List ℕ
+saved_line None line = line
+saved_line (Some words) line = codes "; " ++ line
 
 -- one word
 abbrev pub is_path : List ℕ → Bool
@@ -52,10 +65,14 @@ given_none number = record { text = []; line = []; is_in_block = false; number =
 abbrev pub Included : Type 0
 Included = List ℕ → ℕ → Option GivenSoFar
 
--- a line stands as it is
+-- what the line asks to be saved
+abbrev pub save_asked : GivenSoFar → Option (List ℕ)
+save_asked g = save_of g.is_in_block (strip_carriage_return g.line)
+
+-- a line stands as it is, or as a remark where it asks to save something
 abbrev pub given_line : GivenSoFar → List ℕ → GivenSoFar
 given_line g end = record {
-  text = g.text ++ (g.line ++ end);
+  text = g.text ++ saved_line (save_asked g) (g.line ++ end);
   line = [];
   is_in_block = is_debug_block_open_after g.is_in_block (strip_carriage_return g.line);
   number = one_line_more g.number;
@@ -118,8 +135,15 @@ script_left files script shown g unread known = option_and_then
 abbrev pub StaysKnown : Option GivenSoFar → Option GivenSoFar → Type 0
 StaysKnown old new = IfSome old (λ g. new ≡ Some g)
 
--- A script of which all is known though no file is: it has no line INCLUDE outside its blocks, and its own text is
--- given, byte for byte.
+-- whether one of the lines that are left asks to save something, as far as they are known
+unfoldable pub asks_save : Included → List ℕ → GivenSoFar → List ℕ → Bool
+asks_save files script g [] = is_some (save_asked g)
+asks_save files script g (byte ∷ rest) = ((byte == 10) && is_some (save_asked g))
+    || unwrap_or (option_map (λ h. asks_save files script h rest) (given_byte files script g byte)) false
+
+-- A script of which all is known though no file is: it has no line INCLUDE outside its blocks. Where it has no line SAVE
+-- there either its own text is given, byte for byte.
 abbrev pub PlainTextStays : Type 0
 PlainTextStays = (files : Included) → ((path : List ℕ) (number : ℕ) → files path number ≡ None)
-    → (script bytes : List ℕ) → IfSome (given_all files script [] (given_none 0) bytes) (λ g. g.text ≡ bytes)
+    → (script bytes : List ℕ) → asks_save files script (given_none 0) bytes ≡ false
+    → IfSome (given_all files script [] (given_none 0) bytes) (λ g. g.text ≡ bytes)

@@ -1,10 +1,11 @@
-//! What a line INCLUDE names, and where that file is.
+//! What a line INCLUDE or SAVE names, and where such a file is.
 
-ghost use Rattle.std.specs.Prelude.{◌≡◌, IfOk, option_map, string_bytes};
+ghost use Rattle.std.specs.Prelude.{◌≡◌, ◌++◌, IfOk, option_map, string_bytes};
 ghost use Rattle.std.specs.Str.Lines.{strip_carriage_return};
 ghost use Rattle.debug_lines.specs.WholeDebugRequests.{is_debug_block_open_after};
-ghost use Rattle.debug_program.specs.Including.{include_of, include_text, is_path, note_text, path_beside};
+ghost use Rattle.debug_program.specs.Including.{is_path, note_text, path_beside, saved_line, text_of_word, words_behind};
 
+use crate::typing::joined;
 use command_shell_lines::debug_words::text_behind;
 use command_shell_lines::is_block_end;
 use debug_lines::{opens_block, tidied};
@@ -12,36 +13,60 @@ use itoa::Buffer;
 use std::alloc::{AllocError, Global};
 use std::path::Path;
 
-/// What lies behind the word INCLUDE, where a line begins with it that stands in no block.
+/// What lies behind a word, where a line begins with it, and a blank, that stands in no block. The opening is
+/// the word with its blank.
 ///
 /// # Errors
 ///
 /// Memory ran out.
-pub(crate) fn include_of(
+pub(crate) fn words_behind(
     alloc: Global,
+    word: &[u8],
+    opening: &[u8],
     is_in_block: bool,
     line: &[u8],
 ) -> Result<Option<Vec<u8>>, AllocError>
-    ensures { IfOk result
-        (λ wanted. option_map (λ text. text.items) wanted ≡ include_of is_in_block line.now) }
+    ensures { IfOk result (λ words. option_map (λ text. text.items) words
+        ≡ words_behind word.now opening.now is_in_block line.now) }
 {
     if is_in_block {
         return Ok(None);
     }
     let tidy = tidied(alloc, line)?;
-    match include_text(&tidy) {
+    match text_of_word(word, opening, &tidy) {
         Some(text) => Ok(Some(Vec::from_slice(alloc, text)?)),
         None => Ok(None),
     }
 }
 
-fn include_text(tidy: &[u8]) -> Option<&[u8]>
-    ensures { option_map (λ text. text.now) result ≡ include_text tidy.now }
+fn text_of_word<'a>(word: &[u8], opening: &[u8], tidy: &'a [u8]) -> Option<&'a [u8]>
+    ensures { option_map (λ text. text.now) result ≡ text_of_word word.now opening.now tidy.now }
 {
-    if tidy.eq_ignore_ascii_case(b"INCLUDE") {
+    if tidy.eq_ignore_ascii_case(word) {
         Some(&[])
     } else {
-        text_behind(b"INCLUDE ", tidy)
+        text_behind(opening, tidy)
+    }
+}
+
+/// A line with its end as it is given, by what it asks to be saved: one SAVE as a remark.
+///
+/// # Errors
+///
+/// Memory ran out.
+pub(crate) fn saved_line(
+    alloc: Global,
+    save: &Option<Vec<u8>>,
+    line: &[u8],
+    end: &[u8],
+) -> Result<Vec<u8>, AllocError>
+    ensures { IfOk result (λ whole. whole.items
+        ≡ saved_line (option_map (λ words. words.items) save.now) (line.now ++ end.now)) }
+{
+    let line = joined(alloc, line, end)?;
+    match save {
+        Some(_) => joined(alloc, b"; ", line.as_slice()),
+        None => Ok(line),
     }
 }
 
@@ -86,7 +111,7 @@ pub(crate) fn is_path(text: &[u8]) -> bool
 /// # Errors
 ///
 /// Memory ran out.
-pub(crate) fn path_beside(alloc: Global, script: &str, path: &str) -> Result<String, AllocError>
+pub fn path_beside(alloc: Global, script: &str, path: &str) -> Result<String, AllocError>
     ensures { IfOk result (λ beside. string_bytes beside ≡ path_beside script.now path.now) }
 {
     let folder = match Path::new(script).parent() {

@@ -3,9 +3,11 @@
 ghost use Rattle.std.specs.Prelude.{◌≡◌, ℕ, true, List, Option, option_map, IfOk, IfNone, IfSome, IsSome, OnErr, OnOk, string_bytes};
 
 use crate::include_words::{
-    include_of, is_block_open_after, is_path, note_text, path_beside, without_return,
+    is_block_open_after, is_path, note_text, path_beside, saved_line, without_return, words_behind,
 };
 use crate::typing::joined;
+use debug_session::DebugSession;
+use profile::images::Images;
 use profile::memory_map::MOST_BYTES;
 use std::alloc::{AllocError, Global};
 
@@ -18,16 +20,16 @@ const TOO_MUCH: &str = "more than 1048576 bytes with what it includes";
 
 const NO_FILE: &str = "INCLUDE wants one file";
 
-/// Why the bytes of a file that a script includes aren't had.
+/// Why a file isn't read that a script includes, or isn't written that it saves.
 #[derive(Debug, PartialEq, Eq, Drop)]
-pub enum TextFault {
+pub enum FileFault {
     /// Memory ran out.
     Memory,
-    /// The file can't be read, for this reason.
-    Unread(String),
+    /// It can't be read or written, for this reason.
+    Reason(String),
 }
 
-/// The files that scripts include.
+/// The files that scripts include and save.
 pub trait ScriptFiles {
     // The bytes of the file of a path, or `None` where that isn't known.
     ghost text_of: { Self → List ℕ → Option (List ℕ) };
@@ -39,12 +41,27 @@ pub trait ScriptFiles {
     ///
     /// # Errors
     ///
-    /// `Memory`, and `Unread` where there is no such file, or another reason against it.
-    fn read_text(&self, alloc: Global, path: &str) -> Result<Vec<u8>, TextFault>
+    /// `Memory`, and `Reason` where there is no such file, or another reason against it.
+    fn read_text(&self, alloc: Global, path: &str) -> Result<Vec<u8>, FileFault>
         ensures text { IfOk result (λ t. IfSome (text_of self.now path.now) (λ known. t.items ≡ known)) }
         ensures refused { OnErr result (is_refused self.now path.now) };
 
-    /// Shows a person a line about a file that isn't included.
+    /// Writes the file that a line SAVE names by the words behind it, as a session and its images stand:
+    /// the path counts from the script's folder. Gives a line about it.
+    ///
+    /// # Errors
+    ///
+    /// `Memory`, and `Reason` where the words name nothing, or there is another reason against it.
+    fn write_saved(
+        &self,
+        alloc: Global,
+        session: &DebugSession,
+        images: &Images,
+        script: &str,
+        words: &[u8],
+    ) -> Result<String, FileFault>;
+
+    /// Shows a person a line about a file that was written, or one that isn't included or saved.
     fn show(&self, message: &str);
 }
 
@@ -57,7 +74,8 @@ pub enum IncludeRefusal {
     ReadFault,
     /// A line of the script has more than 1,048,576 bytes.
     TooLong,
-    /// A line INCLUDE names no file that can be included: the script, its line, the file and the reason.
+    /// A line INCLUDE or SAVE names no file that can be read or written: the script, its line, the file and
+    /// the reason.
     Line(String),
 }
 
@@ -82,6 +100,8 @@ pub(crate) struct GivenText {
     // How many lines were given, and how many of them stand in the script itself.
     number: usize,
     own_number: usize,
+    /// What the last line SAVE asks for, until its file is written.
+    pub(crate) save: Option<Vec<u8>>,
 }
 
 impl GivenText {
@@ -99,6 +119,7 @@ impl GivenText {
             is_in_block: false,
             number,
             own_number: 0,
+            save: None,
         }
     }
 
@@ -159,12 +180,16 @@ impl GivenText {
         ensures kept { OnErr result (given_of self.new ≡ given_of self.old) }
     {
         let line = without_return(self.line.as_slice());
-        if let Some(path) = include_of(alloc, self.is_in_block, line)? {
+        if let Some(path) = words_behind(alloc, b"INCLUDE", b"INCLUDE ", self.is_in_block, line)? {
             return Ok(Some(path));
         }
         let is_open = is_block_open_after(alloc, self.is_in_block, line)?;
-        let whole = joined(alloc, self.line.as_slice(), end)?;
+        let save = words_behind(alloc, b"SAVE", b"SAVE ", self.is_in_block, line)?;
+        let whole = saved_line(alloc, &save, self.line.as_slice(), end)?;
         self.text.extend_from_slice(&whole)?;
+        if save.is_some() {
+            self.save = save;
+        }
         self.line.clear();
         self.is_in_block = is_open;
         self.number = self.number.saturating_add(1);
@@ -215,8 +240,31 @@ impl GivenText {
         if file.text.len() > MOST_BYTES {
             return Err(place.refused(alloc, path.as_str(), TOO_MUCH));
         }
+        if file.save.is_some() {
+            return Err(place.refused(alloc, path.as_str(), "it has a line SAVE"));
+        }
         self.take_file(alloc, path.as_str(), file)?;
         Ok(())
+    }
+
+    /// The line about a file that the last line asked for, or why it isn't written.
+    pub(crate) fn saved(
+        &self,
+        alloc: Global,
+        script: &str,
+        written: Result<String, FileFault>,
+    ) -> Result<String, IncludeRefusal> {
+        match written {
+            Ok(line) => Ok(line),
+            Err(FileFault::Memory) => Err(IncludeRefusal::Memory),
+            Err(FileFault::Reason(reason)) => Err(self.refused_save(alloc, script, &reason)),
+        }
+    }
+
+    /// The last line can't save anything, for this reason.
+    pub(crate) fn refused_save(&self, alloc: Global, script: &str, reason: &str) -> IncludeRefusal {
+        let number = self.own_number;
+        IncludingLine { script, number }.refused_line(alloc, reason)
     }
 
     // Takes in what a file gives in place of a line.
@@ -279,8 +327,8 @@ impl IncludingLine<'_> {
     {
         match files.read_text(alloc, path) {
             Ok(text) => Ok(text),
-            Err(TextFault::Memory) => Err(IncludeRefusal::Memory),
-            Err(TextFault::Unread(reason)) => Err(self.refused(alloc, path, reason.as_str())),
+            Err(FileFault::Memory) => Err(IncludeRefusal::Memory),
+            Err(FileFault::Reason(reason)) => Err(self.refused(alloc, path, reason.as_str())),
         }
     }
 

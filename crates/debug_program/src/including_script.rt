@@ -1,11 +1,17 @@
 //! A source that gives a script with the lines of the files that it includes.
 
-ghost use Rattle.std.specs.Prelude.{◌≡◌};
+ghost use Rattle.std.specs.Prelude.{◌≡◌, true, OnErr, OnOk};
 
 use crate::including::{DEPTH, GivenText, IncludeRefusal, ScriptFiles};
+use crate::whole_lines::WholeLines;
+use debug_session::DebugSession;
+use profile::images::Images;
 use profile::memory_map::MOST_BYTES;
 use profile::{ReadFault, Source};
 use std::alloc::Global;
+
+// Why a script with a line SAVE isn't read whole before its first line is answered.
+const NOT_SAVED: &str = "SAVE isn't read with --transcript and --json";
 
 // The most bytes that are read at once.
 const PIECE: usize = 4096;
@@ -132,7 +138,10 @@ impl<'a, D: ScriptFiles, S: Source> IncludingScript<'a, D, S> {
         if self.taken >= self.length {
             return self.read_piece();
         }
-        while self.taken < self.length && self.given.text.len() < PIECE {
+        while self.taken < self.length
+            && self.given.text.len() < PIECE
+            && self.given.save.is_none()
+        {
             self.take_next()?;
         }
         Ok(false)
@@ -203,6 +212,11 @@ impl<D: ScriptFiles, S: Source> Source for IncludingScript<'_, D, S> {
             if self.pulled < self.given.text.len() {
                 return Ok(self.put(buffer));
             }
+            if self.given.save.is_some() {
+                let refusal = self.given.refused_save(self.alloc, self.script, NOT_SAVED);
+                self.refusal = Some(refusal);
+                return Err(ReadFault);
+            }
             let Ok(is_end) = self.read_on() else {
                 return Err(ReadFault);
             };
@@ -215,19 +229,44 @@ impl<D: ScriptFiles, S: Source> Source for IncludingScript<'_, D, S> {
     }
 }
 
-/// A source that is lent.
-#[derive(Drop)]
-pub struct LentSource<'a, S> {
-    /// What gives the bytes.
-    pub inner: &'a mut S,
+/// A source of a script that may ask for files to be written.
+pub trait SavingSource: Source {
+    /// Writes the file that the line asks for that was the last to be pulled, if it asks for one, as a session
+    /// and its images stand behind that line. What was pulled is to be answered before.
+    ///
+    /// # Errors
+    ///
+    /// It can't be written, and nothing can be pulled any more.
+    fn save_here(&mut self, session: &DebugSession, images: &Images) -> Result<(), ReadFault>
+        ensures kept { Self.remaining self.new ≡ Self.remaining self.old }
+        ensures failed { OnErr result (Self.has_failed self.new ≡ true) }
+        ensures same_flag { OnOk result (Self.has_failed self.new ≡ Self.has_failed self.old) };
 }
 
-impl<S: Source> Source for LentSource<'_, S> {
-    ghost remaining = { λ l. S.remaining l.inner.now };
+impl<D: ScriptFiles, S: Source> SavingSource for IncludingScript<'_, D, S> {
+    fn save_here(&mut self, session: &DebugSession, images: &Images) -> Result<(), ReadFault> {
+        if self.pulled < self.given.text.len() || session.has_quit() {
+            return Ok(());
+        }
+        let Some(words) = self.given.save.take() else {
+            return Ok(());
+        };
+        let (alloc, files, script) = (self.alloc, self.files, self.script);
+        let written = files.write_saved(alloc, session, images, script, &words);
+        match self.given.saved(alloc, script, written) {
+            Ok(line) => files.show(line.as_str()),
+            Err(IncludeRefusal::Line(line)) if self.is_terminal => files.show(line.as_str()),
+            Err(refusal) => {
+                self.refusal = Some(refusal);
+                return Err(ReadFault);
+            }
+        }
+        Ok(())
+    }
+}
 
-    ghost has_failed = { λ l. S.has_failed l.inner.now };
-
-    fn pull(&mut self, buffer: &mut [u8]) -> Result<usize, ReadFault> {
-        self.inner.pull(buffer)
+impl<S: SavingSource> SavingSource for WholeLines<'_, S> {
+    fn save_here(&mut self, session: &DebugSession, images: &Images) -> Result<(), ReadFault> {
+        self.inner.save_here(session, images)
     }
 }

@@ -18,9 +18,11 @@ mod transcript;
 mod typing;
 mod whole_lines;
 
+pub use debug_session::DebugSession;
 pub use going_on::talk_behind_script;
-pub use including::{IncludeRefusal, ScriptFiles, TextFault};
-pub use including_script::{IncludingScript, LentSource};
+pub use include_words::path_beside;
+pub use including::{FileFault, IncludeRefusal, ScriptFiles};
+pub use including_script::{IncludingScript, SavingSource};
 pub use prompted::PromptedLines;
 pub use shown::ShownAnswers;
 pub use transcript::show_transcript;

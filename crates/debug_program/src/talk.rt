@@ -9,10 +9,11 @@ ghost use Rattle.debug_session.specs.Failing.{ReportsReadFault, ReportsWriteFaul
 ghost use Rattle.debug_session.specs.DebugChecksReportForm.TheVariants.{Answers};
 ghost use Rattle.debug_program.specs.Talking.{BeginsInput, DebugsInput, HasTalked, IsStatusOfInput, TakesPiece, TakesPieceInPart};
 
+use crate::including_script::SavingSource;
 use crate::typing::DebugTyping;
 use debug_session::{ReportForm, RunError, push_missing_end};
 use profile::images::Images;
-use profile::{Device, Sink, Source, WriteFault, push_all};
+use profile::{Device, Sink, WriteFault, push_all};
 use std::io::Write;
 
 // The most bytes that are read at once.
@@ -27,7 +28,7 @@ const PIECE: usize = 4096;
 ///
 /// `ReadFault`, `WriteFault`, `ScriptTooLong` and `Memory`, when a part of the answers may stand
 /// written.
-pub fn talk<R: Source, W: Write, E: Sink>(
+pub fn talk<R: SavingSource, W: Write, E: Sink>(
     typing: DebugTyping,
     images: &mut Images,
     reader: &mut R,
@@ -60,7 +61,7 @@ pub fn talk<R: Source, W: Write, E: Sink>(
 }
 
 // Answers all lines that are whole.
-pub(crate) fn answer_pieces<R: Source, W: Write, E: Sink>(
+pub(crate) fn answer_pieces<R: SavingSource, W: Write, E: Sink>(
     typing: &mut DebugTyping,
     images: &mut Images,
     reader: &mut R,
@@ -100,6 +101,9 @@ pub(crate) fn answer_pieces<R: Source, W: Write, E: Sink>(
             return Ok(());
         }
         answer_piece(typing, images, writer, errors, &piece[..count])?;
+        if reader.save_here(typing.session(), images).is_err() {
+            return Err(RunError::ReadFault);
+        }
     }
     Err(RunError::ScriptTooLong)
 }

@@ -54,11 +54,9 @@ impl DebugTyping {
     ghost use Rattle.profile.specs.images.Entries.{Entry};
     ghost use Rattle.debug_session.specs.DebugScript.{debug_lines_answer};
     ghost use Rattle.debug_session.specs.DebugState.{IsDebugged, debug_start_state};
-    ghost use Rattle.debug_program.specs.Typing.{HasTooLong, IsTakenInPart};
     ghost use Rattle.debug_session.specs.Failing.{ReportsWriteFault};
     ghost use Rattle.debug_session.specs.Session.{debug_state};
-    ghost use Rattle.debug_program.specs.Typing.{IsTaken, missing_ends_at_end, missing_ends_typed};
-    ghost use Rattle.debug_program.specs.Typing.{TypedPieceThenRest, TypedPiecesJoin, TypedTextTakenOneWay};
+    ghost use Rattle.debug_program.specs.Typing.{HasTooLong, IsTaken, IsTakenInPart, missing_ends_at_end, missing_ends_typed, TypedPieceThenRest, TypedPiecesJoin, TypedTextTakenOneWay};
 
     /// A session on a fresh machine, before anything is typed.
     ///

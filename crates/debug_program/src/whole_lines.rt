@@ -5,22 +5,22 @@ ghost use Rattle.debug_program.specs.GoingOn.{is_open_behind};
 
 use profile::{ReadFault, Source};
 
-/// A source with a line feed behind its last byte, where that is none.
+/// A source that is lent, with a line feed behind its last byte, where that is none.
 #[derive(Drop)]
-pub struct WholeLines<S> {
+pub struct WholeLines<'a, S> {
     /// What gives the bytes.
-    pub inner: S,
+    pub inner: &'a mut S,
     /// Whether the last byte that it gave was no line feed.
     pub is_line_open: bool,
 }
 
-impl<S: Source> Source for WholeLines<S> {
+impl<S: Source> Source for WholeLines<'_, S> {
     ghost use Rattle.std.specs.Prelude.{option_map};
     ghost use Rattle.debug_program.specs.GoingOn.{with_line_end};
 
-    ghost remaining = { λ w. option_map (with_line_end w.is_line_open) (S.remaining w.inner) };
+    ghost remaining = { λ w. option_map (with_line_end w.is_line_open) (S.remaining w.inner.now) };
 
-    ghost has_failed = { λ w. S.has_failed w.inner };
+    ghost has_failed = { λ w. S.has_failed w.inner.now };
 
     fn pull(&mut self, buffer: &mut [u8]) -> Result<usize, ReadFault> {
         let count = self.inner.pull(buffer)?;

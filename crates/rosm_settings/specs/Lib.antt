@@ -2,5 +2,6 @@
 pub mod Answering
 pub mod Endings
 pub mod ImageFiles
+pub mod SavedFiles
 pub mod Texts
 pub mod command_line

@@ -163,6 +163,20 @@ pub fn add_image<R: Read + Drop>(
     Ok(())
 }
 
+/// The bytes of a file, or only so many of them.
+///
+/// # Errors
+///
+/// The host's, and `OutOfMemory`.
+pub fn file_front<R: fs::Files>(
+    rt: &R,
+    alloc: Global,
+    path: &str,
+    most: u64,
+) -> io::Result<Vec<u8>> {
+    read_front(alloc, File::open(rt, path)?, most)
+}
+
 // The bytes of a reader, or only so many of them.
 #[tactic(auto, unfolding(crate::specs::ImageFiles::front_of))]
 fn read_front<R: Read + Drop>(alloc: Global, reader: R, most: u64) -> io::Result<Vec<u8>>

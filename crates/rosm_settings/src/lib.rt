@@ -10,6 +10,7 @@ pub mod command_line;
 pub mod image_files;
 pub mod process;
 pub mod refusal;
+pub mod saved_files;
 pub mod watched;
 
 pub use crate::command_line::{Files, Settings, SettingsError, settings};

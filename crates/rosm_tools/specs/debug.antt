@@ -1,3 +1,4 @@
--- The words and the exit status of the subcommand `debug`.
+-- The words, the exit status and the saved bytes of the subcommand `debug`.
 pub mod Endings
 pub mod Options
+pub mod Saves

@@ -7,6 +7,7 @@
 mod options;
 mod process;
 mod refusal;
+mod saves;
 mod scripts;
 mod words;
 

@@ -14,7 +14,7 @@ use crate::debug::words::{WantedSession, read_words};
 use command_shell_lines::read_script;
 use debug_program::talk::{hand_on, talk};
 use debug_program::{
-    DebugTyping, IncludingScript, LentSource, PromptedLines, ShownAnswers, show_transcript,
+    DebugTyping, IncludingScript, PromptedLines, SavingSource, ShownAnswers, show_transcript,
     talk_behind_script,
 };
 use debug_records::{DebugSettings, ReportForm, RunError, RunMeter, record_script};
@@ -147,7 +147,7 @@ fn answer_in_form<'a, R, S, E>(
 ) -> Result<u8, DebugRefusal<'a>>
 where
     R: AllocGlobal + fs::Files + Print,
-    S: Source,
+    S: SavingSource,
     E: Sink,
 {
     let alloc = rt.alloc();
@@ -224,7 +224,7 @@ where
         alloc,
         setting_of(wanted, form, meter),
         &mut images,
-        LentSource { inner: &mut script },
+        &mut script,
         &mut input,
         &mut Device::new(ShownAnswers::new(buffered, shows_answers)),
         errors,
@@ -238,18 +238,18 @@ fn answer_both<'a, F, S, W, E>(
     alloc: Global,
     setting: DebugSettings,
     images: &mut Images,
-    script: F,
+    script: &mut F,
     reader: &mut S,
     writer: &mut Device<W>,
     errors: &mut E,
     is_terminal: bool,
 ) -> Result<u8, DebugRefusal<'a>>
 where
-    F: Source + Drop,
-    S: Source,
+    F: SavingSource,
+    S: SavingSource,
     W: Write,
     E: Sink,
-    ensures { IfOk result (IsStatusOfBothScripts setting images.old (F.remaining script)
+    ensures { IfOk result (IsStatusOfBothScripts setting images.old (F.remaining script.old)
         (S.remaining reader.old)) }
 {
     let typing = DebugTyping::new(alloc, setting)?;
@@ -306,7 +306,7 @@ fn answer_lines<'a, S, W, E>(
     is_terminal: bool,
 ) -> Result<u8, DebugRefusal<'a>>
 where
-    S: Source,
+    S: SavingSource,
     W: Write,
     E: Sink,
     ensures { IfOk result (IsStatusOfScript setting images.old (S.remaining reader.old)) }

@@ -1,18 +1,23 @@
-//! The files that scripts include, as the host has them.
+//! The files that scripts include and save, as the host has them.
 
 ghost use Rattle.std.specs.Prelude.{◌≡◌, ◌≤◌, length, None, Ok, IfOk, IsErr, OnErr};
 ghost use Rattle.rosm_tools.specs.debug.Endings.{ending_by_reader};
 
 use crate::debug::refusal::DebugRefusal;
-use debug_program::{IncludeRefusal, ScriptFiles, TextFault};
+use crate::debug::saves::saved_bytes;
+use debug_program::{DebugSession, FileFault, IncludeRefusal, ScriptFiles, path_beside};
 use debug_records::RunError;
-use profile::images::ImageError;
+use profile::images::{ImageError, Images};
 use profile::memory_map::MOST_BYTES;
-use rosm_settings::image_files::FileError;
+use rosm_settings::image_files::{FileError, file_front};
+use rosm_settings::saved_files::{save_refusal, saved_words, write_file};
 use std::alloc::Global;
-use std::fs::File;
-use std::io::Read;
 use std::{fs, io};
+
+const LONG: &str = "more than 1048576 bytes";
+
+const SAVE_WANTS: &str = "SAVE wants an image and a file, as SAVE pots lib/pots, \
+or an address, how many bytes and a file, as SAVE &9000 64 table";
 
 /// The host's files.
 #[derive(Clone, Copy)]
@@ -28,8 +33,41 @@ impl<R: AllocGlobal + Eprint + fs::Files> ScriptFiles for HostScripts<'_, R> {
     // Nor what is against it.
     ghost is_refused = { λ _ _. Unit {0} };
 
-    fn read_text(&self, alloc: Global, path: &str) -> Result<Vec<u8>, TextFault> {
-        text_read(alloc, read_front(self.rt, alloc, path))
+    fn read_text(&self, alloc: Global, path: &str) -> Result<Vec<u8>, FileFault> {
+        text_read(
+            alloc,
+            file_front(self.rt, alloc, path, MOST_BYTES as u64 + 1),
+        )
+    }
+
+    fn write_saved(
+        &self,
+        alloc: Global,
+        session: &DebugSession,
+        images: &Images,
+        script: &str,
+        words: &[u8],
+    ) -> Result<String, FileFault> {
+        let Some((named, path)) = saved_words(words) else {
+            return Err(fault_of(String::from_str(alloc, SAVE_WANTS)));
+        };
+        let (Ok(path), Ok(found)) = (
+            path_beside(alloc, script, path),
+            saved_bytes(alloc, images, session.machine().memory(), named),
+        ) else {
+            return Err(FileFault::Memory);
+        };
+        let path = path.as_str();
+        let written = match found {
+            Some(bytes) => write_file(self.rt, path, bytes.as_slice()),
+            None => Err(save_refusal(named)),
+        };
+        match written {
+            Ok(count) => {
+                format!(in alloc; "save {path}: {count} bytes").map_err(|_| FileFault::Memory)
+            }
+            Err(reason) => Err(fault_of(format!(in alloc; "SAVE {path:?}: {reason}"))),
+        }
     }
 
     fn show(&self, message: &str) {
@@ -38,35 +76,25 @@ impl<R: AllocGlobal + Eprint + fs::Files> ScriptFiles for HostScripts<'_, R> {
 }
 
 // The bytes that were read, or why there are none.
-fn text_read(alloc: Global, read: io::Result<Vec<u8>>) -> Result<Vec<u8>, TextFault>
+fn text_read(alloc: Global, read: io::Result<Vec<u8>>) -> Result<Vec<u8>, FileFault>
     ensures read { IfOk read (λ text. length text.items ≤ 1048576 → result ≡ Ok text) }
     ensures unread { OnErr read (IsErr result) }
 {
     match read {
-        Ok(text) if text.len() > MOST_BYTES => Err(fault_of(alloc, "more than 1048576 bytes")),
+        Ok(text) if text.len() > MOST_BYTES => Err(fault_of(String::from_str(alloc, LONG))),
         Ok(text) => Ok(text),
         Err(error) => match FileError::from(error) {
-            FileError::Image(ImageError::Memory) => Err(TextFault::Memory),
-            error => match format!(in alloc; "{error}") {
-                Ok(reason) => Err(TextFault::Unread(reason)),
-                Err(_) => Err(TextFault::Memory),
-            },
+            FileError::Image(ImageError::Memory) => Err(FileFault::Memory),
+            error => Err(fault_of(format!(in alloc; "{error}"))),
         },
     }
 }
 
-// The bytes of a file, or so many of them that it is known to have too many.
-fn read_front<R: fs::Files>(rt: &R, alloc: Global, path: &str) -> io::Result<Vec<u8>> {
-    let file = File::open(rt, path)?;
-    let mut bytes = Vec::new(alloc);
-    file.take(MOST_BYTES as u64 + 1).read_to_end(&mut bytes)?;
-    Ok(bytes)
-}
-
-fn fault_of(alloc: Global, reason: &str) -> TextFault {
-    match String::from_str(alloc, reason) {
-        Ok(reason) => TextFault::Unread(reason),
-        Err(_) => TextFault::Memory,
+// The fault of this reason; where it isn't there memory ran out.
+fn fault_of<E: Drop>(reason: Result<String, E>) -> FileFault {
+    match reason {
+        Ok(reason) => FileFault::Reason(reason),
+        Err(_) => FileFault::Memory,
     }
 }
 
