@@ -105,6 +105,13 @@ talked_more old t now images images_t images_now input left next before here pro
           (ap (λ (a : DebugAnswered). a.text) (reported rest)));
     }
 
+-- what is left of the input is the same by another reader
+pub talked_so : (old t : DebugTyping) (images images_t : List Entry) (input left other before here : Option (List ℕ))
+    (is_terminal : Bool) → other ≡ left → HasTalked old t images images_t input left before here is_terminal
+    → HasTalked old t images images_t input other before here is_terminal
+talked_so old t images images_t input left other before here is_terminal same so_far =
+    subst (λ (v : Option (List ℕ)). HasTalked old t images images_t input v before here is_terminal) (sym same) so_far
+
 -- a piece that was taken, behind what stands before it
 pub takes_so : {A E : Type 0} (r : Result A E) (old now : DebugTyping) (images images_now : List Entry)
     (before between after : Option (List ℕ)) (piece : List ℕ) → (old.session.setting.form ≡ Answers → between ≡ before)

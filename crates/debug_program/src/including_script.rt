@@ -1,10 +1,10 @@
 //! A source that gives a script with the lines of the files that it includes.
 
-ghost use Rattle.std.specs.Prelude.{◌≡◌, true, OnErr, OnOk};
+ghost use Rattle.std.specs.Prelude.{◌≡◌, true, IfErr, OnErr, OnOk};
 
 use crate::including::{DEPTH, GivenText, IncludeRefusal, ScriptFiles};
 use crate::whole_lines::WholeLines;
-use debug_session::DebugSession;
+use debug_session::{DebugSession, RunError};
 use profile::images::Images;
 use profile::memory_map::MOST_BYTES;
 use profile::{ReadFault, Source};
@@ -236,15 +236,16 @@ pub trait SavingSource: Source {
     ///
     /// # Errors
     ///
-    /// It can't be written, and nothing can be pulled any more.
-    fn save_here(&mut self, session: &DebugSession, images: &Images) -> Result<(), ReadFault>
+    /// `ReadFault` where it can't be written, and nothing can be pulled any more.
+    fn save_here(&mut self, session: &DebugSession, images: &Images) -> Result<(), RunError>
         ensures kept { Self.remaining self.new ≡ Self.remaining self.old }
+        ensures errors { IfErr result (λ error. error ≡ RunError.ReadFault) }
         ensures failed { OnErr result (Self.has_failed self.new ≡ true) }
         ensures same_flag { OnOk result (Self.has_failed self.new ≡ Self.has_failed self.old) };
 }
 
 impl<D: ScriptFiles, S: Source> SavingSource for IncludingScript<'_, D, S> {
-    fn save_here(&mut self, session: &DebugSession, images: &Images) -> Result<(), ReadFault> {
+    fn save_here(&mut self, session: &DebugSession, images: &Images) -> Result<(), RunError> {
         if self.pulled < self.given.text.len() || session.has_quit() {
             return Ok(());
         }
@@ -258,7 +259,7 @@ impl<D: ScriptFiles, S: Source> SavingSource for IncludingScript<'_, D, S> {
             Err(IncludeRefusal::Line(line)) if self.is_terminal => files.show(line.as_str()),
             Err(refusal) => {
                 self.refusal = Some(refusal);
-                return Err(ReadFault);
+                return Err(RunError::ReadFault);
             }
         }
         Ok(())
@@ -266,7 +267,7 @@ impl<D: ScriptFiles, S: Source> SavingSource for IncludingScript<'_, D, S> {
 }
 
 impl<S: SavingSource> SavingSource for WholeLines<'_, S> {
-    fn save_here(&mut self, session: &DebugSession, images: &Images) -> Result<(), ReadFault> {
+    fn save_here(&mut self, session: &DebugSession, images: &Images) -> Result<(), RunError> {
         self.inner.save_here(session, images)
     }
 }

@@ -101,9 +101,7 @@ pub(crate) fn answer_pieces<R: SavingSource, W: Write, E: Sink>(
             return Ok(());
         }
         answer_piece(typing, images, writer, errors, &piece[..count])?;
-        if reader.save_here(typing.session(), images).is_err() {
-            return Err(RunError::ReadFault);
-        }
+        reader.save_here(typing.session(), images)?;
     }
     Err(RunError::ScriptTooLong)
 }

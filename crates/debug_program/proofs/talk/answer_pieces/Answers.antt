@@ -2,7 +2,7 @@
 use Rattle.std.proofs.Common.{◌≡◌, ℕ, true, inl, inr, refl, rules, sym, ap, ◌∙◌}
 use Rattle.debug_session.specs.Session.{debug_state}
 use Rattle.debug_session.specs.declared.session.DebugSession.{DebugSession}
-use Rattle.debug_program.proofs.TalkLemmas.{talked_front, talked_here, talked_more, talked_none, talked_part, talked_still_by}
+use Rattle.debug_program.proofs.TalkLemmas.{talked_front, talked_here, talked_more, talked_none, talked_part, talked_so, talked_still_by}
 use Rattle.debug_program.proofs.talk.answer_pieces.Goals as goal
 
 pub loop-pulls-init : goal.loop-pulls-init
@@ -14,9 +14,10 @@ loop-pulls-init g c = record {
 
 pub loop-pulls-preserved : goal.loop-pulls-preserved
 loop-pulls-preserved g c = record {
-  talked = talked_more _ _ _ _ _ _ _ _ _ _ _ _ _ _ _ _ c.loop-pulls.invariant.talked c.in-Ok.ensures.bytes.0
-      c.in_ok-push_prompt.ensures.plain c.hand_on.ensures.kept c.in_ok-answer_piece.ensures.taken c.answer_piece.ensures.setting;
-  read_flag = λ down. c.in-Ok.ensures.flag;
+  talked = talked_so _ _ _ _ _ _ _ _ _ _ c.save_here.ensures.kept
+      (talked_more _ _ _ _ _ _ _ _ _ _ _ _ _ _ _ _ c.loop-pulls.invariant.talked c.in-Ok.ensures.bytes.0
+      c.in_ok-push_prompt.ensures.plain c.hand_on.ensures.kept c.in_ok-answer_piece.ensures.taken c.answer_piece.ensures.setting);
+  read_flag = λ down. c.in_ok-save_here.ensures.same_flag ∙ c.in-Ok.ensures.flag;
   same_flag = c.in_ok-answer_piece.ensures.same_flag ∙ c.in_ok-hand_on.ensures.same_flag
       ∙ c.in_ok-push_prompt.ensures.same_flag ∙ c.loop-pulls.invariant.same_flag;
 }
@@ -35,6 +36,12 @@ pub returns-in_default-clause-read_front : goal.returns-in_default-clause-read_f
 returns-in_default-clause-read_front g c = λ is.
     talked_front _ _ _ _ _ _ _ _ _ _ _ c.loop-pulls.invariant.talked c.in_ok-push_prompt.ensures.plain
     c.hand_on.ensures.kept
+
+pub returns-in_err-save_here-clause-read_front : goal.returns-in_err-save_here-clause-read_front
+returns-in_err-save_here-clause-read_front g c = λ is.
+    talked_here _ _ _ _ _ _ _ _ _ (talked_more _ _ _ _ _ _ _ _ _ _ _ _ _ _ _ _ c.loop-pulls.invariant.talked
+    c.in-Ok.ensures.bytes.0 c.in_ok-push_prompt.ensures.plain c.hand_on.ensures.kept c.in_ok-answer_piece.ensures.taken
+    c.answer_piece.ensures.setting)
 
 pub returns-in_err-answer_piece-clause-memory : goal.returns-in_err-answer_piece-clause-memory
 returns-in_err-answer_piece-clause-memory g c = λ is.
