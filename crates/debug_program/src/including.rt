@@ -187,13 +187,14 @@ impl GivenText {
         let save = words_behind(alloc, b"SAVE", b"SAVE ", self.is_in_block, line)?;
         let whole = saved_line(alloc, &save, self.line.as_slice(), end)?;
         self.text.extend_from_slice(&whole)?;
-        if save.is_some() {
-            self.save = save;
-        }
         self.line.clear();
         self.is_in_block = is_open;
         self.number = self.number.saturating_add(1);
         self.own_number = self.own_number.saturating_add(1);
+        if save.is_none() {
+            return Ok(None);
+        }
+        self.save = save;
         Ok(None)
     }
 
