@@ -105,13 +105,6 @@ talked_more old t now images images_t images_now input left next before here pro
           (ap (λ (a : DebugAnswered). a.text) (reported rest)));
     }
 
--- what is left of the input is the same by another reader
-pub talked_so : (old t : DebugTyping) (images images_t : List Entry) (input left other before here : Option (List ℕ))
-    (is_terminal : Bool) → other ≡ left → HasTalked old t images images_t input left before here is_terminal
-    → HasTalked old t images images_t input other before here is_terminal
-talked_so old t images images_t input left other before here is_terminal same so_far =
-    subst (λ (v : Option (List ℕ)). HasTalked old t images images_t input v before here is_terminal) (sym same) so_far
-
 -- a piece that was taken, behind what stands before it
 pub takes_so : {A E : Type 0} (r : Result A E) (old now : DebugTyping) (images images_now : List Entry)
     (before between after : Option (List ℕ)) (piece : List ℕ) → (old.session.setting.form ≡ Answers → between ≡ before)
@@ -139,6 +132,15 @@ talked_still old t images images_t input left next before here prompted handed i
       subst (λ (w : Option (List ℕ)). AddsAllBut before w reported all) (sym (prompt plain.prompts)) (so_far.text plain rest) in
       AddsAllBut-more before prompted handed reported [] reported all stands (keeps_nothing prompted handed kept) refl;
 }
+
+-- what is written is handed on, and what is left of the input stays
+pub talked_so : (old t : DebugTyping) (images images_t : List Entry) (input left other before here handed : Option (List ℕ))
+    (is_terminal : Bool) → other ≡ left → Keeps here handed → HasTalked old t images images_t input left before here is_terminal
+    → HasTalked old t images images_t input other before handed is_terminal
+talked_so old t images images_t input left other before here handed is_terminal same kept so_far =
+    subst (λ (v : Option (List ℕ)). HasTalked old t images images_t input v before handed is_terminal) (sym same)
+    (talked_still old t images images_t input left left before here here handed is_terminal [] so_far (Consumes-nil left) refl
+    (λ _. refl) kept)
 
 -- the same where a read gives no bytes
 pub talked_still_by : (old t : DebugTyping) (images images_t : List Entry)

@@ -213,8 +213,7 @@ impl<D: ScriptFiles, S: Source> Source for IncludingScript<'_, D, S> {
                 return Ok(self.put(buffer));
             }
             if self.given.save.is_some() {
-                let refusal = self.given.refused_save(self.alloc, self.script, NOT_SAVED);
-                self.refusal = Some(refusal);
+                self.refusal = Some(self.given.refused_save(self.alloc, self.script, NOT_SAVED));
                 return Err(ReadFault);
             }
             let Ok(is_end) = self.read_on() else {

@@ -101,6 +101,7 @@ pub(crate) fn answer_pieces<R: SavingSource, W: Write, E: Sink>(
             return Ok(());
         }
         answer_piece(typing, images, writer, errors, &piece[..count])?;
+        hand_on(writer)?;
         reader.save_here(typing.session(), images)?;
     }
     Err(RunError::ScriptTooLong)
