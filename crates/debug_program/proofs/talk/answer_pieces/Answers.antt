@@ -14,7 +14,7 @@ loop-pulls-init g c = record {
 
 pub loop-pulls-preserved : goal.loop-pulls-preserved
 loop-pulls-preserved g c = record {
-  talked = talked_so _ _ _ _ _ _ _ _ _ _ _ c.save_here.ensures.kept c.hand_on-2.ensures.kept
+  talked = talked_so _ _ _ _ _ _ _ _ _ _ _ c.save_here.ensures.kept c.hand_on-in-loop-pulls.ensures.kept
       (talked_more _ _ _ _ _ _ _ _ _ _ _ _ _ _ _ _ c.loop-pulls.invariant.talked c.in-Ok.ensures.bytes.0
       c.in_ok-push_prompt.ensures.plain c.hand_on.ensures.kept c.in_ok-answer_piece.ensures.taken c.answer_piece.ensures.setting);
   read_flag = λ down. c.in_ok-save_here.ensures.same_flag ∙ c.in-Ok.ensures.flag;
@@ -39,7 +39,7 @@ returns-in_default-clause-read_front g c = λ is.
 
 pub returns-in_err-save_here-clause-read_front : goal.returns-in_err-save_here-clause-read_front
 returns-in_err-save_here-clause-read_front g c = λ is.
-    talked_here _ _ _ _ _ _ _ _ _ (talked_so _ _ _ _ _ _ _ _ _ _ _ c.save_here.ensures.kept c.hand_on-2.ensures.kept
+    talked_here _ _ _ _ _ _ _ _ _ (talked_so _ _ _ _ _ _ _ _ _ _ _ c.save_here.ensures.kept c.hand_on-in-loop-pulls.ensures.kept
     (talked_more _ _ _ _ _ _ _ _ _ _ _ _ _ _ _ _ c.loop-pulls.invariant.talked c.in-Ok.ensures.bytes.0
     c.in_ok-push_prompt.ensures.plain c.hand_on.ensures.kept c.in_ok-answer_piece.ensures.taken c.answer_piece.ensures.setting))
 
