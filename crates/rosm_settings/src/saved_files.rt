@@ -38,7 +38,7 @@ pub fn saved_words(words: &[u8]) -> Option<(SavedBytes<'_>, &str)> {
 
 /// The refusal of bytes that aren't there.
 pub fn save_refusal(named: SavedBytes<'_>) -> &'static str
-    ensures { result.now ≡ save_refusal named }
+    ensures { result.now ≡ save_refusal named.entry }
 {
     match named {
         SavedBytes::Image(_) => "refused NoImage",

@@ -22,7 +22,7 @@ pub fn saved_bytes(
     named: SavedBytes<'_>,
 ) -> Result<Option<Vec<u8>>, AllocError>
     ensures { IfOk result (λ found. option_map (λ bytes. bytes.items) found
-        ≡ bytes_saved images.now (bytes_of memory.now) named) }
+        ≡ bytes_saved images.now (bytes_of memory.now) named.entry) }
 {
     match named {
         SavedBytes::Image(name) => match images.get(name) {
