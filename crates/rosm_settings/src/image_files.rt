@@ -1,6 +1,6 @@
 //! Files taken in as images, and why one gives none.
 
-ghost use Rattle.std.specs.Prelude.{◌≡◌, [], ◌∷◌, ◌++◌, false, IfErr, IfOk, IfSome, OnErr, OnOk, Some};
+ghost use Rattle.std.specs.Prelude.{◌≡◌, ◌≤◌, [], ◌∷◌, ◌++◌, false, length, IfErr, IfOk, IfSome, IsErr, OnErr, OnOk, Ok, Some};
 ghost use Rattle.std.specs.Path.{path_file_name};
 ghost use Rattle.rosm_settings.specs.ImageFiles.{file_error as error_of, AddsFile, AddsFiles, AddsImageFile, RefusesFile, RefusesImage, StopsAtFile, front_of, is_host_error, names_for, names_of};
 ghost use Rattle.rosm_settings.specs.Texts.{rule_text};
@@ -175,6 +175,22 @@ pub fn file_front<R: fs::Files>(
     most: u64,
 ) -> io::Result<Vec<u8>> {
     read_front(alloc, File::open(rt, path)?, most)
+}
+
+/// The bytes of a script's file as they were read; `None` stands for more than it may have.
+///
+/// # Errors
+///
+/// The file's, and `None`.
+pub fn script_text(read: io::Result<Vec<u8>>) -> Result<Vec<u8>, Option<FileError>>
+    ensures read { IfOk read (λ text. length text.items ≤ 1048576 → result ≡ Ok text) }
+    ensures unread { OnErr read (IsErr result) }
+{
+    match read {
+        Ok(text) if text.len() > MOST_BYTES => Err(None),
+        Ok(text) => Ok(text),
+        Err(error) => Err(Some(FileError::from(error))),
+    }
 }
 
 // The bytes of a reader, or only so many of them.

@@ -1,6 +1,6 @@
 //! The files that scripts include and save, as the host has them.
 
-ghost use Rattle.std.specs.Prelude.{◌≡◌, ◌≤◌, length, None, Ok, IfOk, IsErr, OnErr};
+ghost use Rattle.std.specs.Prelude.{◌≡◌, None};
 ghost use Rattle.rosm_tools.specs.debug.Endings.{ending_by_reader};
 
 use crate::debug::refusal::DebugRefusal;
@@ -9,10 +9,10 @@ use debug_program::{DebugSession, FileFault, IncludeRefusal, ScriptFiles, path_b
 use debug_records::RunError;
 use profile::images::{ImageError, Images};
 use profile::memory_map::MOST_BYTES;
-use rosm_settings::image_files::{FileError, file_front};
+use rosm_settings::image_files::{FileError, file_front, script_text};
 use rosm_settings::saved_files::{save_refusal, saved_words, write_file};
 use std::alloc::Global;
-use std::{fs, io};
+use std::fs;
 
 const LONG: &str = "more than 1048576 bytes";
 
@@ -34,10 +34,12 @@ impl<R: AllocGlobal + Eprint + fs::Files> ScriptFiles for HostScripts<'_, R> {
     ghost is_refused = { λ _ _. Unit {0} };
 
     fn read_text(&self, alloc: Global, path: &str) -> Result<Vec<u8>, FileFault> {
-        text_read(
-            alloc,
-            file_front(self.rt, alloc, path, MOST_BYTES as u64 + 1),
-        )
+        match script_text(file_front(self.rt, alloc, path, MOST_BYTES as u64 + 1)) {
+            Ok(text) => Ok(text),
+            Err(None) => Err(fault_of(String::from_str(alloc, LONG))),
+            Err(Some(FileError::Image(ImageError::Memory))) => Err(FileFault::Memory),
+            Err(Some(error)) => Err(fault_of(format!(in alloc; "{error}"))),
+        }
     }
 
     fn write_saved(
@@ -72,21 +74,6 @@ impl<R: AllocGlobal + Eprint + fs::Files> ScriptFiles for HostScripts<'_, R> {
 
     fn show(&self, message: &str) {
         let _ = eprintln!(self.rt; "rosm_debug: {message}");
-    }
-}
-
-// The bytes that were read, or why there are none.
-fn text_read(alloc: Global, read: io::Result<Vec<u8>>) -> Result<Vec<u8>, FileFault>
-    ensures read { IfOk read (λ text. length text.items ≤ 1048576 → result ≡ Ok text) }
-    ensures unread { OnErr read (IsErr result) }
-{
-    match read {
-        Ok(text) if text.len() > MOST_BYTES => Err(fault_of(String::from_str(alloc, LONG))),
-        Ok(text) => Ok(text),
-        Err(error) => match FileError::from(error) {
-            FileError::Image(ImageError::Memory) => Err(FileFault::Memory),
-            error => Err(fault_of(format!(in alloc; "{error}"))),
-        },
     }
 }
 
