@@ -1,6 +1,7 @@
 -- What a script gives, byte by byte, and what of it is known.
 use Rattle.std.proofs.Common.{◌≡◌, ◌<◌, ◌-◌, ℕ, zero, suc, Bool, true, false, List, [], ◌∷◌, ◌++◌, length, Option, Some, None, IfSome, append_assoc, append-nil, ap, sym, subst, refl, ◌∙◌, arith}
 use Rattle.std.specs.Prelude.{◌==◌, ◌&&◌, ◌||◌, if◌then◌else◌, is_some, option_map, option_and_then, unwrap_or}
+use Rattle.std.proofs.lemmas.Bool.{or_parts}
 use Rattle.std.proofs.lemmas.Bool.Decides.{nat_tests}
 use Rattle.std.specs.Str.Lines.{strip_carriage_return}
 use Rattle.debug_lines.specs.BlockEnds.{one_line_more}
@@ -213,10 +214,6 @@ plain_choice : (is : Bool) (a b : Option GivenSoFar) (P : GivenSoFar → Type 0)
 plain_choice true a b P h k = h refl
 plain_choice false a b P h k = k
 
-either_false : (one other : Bool) → (one || other) ≡ false → (one ≡ false) × (other ≡ false)
-either_false true other none = absurd (let no : true ≡ false = none in cc)
-either_false false other none = (refl, none)
-
 other_false : (one other : Bool) → (one && other) ≡ false → one ≡ true → other ≡ false
 other_false true other none is = none
 other_false false other none is = absurd (let no : false ≡ true = is in cc)
@@ -242,7 +239,7 @@ plain_bytes : (files : Included) (script : List ℕ) (g : GivenSoFar) (bytes : L
 unfolding given_bytes asks_save
 plain_bytes files script g [] none still = (sym (append-nil (g.text ++ g.line)), still)
 plain_bytes files script g (byte ∷ rest) none still =
-    let parts = either_false ((byte == 10) && is_some (save_asked g))
+    let parts = or_parts ((byte == 10) && is_some (save_asked g))
     (unwrap_or (option_map (λ h. asks_save files script h rest) (given_byte files script g byte)) false) still in
     if_some_then (given_byte files script g byte) (λ h. given_bytes files script h rest)
     (λ h. (h.text ++ h.line ≡ (g.text ++ g.line) ++ byte ∷ []) × (asks_save files script h rest ≡ false))

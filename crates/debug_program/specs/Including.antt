@@ -16,15 +16,15 @@ abbrev pub text_of_word : List ℕ → List ℕ → List ℕ → Option (List �
 text_of_word word opening tidy = if is_same_word tidy word then Some [] else text_behind opening tidy
 
 -- the same of any line, if it stands in no block
-abbrev pub words_behind : List ℕ → List ℕ → Bool → List ℕ → Option (List ℕ)
-words_behind word opening is_in_block line =
+abbrev pub words_of_line : List ℕ → List ℕ → Bool → List ℕ → Option (List ℕ)
+words_of_line word opening is_in_block line =
     if is_in_block then None else text_of_word word opening (tidied_line line)
 
 abbrev pub include_of : Bool → List ℕ → Option (List ℕ)
-include_of is_in_block line = words_behind (codes "INCLUDE") (codes "INCLUDE ") is_in_block line
+include_of is_in_block line = words_of_line (codes "INCLUDE") (codes "INCLUDE ") is_in_block line
 
 abbrev pub save_of : Bool → List ℕ → Option (List ℕ)
-save_of is_in_block line = words_behind (codes "SAVE") (codes "SAVE ") is_in_block line
+save_of is_in_block line = words_of_line (codes "SAVE") (codes "SAVE ") is_in_block line
 
 -- a line with its end, or the remark in its place, by what it asks to be saved
 abbrev pub saved_line : Option (List ℕ) → List ℕ → List ℕ

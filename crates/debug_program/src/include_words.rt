@@ -3,7 +3,7 @@
 ghost use Rattle.std.specs.Prelude.{◌≡◌, ◌++◌, IfOk, option_map, string_bytes};
 ghost use Rattle.std.specs.Str.Lines.{strip_carriage_return};
 ghost use Rattle.debug_lines.specs.WholeDebugRequests.{is_debug_block_open_after};
-ghost use Rattle.debug_program.specs.Including.{is_path, note_text, path_beside, saved_line, text_of_word, words_behind};
+ghost use Rattle.debug_program.specs.Including.{is_path, note_text, path_beside, saved_line, text_of_word, words_of_line};
 
 use crate::typing::joined;
 use command_shell_lines::debug_words::text_behind;
@@ -19,7 +19,7 @@ use std::path::Path;
 /// # Errors
 ///
 /// Memory ran out.
-pub(crate) fn words_behind(
+pub(crate) fn words_of_line(
     alloc: Global,
     word: &[u8],
     opening: &[u8],
@@ -27,7 +27,7 @@ pub(crate) fn words_behind(
     line: &[u8],
 ) -> Result<Option<Vec<u8>>, AllocError>
     ensures { IfOk result (λ words. option_map (λ text. text.items) words
-        ≡ words_behind word.now opening.now is_in_block line.now) }
+        ≡ words_of_line word.now opening.now is_in_block line.now) }
 {
     if is_in_block {
         return Ok(None);

@@ -3,7 +3,7 @@
 ghost use Rattle.std.specs.Prelude.{◌≡◌, ℕ, true, List, Option, option_map, IfOk, IfNone, IfSome, IsSome, OnErr, OnOk, string_bytes};
 
 use crate::include_words::{
-    is_block_open_after, is_path, note_text, path_beside, saved_line, without_return, words_behind,
+    is_block_open_after, is_path, note_text, path_beside, saved_line, without_return, words_of_line,
 };
 use crate::typing::joined;
 use debug_session::DebugSession;
@@ -180,11 +180,11 @@ impl GivenText {
         ensures kept { OnErr result (given_of self.new ≡ given_of self.old) }
     {
         let line = without_return(self.line.as_slice());
-        if let Some(path) = words_behind(alloc, b"INCLUDE", b"INCLUDE ", self.is_in_block, line)? {
+        if let Some(path) = words_of_line(alloc, b"INCLUDE", b"INCLUDE ", self.is_in_block, line)? {
             return Ok(Some(path));
         }
         let is_open = is_block_open_after(alloc, self.is_in_block, line)?;
-        let save = words_behind(alloc, b"SAVE", b"SAVE ", self.is_in_block, line)?;
+        let save = words_of_line(alloc, b"SAVE", b"SAVE ", self.is_in_block, line)?;
         let whole = saved_line(alloc, &save, self.line.as_slice(), end)?;
         self.text.extend_from_slice(&whole)?;
         self.line.clear();
