@@ -121,7 +121,7 @@ by_takes : {A : Type 0} (takes other : Bool) (x x' y y' : A) → takes ≡ other
 by_takes takes other x x' y y' is first rest = rw (is, first, rest) refl
 
 -- what is kept of an answer, but for the labels and the past
-pub noted_state : DebugSettings → DebugState → Request → Answered → DebugState
+unfoldable pub noted_state : DebugSettings → DebugState → Request → Answered → DebugState
 noted_state c d r reported = record d {
   script = reported.state;
   answer = if takes_steps r then ending_of reported.text else reported.text;
@@ -158,7 +158,7 @@ session_noted old mid new images after answer takes r reported first next kept p
     (ap (λ (s : DebugSession). s.tally) first) (ap (λ (s : DebugSession). s.has_quit) first) (ap (λ (s : DebugSession). s.past) first)
 
 -- and with the past
-pub kept_state : DebugSettings → DebugState → ℕ → Request → Answered → DebugState
+unfoldable pub kept_state : DebugSettings → DebugState → ℕ → Request → Answered → DebugState
 kept_state c d number r reported = record (noted_state c d r reported) { past = past_after_line c d number r reported }
 
 -- what a session keeps of its past
@@ -204,7 +204,7 @@ noted_labels old mid new first next =
     ap (λ (s : DebugSession). s.labels) next ∙ ap (λ (s : DebugSession). s.labels) first
 
 -- and with the labels
-pub labelled_state : DebugSettings → DebugState → ℕ → Request → Answered → List (List ℕ) → DebugState
+unfoldable pub labelled_state : DebugSettings → DebugState → ℕ → Request → Answered → List (List ℕ) → DebugState
 labelled_state c d number r reported block = record (kept_state c d number r reported) { labels = labels_after d r reported block }
 
 pub session_labelled : (noted new : DebugSession) (after : List Entry) (c : DebugSettings) (d : DebugState) (number : ℕ) (r : Request)

@@ -20,7 +20,7 @@ returns-clause-reported g c images =
     let number = c.args.number in record {
       text = subst (λ (xs : List ℕ). Appends (g.W.Sink.contents c.args.sink.now) (g.W.Sink.contents c.push_refusal.new.sink)
           (report_of_refusal form c.args.self.now.tally number xs))
-          (c.as_slice-2.ensures.value ∙ c.in_ok-reported.ensures
+          (c.as_slice-shown.ensures.value ∙ c.in_ok-reported.ensures
           ∙ ap (reasoned_text number) (c.as_slice.ensures.value ∙ c.in_ok-reason.ensures images))
           c.in_ok-push_refusal.ensures.text;
       state = refused_state d c.in_ok-answer.answer.items (unknown_text number) c.with_refusal-self.result
