@@ -10,7 +10,7 @@ pub const HELP: &[u8] = b"lines of a script:
 lines of a debugging script:
   ; text, # text                             a comment, a heading
   WORDS a n, STACK n, BANKS, WHERE           words, the stack, the banks, the PC
-  FRAMES, LABELS                             open calls of module code; labels of images
+  FRAMES, LABELS, COMMANDS                   open calls of module code; labels; modules' commands
   LISTING name                               the lines of an image's block, with what they made
   DUMP a n, WHY                              bytes and characters; the error that R0 leads to
   WHY ON, WHY OFF                            what WHY shows below each answer error n

@@ -4,3 +4,5 @@ pub mod EnteringLemmas
 pub mod ListingLemmas
 pub mod PlanLemmas
 pub mod ServiceLemmas
+pub mod TailLemmas
+pub mod TurnLemmas

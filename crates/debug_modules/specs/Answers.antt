@@ -16,6 +16,7 @@ use Rattle.debug_labels.specs.Labels.{ImageLabels}
 use Rattle.debug_labels.specs.declared.images.ImagePlace.{ImagePlace}
 use Rattle.debug_labels.specs.place_views.Places.{naming_on}
 use Rattle.debug_listing.specs.SourceListing.{listing_text}
+use Rattle.debug_modes.specs.Changes.{ModeAnswer, why_line_answer}
 use Rattle.debug_modes.specs.declared.modes.DebugModes.{DebugModes}
 use Rattle.debug_modes.specs.expectations.Why.{why_text}
 use Rattle.debug_tables.specs.byte_writes.Put.{script_after_put}
@@ -24,7 +25,7 @@ use Rattle.debug_modules.specs.Describing.{module_described, module_meant}
 use Rattle.debug_modules.specs.Entering.{module_code_entered}
 use Rattle.debug_modules.specs.Listing.{commands_text}
 use Rattle.debug_modules.specs.Plans.{command_plan, tail_address, tail_bytes}
-use Rattle.debug_modules.specs.Requests.{Command, Commands, Form, Listing, ModuleAsked, ModuleView, Needs, Service, module_request}
+use Rattle.debug_modules.specs.Requests.{Command, Commands, Compare, Description, Explain, Form, Listing, ModuleAsked, ModuleView, Needs, Service, module_request}
 use Rattle.debug_modules.specs.Services.{is_served, service_called}
 use Rattle.debug_modules.specs.Taking.{LineSteps}
 use Rattle.debug_modules.specs.declared.answering.ModuleAnswer.{ModuleAnswer}
@@ -122,6 +123,8 @@ view_shown m labels sources s Commands = commands_text s.machine
 view_shown m labels sources s (Listing name) =
     listing_text m.counts (bytes_of_image s.images name) (bytes_of_image sources name)
     (option_map (λ (p : ImagePlace). p.start) (image_place (naming_on labels s.machine) name))
+view_shown m labels sources s (Compare one other) = images_compared s.images one other
+view_shown m labels sources s (Description d) = module_described s.machine.store.bytes d
 
 abbrev pub module_answered : DebugModes → List ImageLabels → List Entry → ℕ → ScriptState → PastState → ℕ
     → ModuleAsked → ModuleAnswered
@@ -129,14 +132,19 @@ module_answered m labels sources budget s p number (Command name tail) =
     command_answered m labels budget s p number name tail
 module_answered m labels sources budget s p number (Service service title) =
     service_answered m labels budget s p number service title
+module_answered m labels sources budget s p number (Explain is_on) = mode_shown s p (why_line_answer m is_on)
 module_answered m labels sources budget s p number (Form view) =
     only_shown m s p (view_shown m labels sources s view)
+
+-- what a line asks for: HELP and the title of a loaded module asks for what that says of itself
+abbrev pub module_line_asked : MachineState → List ℕ → Option ModuleAsked
+module_line_asked s line = option_or (module_request line) (option_map (λ m. Form (Description m)) (module_meant s line))
 
 -- what such a line is answered, and nothing of any other
 abbrev pub module_line_answered : DebugModes → List ImageLabels → List Entry → ℕ → ScriptState → PastState → ℕ
     → List ℕ → Option ModuleAnswered
 module_line_answered m labels sources budget s p number line =
-    option_map (module_answered m labels sources budget s p number) (module_request line)
+    option_map (module_answered m labels sources budget s p number) (module_line_asked s.machine line)
 
 -- what a line leaves that may be such a line
 abbrev pub script_after_modules : ScriptState → Option ModuleAnswered → ScriptState

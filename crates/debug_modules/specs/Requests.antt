@@ -1,5 +1,5 @@
--- The lines that have to do with the code of modules.
-use Rattle.std.specs.Prelude.{ℕ, ◌+◌, ◌==◌, ◌||◌, is_some, List, [], length, drop, codes, Option, Some, None, if◌then◌else◌}
+-- The lines that have to do with the code of modules, and with the errors of calls.
+use Rattle.std.specs.Prelude.{ℕ, ◌+◌, ◌==◌, ◌||◌, Bool, true, false, is_some, List, [], length, drop, codes, Option, Some, None, if◌then◌else◌}
 use Rattle.std.specs.Option.{option_map}
 use Rattle.std.specs.List.{position}
 use Rattle.command_shell_lines.specs.Numbers.{script_number}
@@ -9,11 +9,14 @@ use Rattle.instances_table.specs.declared.parts.ModuleInfo.{ModuleInfo}
 use Rattle.debug_modules.specs.declared.requests.ModuleRequest.{ModuleRequest}
 use Rattle.debug_modules.specs.declared.requests.ModuleRequest.TheVariants as line
 
--- what is only shown: what a line needs, the commands of all modules, or the listing of an image
+-- what is only shown: what a line needs, the commands of all modules, the listing of an image, where the images of
+-- two names differ, or what a module says of itself
 pub data ModuleView : Type 0 where
   Needs : List ℕ → ModuleView
   Commands : ModuleView
   Listing : List ℕ → ModuleView
+  Compare : List ℕ → List ℕ → ModuleView
+  Description : ModuleInfo → ModuleView
 
 pub data ModuleAsked : Type 0 where
   -- a command's name, and what stands behind it
@@ -30,7 +33,9 @@ abbrev pub module_request_of : ModuleRequest → ModuleAsked
 module_request_of (line.Command name tail) = Command name.now tail.now
 module_request_of (line.Service service title) = Service service title.now
 module_request_of line.Commands = Form Commands
+module_request_of (line.Explain is_on) = Explain is_on
 module_request_of (line.Listing name) = Form (Listing name.now)
+module_request_of (line.Compare one other) = Form (Compare one.now other.now)
 module_request_of (line.Form text) = Form (Needs text.now)
 
 -- the word before the first space (32), and what stands behind that
@@ -53,7 +58,14 @@ abbrev pub service_request : List ℕ → Option ModuleAsked
 service_request text =
     option_map (λ service. Service service (text_behind_word text)) (script_number (word_in_front text))
 
--- `COMMANDS`, `HELP COMMANDS`, `HELP LISTING`, `HELP COMMAND`, `HELP SERVICE`
+-- `COMPARE name other`: of two names, and no word more
+abbrev pub compare_request : List ℕ → Option ModuleAsked
+compare_request text = let other = text_behind_word text in
+    if length other == 0 || is_some (position (λ b. b == 32) other) then None
+    else Some (Form (Compare (word_in_front text) other))
+
+-- `COMMANDS`, `WHY ON`, `WHY OFF`, `HELP COMMANDS`, `HELP LISTING`, `HELP COMMAND`, `HELP SERVICE`,
+-- `HELP COMPARE`
 abbrev pub whole_request : List ℕ → Option ModuleAsked
 whole_request line =
     if is_same_word line (codes "COMMANDS") then Some (Form Commands) else (
@@ -65,13 +77,19 @@ whole_request line =
     if is_same_word line (codes "HELP COMMAND") then Some (Form (Needs
     (codes "COMMAND wants a module's command, with what stands behind it, as COMMAND PotSet 1 5"))) else (
     if is_same_word line (codes "HELP SERVICE") then Some (Form (Needs
-    (codes "SERVICE wants a number, and may have a module's title, as SERVICE &27 Pots"))) else
-    None))))
+    (codes "SERVICE wants a number, and may have a module's title, as SERVICE &27 Pots"))) else (
+    if is_same_word line (codes "HELP COMPARE") then Some (Form (Needs
+    (codes "COMPARE wants the names of two images, as COMPARE mine original"))) else
+    None)))))))
 
--- what a tidy line asks for, if it has to do with the code of modules
+-- what a tidy line asks for, if it has to do with the code of modules or with the errors of calls
+abbrev pub compare_asked : List ℕ → Option (List ℕ) → Option ModuleAsked
+compare_asked line (Some text) = compare_request text
+compare_asked line None = whole_request line
+
 abbrev pub listing_asked : List ℕ → Option (List ℕ) → Option ModuleAsked
 listing_asked line (Some name) = Some (Form (Listing name))
-listing_asked line None = whole_request line
+listing_asked line None = compare_asked line (text_behind (codes "COMPARE ") line)
 
 abbrev pub service_asked : List ℕ → Option (List ℕ) → Option ModuleAsked
 service_asked line (Some text) = service_request text

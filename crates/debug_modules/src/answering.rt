@@ -80,6 +80,9 @@ pub fn answer_module_line(
         Some(ModuleRequest::Commands) => {
             Ok(Some(ModuleAnswer::Shown(commands_text(alloc, session.machine())?)))
         }
+        Some(ModuleRequest::Explain(is_on)) => {
+            Ok(Some(ModuleAnswer::Shown(modes.explain(alloc, is_on)?)))
+        }
         Some(ModuleRequest::Listing(name)) => {
             let place = names_on(labels, session.machine()).image_place(name);
             let (image, source) = (images.get(name), sources.get(name));

@@ -18,8 +18,12 @@ pub enum ModuleRequest<'a> {
     Service(u32, &'a [u8]),
     /// `COMMANDS`: the commands of all modules.
     Commands,
+    /// `WHY ON` or `WHY OFF`: whether what WHY shows stands below each answer that ends with an error.
+    Explain(bool),
     /// `LISTING name`: the listing of the image of that name.
     Listing(&'a [u8]),
+    /// `COMPARE name other`: where the images of two names differ.
+    Compare(&'a [u8], &'a [u8]),
     /// `HELP COMMAND`, `HELP SERVICE`: what such a line needs.
     Form(&'a [u8]),
 }
@@ -34,7 +38,10 @@ pub fn module_request(line: &[u8]) -> Option<ModuleRequest<'_>>
             Some(text) => service_request(text),
             None => match text_behind(b"LISTING ", line) {
                 Some(name) => Some(ModuleRequest::Listing(name)),
-                None => whole_request(line),
+                None => match text_behind(b"COMPARE ", line) {
+                    Some(text) => compare_request(text),
+                    None => whole_request(line),
+                },
             },
         },
     }

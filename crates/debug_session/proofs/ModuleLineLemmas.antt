@@ -20,7 +20,7 @@ use Rattle.debug_modes.specs.expectations.Why.{why_text}
 use Rattle.debug_modules.specs.Answers.{ModuleAnswered, ModuleShown, Steps, Text, command_by, command_called, command_put_by, entered_so, error_below, module_answered, module_line_answered, module_line_asked, modes_after_modules, only_shown, past_after_modules, script_after_modules}
 use Rattle.debug_modules.specs.Entering.{at_entry, back_if_returned, module_code_entered, past_at_entry, status_gone_back, supervisor, with_status_back}
 use Rattle.debug_modules.specs.Plans.{command_plan, tail_address, tail_bytes}
-use Rattle.debug_modules.specs.Requests.{Command, Form, ModuleAsked, Service}
+use Rattle.debug_modules.specs.Requests.{Command, Explain, Form, ModuleAsked, Service}
 use Rattle.debug_modules.specs.Services.{ServiceState, entry_of_service, is_served, served_at, served_from, served_if, service_begun, service_called, service_code, service_left}
 use Rattle.debug_modules.specs.Taking.{LineSteps, line_steps}
 use Rattle.debug_modules.specs.declared.services.ServiceCode.{ServiceCode}
@@ -166,6 +166,7 @@ answer_kept m labels sources budget s p number (Command name tail) was =
     command_kept m labels budget s p number tail (command_plan s.machine name tail) was
 answer_kept m labels sources budget s p number (Service service title) was =
     service_kept m labels budget s p number service title (is_some s.machine.halt) (is_served s.machine.tables.modules title) was
+answer_kept m labels sources budget s p number (Explain is_on) was = was
 answer_kept m labels sources budget s p number (Form text) was = was
 
 shown_kept : (c : DebugSettings) (d : DebugState) (now : ScriptState) (shown : ModuleShown) → IsPastOf now d.past
@@ -186,7 +187,7 @@ asked_kept c d number line (Some asked) was =
 pub module_line_kept : (c : DebugSettings) (d : DebugState) (number : ℕ) (line : List ℕ) → IsPastOf d.script d.past
     → (let e = (module_line_by c d number line
     (module_line_answered d.modes d.labels d.sources c.budget d.script d.past number line)).state in IsPastOf e.script e.past)
-module_line_kept c d number line was = asked_kept c d number line (module_request line) was
+module_line_kept c d number line was = asked_kept c d number line (module_line_asked d.script.machine line) was
 
 -- WITH ANOTHER PAST
 
@@ -287,6 +288,7 @@ answer_same m labels sources budget s q p r number (Command name tail) =
     command_same m labels budget s q p r number tail (command_plan s.machine name tail)
 answer_same m labels sources budget s q p r number (Service service title) =
     service_same m labels budget s q p r number service title (is_some s.machine.halt) (is_served s.machine.tables.modules title)
+answer_same m labels sources budget s q p r number (Explain is_on) = refl
 answer_same m labels sources budget s q p r number (Form text) = refl
 
 shown_same : (c : DebugSettings) (d : DebugState) (p : PastState) (a : ModuleAnswered) (shown : ModuleShown)
@@ -318,4 +320,4 @@ pub module_line_same : (c : DebugSettings) (d : DebugState) (p : PastState) (num
     → IsSameButPast p (module_line_by c (record d { past = p }) number line
     (module_line_answered d.modes d.labels d.sources c.budget d.script p number line))
     (module_line_by c d number line (module_line_answered d.modes d.labels d.sources c.budget d.script d.past number line))
-module_line_same c d p number line = asked_same c d p number line (module_request line)
+module_line_same c d p number line = asked_same c d p number line (module_line_asked d.script.machine line)
