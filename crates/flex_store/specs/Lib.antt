@@ -9,6 +9,7 @@ pub use Rattle.profile.specs.declared.error.ErrorNumber
 pub mod Blocks
 pub mod Calls
 pub mod Changes
+pub mod Kept
 pub mod Laws
 pub mod Listed
 pub mod Marks

@@ -1,16 +1,17 @@
 //! The flex calls on one block: claimed, measured, cut, grown, changed in its midst, released.
 
-ghost use Rattle.std.specs.Prelude.{◌≡◌, ◌≤◌, ◌<◌, ◌+◌, ◌%◌, ◌==◌, ◌&&◌, not, ◌∷◌, [], false, None, MatchOption};
+ghost use Rattle.std.specs.Prelude.{◌≡◌, ◌≤◌, ◌<◌, ◌+◌, ◌%◌, ◌==◌, ◌&&◌, not, ◌∷◌, [], false, None, Some, MatchOption};
 ghost use Rattle.std.specs.List.{list_any};
 ghost use Rattle.profile.specs.Outcome.{Gives};
 ghost use Rattle.address_map.specs.Records.{is_heap_kind};
-ghost use Rattle.os_heap.specs.Store.{AreClasses, is_flex_store, IsSound, store_of};
+ghost use Rattle.os_heap.specs.Store.{is_flex_store, store_of};
 ghost use Rattle.address_map.specs.Bytes.{shares_address, word_at};
 ghost use Rattle.address_map.specs.Classes.{is_anchor, is_heap_class};
 ghost use Rattle.address_map.specs.Memory.{byte_at, class_of};
 ghost use Rattle.flex_store.specs.Blocks.{cut_of, find_block, has_anchor, more_of, new_block};
 ghost use Rattle.flex_store.specs.Calls.{flex_after_alloc, flex_after_extend, is_anchor_place, may_stand, mid_extended, flex_after_release, flex_block_size, spliced_at};
 ghost use Rattle.flex_store.specs.Changes.{Fits};
+ghost use Rattle.flex_store.specs.Kept.{IsFlexMap};
 ghost use Rattle.flex_store.specs.Relaid.{first_at};
 ghost use Rattle.flex_store.specs.Places.{IsHeaderOf};
 ghost use Rattle.flex_store.specs.Splices.{IsSplice};
@@ -202,9 +203,7 @@ pub(crate) fn alloc_block(
     anchor: u32,
     size: u32,
 ) -> Result<bool, ErrorNumber>
-    requires store { IsStoreAt map.old extent.old }
-    requires sound { IsSound (store_of map.old) }
-    requires classes { AreClasses map.old }
+    requires state { IsFlexMap map.old (Some extent.old) }
     ensures state { Gives (held_in map.old extent.old)
         (flex_after_alloc (store_of map.old) (held_in map.old extent.old) anchor size) result
         (held_in map.new extent.new) }
@@ -221,8 +220,7 @@ pub(crate) fn alloc_block(
 
 /// Whether the word at an address may become an anchor.
 fn may_hold(map: &AddressMap, extent: &Extent, anchor: u32) -> bool
-    requires store { IsStoreAt map.now extent.now }
-    requires sound { IsSound (store_of map.now) }
+    requires { IsFlexMap map.now (Some extent.now) }
     ensures { result ≡ (is_anchor_place (store_of map.now) anchor
         && may_stand (flex_store_in map.now extent.now) anchor) }
 {

@@ -1,12 +1,12 @@
 //! The flex store of a machine: where it lies, and the calls on it.
 
-ghost use Rattle.std.specs.Prelude.{ℕ, ◌≡◌, ◌⊎◌, ◌<◌, ◌++◌, ◌∷◌, [], true, false, Some, None, MatchOption, MatchResult, length};
+ghost use Rattle.std.specs.Prelude.{◌≡◌, ◌<◌, ◌++◌, ◌∷◌, [], true, false, Some, None, MatchOption, MatchResult, length};
 ghost use Rattle.profile.specs.Outcome.{Gives};
-ghost use Rattle.os_heap.specs.Store.{AreClasses, is_in_flex_store, IsSound, store_of};
-ghost use Rattle.address_map.specs.Bytes.{word_start};
-ghost use Rattle.address_map.specs.Memory.{bytes_of, class_of, is_mapped, layout, mapping, regions};
-ghost use Rattle.flex_store.specs.Calls.{flex_after_alloc, flex_after_init, flex_after_extend, flex_record, is_anchor_place, is_flex_range, mid_extended, flex_after_release, flex_block_size};
-ghost use Rattle.flex_store.specs.State.{held_in, state_of_flex, IsFlex, IsNoFlex, IsRecordedStore};
+ghost use Rattle.os_heap.specs.Store.{store_of};
+ghost use Rattle.address_map.specs.Memory.{bytes_of, is_mapped, regions};
+ghost use Rattle.flex_store.specs.Calls.{flex_after_alloc, flex_after_init, flex_after_extend, flex_record, is_flex_range, mid_extended, flex_after_release, flex_block_size};
+ghost use Rattle.flex_store.specs.Kept.{IsFlexMap, KeepsLayoutAndHeaps, KeepsMarksAndHeaps};
+ghost use Rattle.flex_store.specs.State.{held_in, state_of_flex, IsFlex};
 
 use crate::block::{alloc_block, block_size, extend_block, mid_extend_block, release_block};
 use address_map::{AddressMap, Kind};
@@ -74,22 +74,15 @@ impl Flex {
     /// Acorn C manual, "flex", flex_init; that the caller names the range is this project's own.
     #[tactic(auto, unfolding(crate::specs::State::state_of_flex, crate::specs::Calls::flex_after_init))]
     pub fn init(&mut self, map: &mut AddressMap, start: u32, end: u32) -> Result<(), ErrorNumber>
-        requires flex { IsFlex map.old self.old }
-        requires sound { IsSound (store_of map.old) }
-        requires classes { AreClasses map.old }
+        requires state { IsFlexMap map.old self.old.extent }
         requires few { length (store_of map.old).others < 68 }
         ensures state { Gives (state_of_flex map.old self.old)
             (flex_after_init (store_of map.old) (state_of_flex map.old self.old) start end) result
             (state_of_flex map.new self.new) }
-        ensures flex { IsFlex map.new self.new }
         ensures regions { MatchResult result
             (λ _. regions map.new ≡ regions map.old ++ flex_record start end ∷ [])
             (λ _. regions map.new ≡ regions map.old) }
-        ensures mapping { mapping map.new ≡ mapping map.old }
-        ensures marks { class_of map.new ≡ class_of map.old }
-        ensures heaps { (store_of map.new).heaps ≡ (store_of map.old).heaps }
-        ensures sound { IsSound (store_of map.new) }
-        ensures classes { AreClasses map.new }
+        ensures kept { KeepsMarksAndHeaps map.old map.new self.new.extent }
     {
         if self.extent.is_some() {
             return Err(ErrorNumber::FlexAlready);
@@ -124,21 +117,11 @@ impl Flex {
         anchor: u32,
         size: u32,
     ) -> Result<bool, ErrorNumber>
-        requires flex { IsFlex map.old self.old }
-        requires sound { IsSound (store_of map.old) }
-        requires classes { AreClasses map.old }
+        requires state { IsFlexMap map.old self.old.extent }
         ensures state { Gives (state_of_flex map.old self.old)
             (flex_after_alloc (store_of map.old) (state_of_flex map.old self.old) anchor size) result
             (state_of_flex map.new self.new) }
-        ensures flex { IsFlex map.new self.new }
-        ensures layout { layout map.new ≡ layout map.old }
-        ensures anchors { (a : ℕ) → (store_of map.new).anchor a ≡ true
-            → ((store_of map.old).anchor a ≡ true) ⊎ ((is_anchor_place (store_of map.old) (word_start a)
-            ≡ true)
-            ⊎ (is_in_flex_store (store_of map.old).others a ≡ true)) }
-        ensures heaps { (store_of map.new).heaps ≡ (store_of map.old).heaps }
-        ensures sound { IsSound (store_of map.new) }
-        ensures classes { AreClasses map.new }
+        ensures kept { KeepsLayoutAndHeaps map.old map.new self.new.extent }
     {
         let Some(mut extent) = self.extent else {
             return Err(ErrorNumber::FlexNotReady);
@@ -159,21 +142,11 @@ impl Flex {
     /// Acorn C manual, "flex", flex_free.
     #[tactic(auto, unfolding(crate::specs::State::state_of_flex, crate::specs::Calls::flex_after_release), using(crate::proofs::Keeping::keeping))]
     pub fn release(&mut self, map: &mut AddressMap, anchor: u32) -> Result<(), ErrorNumber>
-        requires flex { IsFlex map.old self.old }
-        requires sound { IsSound (store_of map.old) }
-        requires classes { AreClasses map.old }
+        requires state { IsFlexMap map.old self.old.extent }
         ensures state { Gives (state_of_flex map.old self.old)
             (flex_after_release (state_of_flex map.old self.old) anchor) result
             (state_of_flex map.new self.new) }
-        ensures flex { IsFlex map.new self.new }
-        ensures layout { layout map.new ≡ layout map.old }
-        ensures anchors { (a : ℕ) → (store_of map.new).anchor a ≡ true
-            → ((store_of map.old).anchor a ≡ true) ⊎ ((is_anchor_place (store_of map.old) (word_start a)
-            ≡ true)
-            ⊎ (is_in_flex_store (store_of map.old).others a ≡ true)) }
-        ensures heaps { (store_of map.new).heaps ≡ (store_of map.old).heaps }
-        ensures sound { IsSound (store_of map.new) }
-        ensures classes { AreClasses map.new }
+        ensures kept { KeepsLayoutAndHeaps map.old map.new self.new.extent }
     {
         let Some(mut extent) = self.extent else {
             return Err(ErrorNumber::FlexNotReady);
@@ -201,21 +174,11 @@ impl Flex {
         anchor: u32,
         size: u32,
     ) -> Result<bool, ErrorNumber>
-        requires flex { IsFlex map.old self.old }
-        requires sound { IsSound (store_of map.old) }
-        requires classes { AreClasses map.old }
+        requires state { IsFlexMap map.old self.old.extent }
         ensures state { Gives (state_of_flex map.old self.old)
             (flex_after_extend (state_of_flex map.old self.old) anchor size) result
             (state_of_flex map.new self.new) }
-        ensures flex { IsFlex map.new self.new }
-        ensures layout { layout map.new ≡ layout map.old }
-        ensures anchors { (a : ℕ) → (store_of map.new).anchor a ≡ true
-            → ((store_of map.old).anchor a ≡ true) ⊎ ((is_anchor_place (store_of map.old) (word_start a)
-            ≡ true)
-            ⊎ (is_in_flex_store (store_of map.old).others a ≡ true)) }
-        ensures heaps { (store_of map.new).heaps ≡ (store_of map.old).heaps }
-        ensures sound { IsSound (store_of map.new) }
-        ensures classes { AreClasses map.new }
+        ensures kept { KeepsLayoutAndHeaps map.old map.new self.new.extent }
     {
         let Some(mut extent) = self.extent else {
             return Err(ErrorNumber::FlexNotReady);
@@ -247,21 +210,11 @@ impl Flex {
         at: u32,
         by: u32,
     ) -> Result<bool, ErrorNumber>
-        requires flex { IsFlex map.old self.old }
-        requires sound { IsSound (store_of map.old) }
-        requires classes { AreClasses map.old }
+        requires state { IsFlexMap map.old self.old.extent }
         ensures state { Gives (state_of_flex map.old self.old)
             (mid_extended (state_of_flex map.old self.old) anchor at by) result
             (state_of_flex map.new self.new) }
-        ensures flex { IsFlex map.new self.new }
-        ensures layout { layout map.new ≡ layout map.old }
-        ensures anchors { (a : ℕ) → (store_of map.new).anchor a ≡ true
-            → ((store_of map.old).anchor a ≡ true) ⊎ ((is_anchor_place (store_of map.old) (word_start a)
-            ≡ true)
-            ⊎ (is_in_flex_store (store_of map.old).others a ≡ true)) }
-        ensures heaps { (store_of map.new).heaps ≡ (store_of map.old).heaps }
-        ensures sound { IsSound (store_of map.new) }
-        ensures classes { AreClasses map.new }
+        ensures kept { KeepsLayoutAndHeaps map.old map.new self.new.extent }
     {
         let Some(mut extent) = self.extent else {
             return Err(ErrorNumber::FlexNotReady);
@@ -290,12 +243,9 @@ fn is_flex_range(map: &AddressMap, start: u32, end: u32) -> bool
 
 /// Records the range of the store.
 fn record_store(map: &mut AddressMap, start: u32, end: u32)
-    requires flex { IsNoFlex map.old }
+    requires state { IsFlexMap map.old None }
     requires range { is_flex_range (store_of map.old) start end ≡ true }
-    requires sound { IsSound (store_of map.old) }
-    requires classes { AreClasses map.old }
     requires few { length (store_of map.old).others < 68 }
-    ensures store { IsRecordedStore map.new (record { start = start; end = end; used = 0 }) }
     ensures state { held_in map.new (record { start = start; end = end; used = 0 })
         ≡ record {
           bytes = bytes_of map.old;
@@ -303,11 +253,8 @@ fn record_store(map: &mut AddressMap, start: u32, end: u32)
               (record { start = start; end = end; blocks = [] });
         } }
     ensures regions { regions map.new ≡ regions map.old ++ flex_record start end ∷ [] }
-    ensures mapping { mapping map.new ≡ mapping map.old }
-    ensures marks { class_of map.new ≡ class_of map.old }
-    ensures heaps { (store_of map.new).heaps ≡ (store_of map.old).heaps }
-    ensures sound { IsSound (store_of map.new) }
-    ensures classes { AreClasses map.new }
+    ensures kept { KeepsMarksAndHeaps map.old map.new
+        (Some (record { start = start; end = end; used = 0 })) }
 {
     map.own(Kind::FlexStore, start, end - start);
 }

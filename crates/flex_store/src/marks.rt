@@ -3,8 +3,9 @@
 
 ghost use Rattle.std.specs.Prelude.{ℕ, ◌≡◌, ◌+◌, ◌%◌, ◌<◌, ◌^◌, true};
 ghost use Rattle.address_map.specs.declared.class.Class.TheVariants.{Anchor, FlexHeader, Plain};
-ghost use Rattle.address_map.specs.Memory.{byte_at, class_of, is_mapped, layout};
+ghost use Rattle.address_map.specs.Memory.{class_of, is_mapped};
 ghost use Rattle.address_map.specs.Records.{is_word_kind, with_mark, without_mark};
+ghost use Rattle.flex_store.specs.Kept.{KeepsBytes};
 ghost use Rattle.flex_store.specs.Marks.{with_block_marks};
 
 use address_map::{AddressMap, Kind};
@@ -18,8 +19,7 @@ fn mark(map: &mut AddressMap, kind: Kind, at: u32)
     requires aligned { at % 4 ≡ 0 }
     requires mapped { is_mapped map.old at ≡ true }
     ensures marks { (a : ℕ) → class_of map.new a ≡ with_mark kind at (class_of map.old) a }
-    ensures bytes { byte_at map.new ≡ byte_at map.old }
-    ensures layout { layout map.new ≡ layout map.old }
+    ensures kept { KeepsBytes map.old map.new }
 {
     map.own(kind, at, WORD);
 }
@@ -30,8 +30,7 @@ fn clear_mark(map: &mut AddressMap, kind: Kind, at: u32)
     requires aligned { at % 4 ≡ 0 }
     requires mapped { is_mapped map.old at ≡ true }
     ensures marks { (a : ℕ) → class_of map.new a ≡ without_mark kind at (class_of map.old) a }
-    ensures bytes { byte_at map.new ≡ byte_at map.old }
-    ensures layout { layout map.new ≡ layout map.old }
+    ensures kept { KeepsBytes map.old map.new }
 {
     map.disown(kind, at);
 }
@@ -46,8 +45,7 @@ pub(crate) fn mark_block(map: &mut AddressMap, header: u32, anchor: u32)
     requires there { is_mapped map.old anchor ≡ true }
     ensures marks { (a : ℕ) → class_of map.new a ≡ with_block_marks FlexHeader Anchor header anchor
         (class_of map.old) a }
-    ensures bytes { byte_at map.new ≡ byte_at map.old }
-    ensures layout { layout map.new ≡ layout map.old }
+    ensures kept { KeepsBytes map.old map.new }
 {
     mark(map, Kind::FlexHeader, header);
     mark(map, Kind::FlexHeader, header + WORD);
@@ -64,8 +62,7 @@ pub(crate) fn clear_block(map: &mut AddressMap, header: u32, anchor: u32)
     requires there { is_mapped map.old anchor ≡ true }
     ensures marks { (a : ℕ) → class_of map.new a ≡ with_block_marks Plain Plain header anchor
         (class_of map.old) a }
-    ensures bytes { byte_at map.new ≡ byte_at map.old }
-    ensures layout { layout map.new ≡ layout map.old }
+    ensures kept { KeepsBytes map.old map.new }
 {
     clear_mark(map, Kind::FlexHeader, header);
     clear_mark(map, Kind::FlexHeader, header + WORD);

@@ -2,8 +2,9 @@
 
 ghost use Rattle.std.specs.Prelude.{ℕ, ◌≡◌, ◌≤◌, ◌<◌, ◌+◌, ◌-◌, ◌%◌, ◌^◌, ◌++◌, [], ◌∷◌, true};
 ghost use Rattle.address_map.specs.Bytes.{AreMapped, bytes_between, with_bytes_at};
-ghost use Rattle.address_map.specs.Memory.{byte_at, bytes_of, class_of, is_mapped, layout};
+ghost use Rattle.address_map.specs.Memory.{byte_at, bytes_of, is_mapped};
 ghost use Rattle.flex_store.specs.Blocks.{contents, whole_words_of_bytes, block_holding, new_block, bytes_after_splice, bytes_taken_by, whole_words};
+ghost use Rattle.flex_store.specs.Kept.{KeepsMarks};
 ghost use Rattle.flex_store.specs.Relaid.{blocks_behind_first, blocks_after_removal, first_at, MayLie, Relaid, blocks_after_splice};
 ghost use Rattle.flex_store.specs.Splices.{size_after_splice, CanBytesMove, IsSplice, HasBytesForSizes};
 ghost use Rattle.flex_store.specs.State.{AreAnchorWords, IsText};
@@ -24,8 +25,7 @@ fn respace(map: &mut AddressMap, contents: u32, size: u32, splice: &Splice, end:
         (byte_at map.old) contents size) splice.now.at splice.now.cut splice.now.more)
         ++ bytes_between (byte_at map.old) (contents + whole_words size)
         (end - (contents + whole_words size))) a }
-    ensures layout { layout map.new ≡ layout map.old }
-    ensures marks { class_of map.new ≡ class_of map.old }
+    ensures kept { KeepsMarks map.old map.new }
 {
     let old_end = contents + whole_words(u64::from(size)) as u32;
     let new_end = contents + whole_words(splice.size_after(size)) as u32;

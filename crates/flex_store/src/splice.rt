@@ -2,9 +2,10 @@
 
 ghost use Rattle.std.specs.Prelude.{ℕ, ◌≡◌, ◌≤◌, ◌<◌, ◌+◌, ◌-◌, ◌^◌, ◌++◌, ◌∷◌, true};
 ghost use Rattle.address_map.specs.Bytes.{AreMapped, bytes_between, with_bytes_at};
-ghost use Rattle.address_map.specs.Memory.{anchor_of, byte_at, class_of, is_mapped, layout};
+ghost use Rattle.address_map.specs.Memory.{anchor_of, byte_at, is_mapped};
 ghost use Rattle.flex_store.specs.Calls.{breaks_anchor};
 ghost use Rattle.flex_store.specs.Blocks.{whole_words_of_bytes, bytes_after_splice, bytes_taken_by, whole_words};
+ghost use Rattle.flex_store.specs.Kept.{KeepsMarks};
 ghost use Rattle.flex_store.specs.Splices.{size_after_splice, IsSplice, HasBytesForSizes};
 
 use crate::walk::{HEADER, taken, whole_words};
@@ -55,8 +56,7 @@ pub(crate) fn splice_bytes(map: &mut AddressMap, contents: u32, size: u32, splic
     ensures bytes { (a : ℕ) → byte_at map.new a ≡ with_bytes_at (byte_at map.old) contents
         (whole_words_of_bytes (bytes_after_splice (bytes_between (byte_at map.old) contents size)
         splice.now.at splice.now.cut splice.now.more)) a }
-    ensures layout { layout map.new ≡ layout map.old }
-    ensures marks { class_of map.new ≡ class_of map.old }
+    ensures kept { KeepsMarks map.old map.new }
 {
     let gap = splice.at - splice.cut;
     let tail = gap + splice.more;

@@ -6,6 +6,7 @@ ghost use Rattle.address_map.specs.Bytes.{word_at};
 ghost use Rattle.address_map.specs.Memory.{byte_at, bytes_of, class_of, is_mapped, layout};
 ghost use Rattle.address_map.specs.declared.class.Class.TheVariants.{Anchor, FlexHeader, Plain};
 ghost use Rattle.flex_store.specs.Blocks.{is_in_contents, bytes_taken_by, whole_words};
+ghost use Rattle.flex_store.specs.Kept.{KeepsBytes};
 ghost use Rattle.flex_store.specs.Marks.{with_marks};
 ghost use Rattle.flex_store.specs.Memory.{blocks_in, laid_out};
 ghost use Rattle.flex_store.specs.Shifts.{following, AreShort};
@@ -51,8 +52,7 @@ pub(crate) fn taken(size: u64) -> u64
 pub(crate) fn unmark(map: &mut AddressMap, at: u32, end: u32)
     requires text { IsText (bytes_of map.old) at end (blocks_in (byte_at map.old) at end) }
     requires words { AreAnchorWords (is_mapped map.old) at end (blocks_in (byte_at map.old) at end) }
-    ensures bytes { byte_at map.new ≡ byte_at map.old }
-    ensures layout { layout map.new ≡ layout map.old }
+    ensures kept { KeepsBytes map.old map.new }
     ensures marks { (a : ℕ) → class_of map.new a
         ≡ with_marks Plain Plain at (blocks_in (byte_at map.old) at end) (class_of map.old) a }
 {
