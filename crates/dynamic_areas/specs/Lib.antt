@@ -8,12 +8,14 @@ pub use Rattle.os_heap.specs.Order
 pub use Rattle.os_heap.specs.Payloads
 pub use Rattle.os_heap.specs.Ranges
 pub use Rattle.os_heap.specs.Room
+pub use Rattle.os_heap.specs.Sound
 pub use Rattle.os_heap.specs.Store
 pub use Rattle.os_heap.specs.declared.payload.Payload
 pub mod Areas
 pub mod Changing
 pub mod Creating
 pub mod Ground
+pub mod Kept
 pub mod Laws
 pub mod PageCounts
 pub mod Places

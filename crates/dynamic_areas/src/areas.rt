@@ -1,11 +1,10 @@
 //! The table of areas, and the calls that read it or give an area another number.
 
-ghost use Rattle.std.specs.Prelude.{ℕ, ◌≡◌, ◌≤◌, ◌<◌, length, Ok, Err, MatchResult};
+ghost use Rattle.std.specs.Prelude.{◌≡◌, ◌≤◌, ◌<◌, length, Ok, Err, MatchResult};
 ghost use Rattle.profile.specs.Outcome.{Leaves};
 ghost use Rattle.address_map.specs.Memory.{free_pages};
-ghost use Rattle.os_heap.specs.Store.{Store};
 ghost use Rattle.dynamic_areas.specs.Areas.{area_in, asked_number, extent_of, extent_asked, next_number, module_area, start_area_table, areas_after_renumber, with_area, with_areas, with_pages, without_area};
-ghost use Rattle.dynamic_areas.specs.Ground.{AreAreas};
+ghost use Rattle.dynamic_areas.specs.Kept.{KeepsAreaTable};
 ghost use Rattle.dynamic_areas.specs.Rooms.{IsAreaTable};
 
 use crate::area::{Area, Extent, MOST_NAME_BYTES};
@@ -124,19 +123,7 @@ impl Areas {
         requires { IsAreaTable self.old.areas }
         ensures areas { Leaves self.old.areas (areas_after_renumber self.old.areas old new) result
             self.new.areas }
-        ensures sizes { self.new.sizes ≡ self.old.sizes }
-        ensures table { IsAreaTable self.new.areas }
-        ensures ground { (s : Store) (free : ℕ) → AreAreas s free self.old → AreAreas s free self.new }
-    {
-        self.renumber_in_list(old, new)
-    }
-
-    fn renumber_in_list(&mut self, old: u32, new: u32) -> Result<(), ErrorNumber>
-        requires { IsAreaTable self.old.areas }
-        ensures areas { Leaves self.old.areas (areas_after_renumber self.old.areas old new) result
-            self.new.areas }
-        ensures sizes { self.new.sizes ≡ self.old.sizes }
-        ensures table { IsAreaTable self.new.areas }
+        ensures kept { KeepsAreaTable self.old self.new }
     {
         renumber(&mut self.list, old, new)
     }

@@ -1,13 +1,12 @@
 //! OS_ChangeDynamicArea: an area grows or shrinks by pages.
 
 ghost use Rattle.std.specs.Prelude.{ℕ, ◌≡◌, ◌≤◌, ◌+◌, ◌-◌, ◌*◌, Some};
-ghost use Rattle.address_map.specs.Memory.{free_pages, regions, StaysInPlace};
-ghost use Rattle.os_heap.specs.Order.{KeepsOrder};
-ghost use Rattle.os_heap.specs.Store.{store_of, AreClasses};
+ghost use Rattle.address_map.specs.Memory.{free_pages};
+ghost use Rattle.os_heap.specs.Store.{store_of};
 ghost use Rattle.dynamic_areas.specs.declared.area.Area.{Area};
 ghost use Rattle.dynamic_areas.specs.Areas.{find_area};
 ghost use Rattle.dynamic_areas.specs.Changing.{change_answer, area_table_changed, area_table_more, area_table_less, loose_pages, store_changed, store_extended, store_more, store_less, store_reduced, AreLoose};
-ghost use Rattle.dynamic_areas.specs.Ground.{AreAreas, IsGround};
+ghost use Rattle.dynamic_areas.specs.Kept.{IsAreaMap, IsGroundMap, KeepsAreaOrder, KeepsGround};
 
 use crate::area::Changed;
 use crate::areas::Areas;
@@ -29,18 +28,13 @@ impl Areas {
     ///
     /// RISC OS 3 Programmer's Reference Manual, "OS_ChangeDynamicArea".
     pub fn change(&mut self, map: &mut AddressMap, number: u32, amount: u32) -> Changed
-        requires areas { AreAreas (store_of map.old) (free_pages map.old) self.old }
-        requires classes { AreClasses map.old }
+        requires state { IsAreaMap map.old self.old }
         ensures answer { result
             ≡ change_answer self.old.areas (store_of map.old) (free_pages map.old) number amount }
         ensures area_table { self.new ≡ area_table_changed self.old number amount result.bytes }
         ensures store { store_of map.new
             ≡ store_changed (store_of map.old) self.old.areas number amount result.bytes }
-        ensures areas { AreAreas (store_of map.new) (free_pages map.new) self.new }
-        ensures classes { AreClasses map.new }
-        ensures order { KeepsOrder map.old map.new }
-        ensures stays { StaysInPlace map.old map.new }
-        ensures sizes { self.new.sizes ≡ self.old.sizes }
+        ensures kept { KeepsAreaOrder map.old map.new self.old self.new }
     {
         let answer = self.measure(map, number, amount);
         let count = answer.bytes / PAGE_SIZE;
@@ -55,19 +49,14 @@ impl Areas {
     /// Maps `count` pages for an area, after those that it has, and gives the module area's heap
     /// its end.
     fn extend(&mut self, map: &mut AddressMap, number: u32, count: u32)
-        requires areas { AreAreas (store_of map.old) (free_pages map.old) self.old }
+        requires state { IsAreaMap map.old self.old }
         requires room { (a : Area) → find_area number self.old.areas ≡ Some a
             → 4096 * (a.pages + count) ≤ a.maximum }
         requires pool { (a : Area) → find_area number self.old.areas ≡ Some a → count ≤ free_pages map.old }
-        requires classes { AreClasses map.old }
         ensures area_table { self.new ≡ area_table_more self.old number count }
         ensures store { store_of map.new
             ≡ store_extended (store_of map.old) number count (find_area number self.old.areas) }
-        ensures areas { AreAreas (store_of map.new) (free_pages map.new) self.new }
-        ensures classes { AreClasses map.new }
-        ensures order { KeepsOrder map.old map.new }
-        ensures stays { StaysInPlace map.old map.new }
-        ensures sizes { self.new.sizes ≡ self.old.sizes }
+        ensures kept { KeepsAreaOrder map.old map.new self.old self.new }
     {
         let Some(area) = find(self.list(), number) else {
             return;
@@ -81,18 +70,13 @@ impl Areas {
 
     /// Takes `count` pages away from the top of an area, once the module area's heap has its end.
     fn reduce(&mut self, map: &mut AddressMap, number: u32, count: u32)
-        requires areas { AreAreas (store_of map.old) (free_pages map.old) self.old }
+        requires state { IsAreaMap map.old self.old }
         requires loose { (a : Area) → find_area number self.old.areas ≡ Some a
             → count ≤ loose_pages (store_of map.old) a }
-        requires classes { AreClasses map.old }
         ensures area_table { self.new ≡ area_table_less self.old number count }
         ensures store { store_of map.new
             ≡ store_reduced (store_of map.old) number count (find_area number self.old.areas) }
-        ensures areas { AreAreas (store_of map.new) (free_pages map.new) self.new }
-        ensures classes { AreClasses map.new }
-        ensures order { KeepsOrder map.old map.new }
-        ensures stays { StaysInPlace map.old map.new }
-        ensures sizes { self.new.sizes ≡ self.old.sizes }
+        ensures kept { KeepsAreaOrder map.old map.new self.old self.new }
     {
         let Some(area) = find(self.list(), number) else {
             return;
@@ -105,19 +89,14 @@ impl Areas {
 
     /// Maps `count` pages for an area, after those that it has.
     pub(crate) fn grow(&mut self, map: &mut AddressMap, number: u32, count: u32)
-        requires ground { IsGround (store_of map.old) (free_pages map.old) self.old }
+        requires state { IsGroundMap map.old self.old }
         requires room { (a : Area) → find_area number self.old.areas ≡ Some a
             → 4096 * (a.pages + count) ≤ a.maximum }
         requires pool { count ≤ free_pages map.old }
-        requires classes { AreClasses map.old }
         ensures area_table { self.new ≡ area_table_more self.old number count }
         ensures store { store_of map.new
             ≡ store_more (store_of map.old) count (find_area number self.old.areas) }
-        ensures ground { IsGround (store_of map.new) (free_pages map.new) self.new }
-        ensures classes { AreClasses map.new }
-        ensures regions { regions map.new ≡ regions map.old }
-        ensures stays { StaysInPlace map.old map.new }
-        ensures sizes { self.new.sizes ≡ self.old.sizes }
+        ensures kept { KeepsGround map.old map.new self.old self.new }
     {
         let Some(area) = find(self.list(), number) else {
             return;
@@ -129,18 +108,13 @@ impl Areas {
 
     /// Takes `count` pages away from the top of an area.
     pub(crate) fn shrink(&mut self, map: &mut AddressMap, number: u32, count: u32)
-        requires ground { IsGround (store_of map.old) (free_pages map.old) self.old }
+        requires state { IsGroundMap map.old self.old }
         requires loose { (a : Area) → find_area number self.old.areas ≡ Some a
             → AreLoose (store_of map.old) a count }
-        requires classes { AreClasses map.old }
         ensures area_table { self.new ≡ area_table_less self.old number count }
         ensures store { store_of map.new
             ≡ store_less (store_of map.old) count (find_area number self.old.areas) }
-        ensures ground { IsGround (store_of map.new) (free_pages map.new) self.new }
-        ensures classes { AreClasses map.new }
-        ensures regions { regions map.new ≡ regions map.old }
-        ensures stays { StaysInPlace map.old map.new }
-        ensures sizes { self.new.sizes ≡ self.old.sizes }
+        ensures kept { KeepsGround map.old map.new self.old self.new }
     {
         let Some(area) = find(self.list(), number) else {
             return;

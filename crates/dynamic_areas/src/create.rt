@@ -2,10 +2,10 @@
 
 ghost use Rattle.std.specs.Prelude.{◌≡◌, ◌≤◌, ◌*◌, length, MatchResult};
 ghost use Rattle.profile.specs.Outcome.{Gives};
-ghost use Rattle.address_map.specs.Memory.{free_pages, regions, StaysInPlace};
-ghost use Rattle.os_heap.specs.Store.{store_of, AreClasses};
+ghost use Rattle.address_map.specs.Memory.{free_pages};
+ghost use Rattle.os_heap.specs.Store.{store_of};
 ghost use Rattle.dynamic_areas.specs.Creating.{are_good_sizes, area_wanted, area_table_after_create, is_good, is_good_base, is_good_number, pages_for, wanted_base, wanted_maximum, wanted_number};
-ghost use Rattle.dynamic_areas.specs.Ground.{AreAreas};
+ghost use Rattle.dynamic_areas.specs.Kept.{IsAreaMap, KeepsRegions};
 ghost use Rattle.dynamic_areas.specs.Remapped.{with_pages_at};
 
 use crate::area::{Area, Created, Wanted};
@@ -39,19 +39,14 @@ impl Areas {
         wanted: &Wanted,
         name: &[u8],
     ) -> Result<Created, ErrorNumber>
-        requires areas { AreAreas (store_of map.old) (free_pages map.old) self.old }
-        requires classes { AreClasses map.old }
+        requires state { IsAreaMap map.old self.old }
         ensures area_table { Gives self.old
             (area_table_after_create self.old (free_pages map.old) wanted.now name.now) result self.new }
         ensures store { MatchResult result
             (λ made. store_of map.new
             ≡ with_pages_at (store_of map.old) made.base (4096 * pages_for wanted.now.size))
             (λ _. store_of map.new ≡ store_of map.old) }
-        ensures areas { AreAreas (store_of map.new) (free_pages map.new) self.new }
-        ensures classes { AreClasses map.new }
-        ensures regions { regions map.new ≡ regions map.old }
-        ensures stays { StaysInPlace map.old map.new }
-        ensures sizes { self.new.sizes ≡ self.old.sizes }
+        ensures kept { KeepsRegions map.old map.new self.old self.new }
     {
         let mut area = self.area_wanted(map.free_pages(), wanted, name)?;
         let made = Created {

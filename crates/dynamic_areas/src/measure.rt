@@ -1,12 +1,13 @@
 //! How many bytes a change of an area's size can move, and which pages must stay.
 
 ghost use Rattle.profile.specs.MemoryMap.{module_area_start};
-ghost use Rattle.std.specs.Prelude.{◌≡◌, ◌≤◌, ◌+◌, ◌*◌, true, is_some};
+ghost use Rattle.std.specs.Prelude.{◌≡◌, ◌≤◌, ◌+◌, ◌*◌};
 ghost use Rattle.address_map.specs.Memory.{free_pages};
-ghost use Rattle.os_heap.specs.Store.{store_of, find_heap, IsSound};
+ghost use Rattle.os_heap.specs.Store.{store_of, find_heap};
 ghost use Rattle.dynamic_areas.specs.Changing.{change_answer, growth_room, heap_base, held_from, is_growth, loose_pages, moving, must_stay, pages_asked};
 ghost use Rattle.dynamic_areas.specs.Creating.{pages_for};
 ghost use Rattle.dynamic_areas.specs.Ground.{AreAreas};
+ghost use Rattle.dynamic_areas.specs.Kept.{HasAreaHeap};
 ghost use Rattle.dynamic_areas.specs.Rooms.{IsAreaRoom};
 
 use crate::area::{Area, Changed};
@@ -92,8 +93,7 @@ fn growth_room(free: u32, area: &Area) -> u32
 
 /// How many pages an area can lose.
 pub(crate) fn loose_pages(map: &AddressMap, area: &Area) -> u32
-    requires sound { IsSound (store_of map.now) }
-    requires heap { is_some (find_heap module_area_start (store_of map.now).heaps) ≡ true }
+    requires state { HasAreaHeap (store_of map.now) }
     requires room { IsAreaRoom area.now }
     ensures { result ≡ loose_pages (store_of map.now) area.now }
 {
@@ -102,8 +102,7 @@ pub(crate) fn loose_pages(map: &AddressMap, area: &Area) -> u32
 
 /// How many pages are left where those at the top go, up to the first that must stay.
 fn held_pages(map: &AddressMap, area: &Area) -> u32
-    requires sound { IsSound (store_of map.now) }
-    requires heap { is_some (find_heap module_area_start (store_of map.now).heaps) ≡ true }
+    requires state { HasAreaHeap (store_of map.now) }
     requires room { IsAreaRoom area.now }
     ensures value { result
         ≡ held_from (must_stay (store_of map.now) area.now.number) area.now.base area.now.pages }
@@ -122,8 +121,7 @@ fn held_pages(map: &AddressMap, area: &Area) -> u32
 /// Whether the page at an address must stay an area's: it has a byte of a recorded range or of an
 /// anchor, or, in the module area, of what lies below its heap's base.
 fn must_stay(map: &AddressMap, number: u32, page: u32) -> bool
-    requires sound { IsSound (store_of map.now) }
-    requires heap { is_some (find_heap module_area_start (store_of map.now).heaps) ≡ true }
+    requires state { HasAreaHeap (store_of map.now) }
     ensures { result ≡ must_stay (store_of map.now) number page }
 {
     if number == MODULE_AREA {
@@ -135,8 +133,7 @@ fn must_stay(map: &AddressMap, number: u32, page: u32) -> bool
 
 /// The address after the last item of the module area's heap.
 fn heap_base(map: &AddressMap) -> u32
-    requires sound { IsSound (store_of map.now) }
-    requires heap { is_some (find_heap module_area_start (store_of map.now).heaps) ≡ true }
+    requires state { HasAreaHeap (store_of map.now) }
     ensures { result ≡ heap_base (find_heap module_area_start (store_of map.now).heaps) }
 {
     match map.load_word(RMA_START + BASE_WORD) {

@@ -2,11 +2,10 @@
 
 ghost use Rattle.std.specs.Prelude.{◌≡◌, MatchResult};
 ghost use Rattle.profile.specs.Outcome.{Leaves};
-ghost use Rattle.address_map.specs.Memory.{free_pages, regions, StaysInPlace};
-ghost use Rattle.os_heap.specs.Store.{store_of, AreClasses};
+ghost use Rattle.os_heap.specs.Store.{store_of};
 ghost use Rattle.dynamic_areas.specs.Areas.{find_area};
 ghost use Rattle.dynamic_areas.specs.Changing.{area_table_after_remove, store_emptied};
-ghost use Rattle.dynamic_areas.specs.Ground.{AreAreas};
+ghost use Rattle.dynamic_areas.specs.Kept.{IsAreaMap, KeepsRegions};
 
 use crate::areas::Areas;
 use crate::measure::loose_pages;
@@ -24,19 +23,14 @@ impl Areas {
     ///
     /// RISC OS 3 Programmer's Reference Manual, supplement, "OS_DynamicArea", reason 1.
     pub fn remove(&mut self, map: &mut AddressMap, number: u32) -> Result<(), ErrorNumber>
-        requires areas { AreAreas (store_of map.old) (free_pages map.old) self.old }
-        requires classes { AreClasses map.old }
+        requires state { IsAreaMap map.old self.old }
         ensures area_table { Leaves self.old (area_table_after_remove self.old (store_of map.old) number)
             result
             self.new }
         ensures store { MatchResult result
             (λ _. store_of map.new ≡ store_emptied (store_of map.old) (find_area number self.old.areas))
             (λ _. store_of map.new ≡ store_of map.old) }
-        ensures areas { AreAreas (store_of map.new) (free_pages map.new) self.new }
-        ensures classes { AreClasses map.new }
-        ensures regions { regions map.new ≡ regions map.old }
-        ensures stays { StaysInPlace map.old map.new }
-        ensures sizes { self.new.sizes ≡ self.old.sizes }
+        ensures kept { KeepsRegions map.old map.new self.old self.new }
     {
         let Some(area) = find(self.list(), number) else {
             return Err(ErrorNumber::AreaUnknown);

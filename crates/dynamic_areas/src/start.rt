@@ -4,9 +4,10 @@ ghost use Rattle.std.specs.Prelude.{ℕ, [], ◌≡◌, ◌+◌, IfOk};
 ghost use Rattle.profile.specs.Sizes.{AreGood};
 ghost use Rattle.address_map.specs.Memory.{byte_at, class_of, free_pages, is_mapped, regions};
 ghost use Rattle.address_map.specs.declared.class.Class.TheVariants.{Plain};
-ghost use Rattle.os_heap.specs.Store.{store_of, AreClasses};
+ghost use Rattle.os_heap.specs.Store.{store_of};
 ghost use Rattle.dynamic_areas.specs.Areas.{start_area_table};
-ghost use Rattle.dynamic_areas.specs.Ground.{AreAreas, is_area_table};
+ghost use Rattle.dynamic_areas.specs.Ground.{is_area_table};
+ghost use Rattle.dynamic_areas.specs.Kept.{IsAreaMap};
 ghost use Rattle.dynamic_areas.specs.Start.{start_store};
 
 use address_map::{AddressMap, Kind};
@@ -19,8 +20,7 @@ use std::alloc::{AllocError, Global};
 /// without items, and the record of the system pages.
 pub fn start_memory(alloc: Global, config: Config) -> Result<AddressMap, AllocError>
     ensures store { IfOk result (λ m. store_of m ≡ start_store config) }
-    ensures areas { IfOk result (λ m. AreAreas (store_of m) (free_pages m) (start_area_table config)) }
-    ensures classes { IfOk result AreClasses }
+    ensures state { IfOk result (λ m. IsAreaMap m (start_area_table config)) }
 {
     let mut memory = bare_memory(alloc, config)?;
     Heaps::new().init_module_area(&mut memory, RMA_START, PAGE_SIZE * config.rma());

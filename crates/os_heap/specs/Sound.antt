@@ -8,7 +8,7 @@ use Rattle.os_heap_words.specs.lists.Heap.{HeapList}
 use Rattle.os_heap_words.specs.lists.Lists.{live_total}
 use Rattle.os_heap.specs.Calls.{gave_back}
 use Rattle.os_heap.specs.Forgetting.{store_after_forget}
-use Rattle.os_heap.specs.Order.{LosesHeaps}
+use Rattle.os_heap.specs.Order.{KeepsOrder, LosesHeaps}
 use Rattle.os_heap.specs.Store.{AreClasses, IsSound, find_heap, store_of}
 
 -- the store is sound, and the words that it spells are marked
@@ -28,6 +28,14 @@ pub record KeepsOtherRanges (old new : AddressMap) : Type 0 where
   pub classes : AreClasses new
   pub others : (store_of new).others ≡ (store_of old).others
   pub mapping : mapping new ≡ mapping old
+
+-- It is so still, where a step gives a heap another end: no other range is another one, and each record stands where it stood.
+pub record KeepsRangesInOrder (old new : AddressMap) : Type 0 where
+  pub sound : IsSound (store_of new)
+  pub classes : AreClasses new
+  pub others : (store_of new).others ≡ (store_of old).others
+  pub mapping : mapping new ≡ mapping old
+  pub order : KeepsOrder old new
 
 -- It is so still, where a step changes words of a heap and forgets others: the records of those are gone, and no other range is another one.
 pub record KeepsRest (old new : AddressMap) : Type 0 where

@@ -2,16 +2,15 @@
 
 ghost use Rattle.std.specs.Prelude.{ℕ, ◌≡◌, ◌≤◌, ◌+◌, ◌%◌, true, Some, Err, MatchResult};
 ghost use Rattle.os_heap_words.specs.Outcome.{Gives};
-ghost use Rattle.address_map.specs.Memory.{byte_at, mapping, bytes_of};
+ghost use Rattle.address_map.specs.Memory.{byte_at, bytes_of};
 ghost use Rattle.address_map.specs.Records.{is_heap_kind};
 ghost use Rattle.os_heap_words.specs.lists.Words.{AreApart};
 ghost use Rattle.os_heap.specs.Calls.{store_after_change, end_changed, ending, has_own_size, MayEndArea, IsAreaEnded};
-ghost use Rattle.os_heap.specs.Order.{KeepsOrder};
 ghost use Rattle.os_heap.specs.Probes.{change_probes, end_probes, growth_probes};
 ghost use Rattle.os_heap.specs.Ranges.{MayEnd, overgrows};
 ghost use Rattle.os_heap_words.specs.Outcomes.{IsHeapAt};
-ghost use Rattle.os_heap.specs.Sound.{IsSoundMap, KeepsOtherRanges};
-ghost use Rattle.os_heap.specs.Store.{store_of, heap_in, find_heap, AreClasses, IsSound};
+ghost use Rattle.os_heap.specs.Sound.{IsSoundMap, KeepsRangesInOrder};
+ghost use Rattle.os_heap.specs.Store.{store_of, heap_in, find_heap};
 
 use crate::heaps::{Heaps, find};
 use crate::init::{MOST_HEAP, is_heap_region};
@@ -33,16 +32,11 @@ impl Heaps {
     ///
     /// RISC OS 3 Programmer's Reference Manual, "OS_Heap", reason 5.
     pub fn change_size(&self, map: &mut AddressMap, heap: u32, change: u32) -> Counted<()>
-        requires sound { IsSound (store_of map.old) }
-        requires classes { AreClasses map.old }
+        requires state { IsSoundMap map.old }
         ensures store { Gives (store_of map.old) (store_after_change (store_of map.old) heap change)
             result.answer
             (store_of map.new) }
-        ensures sound { IsSound (store_of map.new) }
-        ensures classes { AreClasses map.new }
-        ensures others { (store_of map.new).others ≡ (store_of map.old).others }
-        ensures mapping { mapping map.new ≡ mapping map.old }
-        ensures order { KeepsOrder map.old map.new }
+        ensures kept { KeepsRangesInOrder map.old map.new }
         ensures probes { result.probes ≡ change_probes (store_of map.old) heap change }
     {
         change_end(map, heap, change)
@@ -50,15 +44,10 @@ impl Heaps {
 
     /// Gives the module area's heap another end, where that is allowed, as its area's size changes.
     pub fn set_module_area_end(&self, map: &mut AddressMap, end: u32)
-        requires sound { IsSound (store_of map.old) }
-        requires classes { AreClasses map.old }
+        requires state { IsSoundMap map.old }
         requires may { MayEndArea (store_of map.old) end }
         ensures store { IsAreaEnded (store_of map.old) end (store_of map.new) }
-        ensures sound { IsSound (store_of map.new) }
-        ensures classes { AreClasses map.new }
-        ensures others { (store_of map.new).others ≡ (store_of map.old).others }
-        ensures mapping { mapping map.new ≡ mapping map.old }
-        ensures order { KeepsOrder map.old map.new }
+        ensures kept { KeepsRangesInOrder map.old map.new }
 
         // No byte but those of the word that shows the end is changed.
         ensures bytes { (a : ℕ) → AreApart a 1 0x0180000C 4 → byte_at map.new a ≡ byte_at map.old a }
@@ -81,8 +70,7 @@ fn change_end(map: &mut AddressMap, heap: u32, change: u32) -> Counted<()>
     requires { IsSoundMap map.old }
     ensures store { Gives (store_of map.old) (store_after_change (store_of map.old) heap change) result.answer
         (store_of map.new) }
-    ensures kept { KeepsOtherRanges map.old map.new }
-    ensures order { KeepsOrder map.old map.new }
+    ensures kept { KeepsRangesInOrder map.old map.new }
     ensures probes { result.probes ≡ change_probes (store_of map.old) heap change }
 {
     let Some(region) = find(map, heap) else {
@@ -161,8 +149,7 @@ fn set_end(map: &mut AddressMap, region: &Region, end: u32)
     requires may { MayEnd (store_of map.old) (heap_in (bytes_of map.old) region.now) end }
     requires state { IsSoundMap map.old }
     ensures store { store_of map.new ≡ ending (store_of map.old) (heap_in (bytes_of map.old) region.now) end }
-    ensures kept { KeepsOtherRanges map.old map.new }
-    ensures order { KeepsOrder map.old map.new }
+    ensures kept { KeepsRangesInOrder map.old map.new }
     ensures bytes { (a : ℕ) → AreApart a 1 (region.now.at + 12) 4 → byte_at map.new a ≡ byte_at map.old a }
 {
     put(map, region.at + END, end);

@@ -2,13 +2,12 @@
 
 ghost use Rattle.std.specs.Prelude.{◌≡◌, Ok, true, false, is_some};
 ghost use Rattle.os_heap_words.specs.Outcome.{Gives};
-ghost use Rattle.address_map.specs.Memory.{mapping, regions};
+ghost use Rattle.address_map.specs.Memory.{regions};
 ghost use Rattle.os_heap_words.specs.Outcomes.{items_at};
 ghost use Rattle.os_heap.specs.GuestBlocks.{IsGuestBlock, has_anchor_in};
 ghost use Rattle.os_heap_words.specs.Cursors.{IsAtBlock};
-ghost use Rattle.os_heap.specs.Order.{LosesHeaps};
 ghost use Rattle.os_heap.specs.Sound.{GivesBack, IsSoundMap, KeepsRest};
-ghost use Rattle.os_heap.specs.Store.{store_of, find_heap, AreClasses, IsSound};
+ghost use Rattle.os_heap.specs.Store.{store_of, find_heap};
 ghost use Rattle.os_heap.specs.Calls.{gave_back};
 ghost use Rattle.os_heap.specs.Probes.{walk_probes};
 
@@ -81,15 +80,10 @@ impl Heaps {
     ///
     /// RISC OS 3 Programmer's Reference Manual, "OS_Heap", reason 3.
     pub fn free(&self, map: &mut AddressMap, heap: u32, block: u32) -> Counted<()>
-        requires sound { IsSound (store_of map.old) }
-        requires classes { AreClasses map.old }
+        requires state { IsSoundMap map.old }
         ensures store { Gives (store_of map.old) (gave_back (store_of map.old) heap block) result.answer
             (store_of map.new) }
-        ensures sound { IsSound (store_of map.new) }
-        ensures classes { AreClasses map.new }
-        ensures others { (store_of map.new).others ≡ (store_of map.old).others }
-        ensures mapping { mapping map.new ≡ mapping map.old }
-        ensures records { LosesHeaps map.old map.new }
+        ensures kept { KeepsRest map.old map.new }
         ensures probes { result.probes ≡ walk_probes (store_of map.old) heap block }
     {
         match find(map, heap) {

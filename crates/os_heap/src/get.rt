@@ -2,8 +2,8 @@
 
 ghost use Rattle.std.specs.Prelude.{◌≡◌};
 ghost use Rattle.os_heap_words.specs.Outcome.{Gives};
-ghost use Rattle.address_map.specs.Memory.{layout};
-ghost use Rattle.os_heap.specs.Store.{store_of, AreClasses, IsSound};
+ghost use Rattle.os_heap.specs.Sound.{IsSoundMap, KeepsLayout};
+ghost use Rattle.os_heap.specs.Store.{store_of};
 ghost use Rattle.os_heap.specs.Calls.{store_after_get};
 ghost use Rattle.os_heap.specs.Probes.{get_probes};
 
@@ -24,13 +24,10 @@ impl Heaps {
     ///
     /// RISC OS 3 Programmer's Reference Manual, "OS_Heap", reason 2.
     pub fn get(&self, map: &mut AddressMap, heap: u32, size: u32) -> Counted<u32>
-        requires sound { IsSound (store_of map.old) }
-        requires classes { AreClasses map.old }
+        requires state { IsSoundMap map.old }
         ensures store { Gives (store_of map.old) (store_after_get (store_of map.old) heap size) result.answer
             (store_of map.new) }
-        ensures sound { IsSound (store_of map.new) }
-        ensures classes { AreClasses map.new }
-        ensures layout { layout map.new ≡ layout map.old }
+        ensures kept { KeepsLayout map.old map.new }
         ensures probes { result.probes ≡ get_probes (store_of map.old) heap size }
     {
         match find(map, heap) {

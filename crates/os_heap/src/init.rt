@@ -3,7 +3,7 @@
 ghost use Rattle.std.specs.Prelude.{ℕ, [], true, ◌≡◌, ◌≤◌, ◌%◌, length, IsTrue, MatchResult, Err};
 ghost use Rattle.os_heap_words.specs.Outcome.{Gives};
 ghost use Rattle.address_map.specs.Bytes.{Bytes, AreMapped};
-ghost use Rattle.address_map.specs.Memory.{mapping, byte_at, is_mapped, bytes_of, layout, class_of};
+ghost use Rattle.address_map.specs.Memory.{byte_at, is_mapped, bytes_of, layout, class_of};
 ghost use Rattle.address_map.specs.Records.{is_heap_kind};
 ghost use Rattle.address_map.specs.declared.region.Kind.TheVariants.{Heap, Rma};
 ghost use Rattle.os_heap.specs.Order.{AddsRecord, KeepsOrder};
@@ -11,7 +11,7 @@ ghost use Rattle.os_heap.specs.Probes.{init_probes};
 ghost use Rattle.os_heap.specs.Ranges.{MayBegin, is_heap_region};
 ghost use Rattle.os_heap_words.specs.lists.Heap.{with_heap};
 ghost use Rattle.os_heap.specs.Sound.{IsSoundMap, KeepsOtherRanges};
-ghost use Rattle.os_heap.specs.Store.{store_of, heaps_in, guest_count, AreClasses, IsSound};
+ghost use Rattle.os_heap.specs.Store.{store_of, heaps_in, guest_count};
 ghost use Rattle.os_heap.specs.Calls.{store_after_init, store_with_new_heap};
 
 use crate::heaps::Heaps;
@@ -38,14 +38,10 @@ impl Heaps {
     /// heap and does not lie wholly in what one of its live blocks holds, or meets another recorded range or an anchor;
     /// `HeapTableFull` where there are 64 heaps besides that of the module area.
     pub fn init(&self, map: &mut AddressMap, heap: u32, size: u32) -> Counted<()>
-        requires sound { IsSound (store_of map.old) }
-        requires classes { AreClasses map.old }
+        requires state { IsSoundMap map.old }
         ensures store { Gives (store_of map.old) (store_after_init (store_of map.old) heap size) result.answer
             (store_of map.new) }
-        ensures sound { IsSound (store_of map.new) }
-        ensures classes { AreClasses map.new }
-        ensures others { (store_of map.new).others ≡ (store_of map.old).others }
-        ensures mapping { mapping map.new ≡ mapping map.old }
+        ensures kept { KeepsOtherRanges map.old map.new }
         ensures order { MatchResult result.answer
             (λ _. AddsRecord map.old map.new Heap heap) (λ _. KeepsOrder map.old map.new) }
         ensures probes { result.probes ≡ init_probes (store_of map.old) heap size }
@@ -56,13 +52,9 @@ impl Heaps {
     /// Makes the heap of the module area, without items, as `init` makes one that it does not refuse.
     pub fn init_module_area(&self, map: &mut AddressMap, area: u32, size: u32)
         requires may { MayBegin Rma (store_of map.old) area size }
-        requires sound { IsSound (store_of map.old) }
-        requires classes { AreClasses map.old }
+        requires state { IsSoundMap map.old }
         ensures store { store_of map.new ≡ store_with_new_heap Rma (store_of map.old) area size }
-        ensures sound { IsSound (store_of map.new) }
-        ensures classes { AreClasses map.new }
-        ensures others { (store_of map.new).others ≡ (store_of map.old).others }
-        ensures mapping { mapping map.new ≡ mapping map.old }
+        ensures kept { KeepsOtherRanges map.old map.new }
         ensures order { AddsRecord map.old map.new Rma area }
     {
         make(map, Kind::Rma, area, size);

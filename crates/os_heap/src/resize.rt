@@ -2,16 +2,15 @@
 
 ghost use Rattle.std.specs.Prelude.{◌≡◌, ◌≤◌, ◌<◌, ◌+◌, ◌-◌, ◌^◌, is_some, true};
 ghost use Rattle.os_heap_words.specs.Outcome.{Gives};
-ghost use Rattle.address_map.specs.Memory.{anchor_of, mapping, regions};
+ghost use Rattle.address_map.specs.Memory.{anchor_of, regions};
 ghost use Rattle.address_map.specs.Records.{anchor_among};
 ghost use Rattle.os_heap.specs.Calls.{store_after_resize};
 ghost use Rattle.os_heap_words.specs.Cursors.{IsNewTotal};
 ghost use Rattle.os_heap.specs.GuestBlocks.{ResizesInPlace, IsGuestBlock};
 ghost use Rattle.os_heap_words.specs.Outcomes.{items_at};
 ghost use Rattle.os_heap.specs.Probes.{resize_probes, AreInBounds};
-ghost use Rattle.os_heap.specs.Order.{LosesHeaps};
 ghost use Rattle.os_heap.specs.Sound.{IsSoundMap, KeepsRest};
-ghost use Rattle.os_heap.specs.Store.{store_of, find_heap, AreClasses, IsSound};
+ghost use Rattle.os_heap.specs.Store.{store_of, find_heap};
 
 use crate::forget::forget_cut;
 use crate::free::{give_up, holds_anchor};
@@ -46,16 +45,11 @@ impl Heaps {
     ///
     /// RISC OS 3 Programmer's Reference Manual, "OS_Heap", reason 4.
     pub fn resize(&self, map: &mut AddressMap, heap: u32, block: u32, change: u32) -> Counted<u32>
-        requires sound { IsSound (store_of map.old) }
-        requires classes { AreClasses map.old }
+        requires state { IsSoundMap map.old }
         ensures store { Gives (store_of map.old) (store_after_resize (store_of map.old) heap block change)
             result.answer
             (store_of map.new) }
-        ensures sound { IsSound (store_of map.new) }
-        ensures classes { AreClasses map.new }
-        ensures others { (store_of map.new).others ≡ (store_of map.old).others }
-        ensures mapping { mapping map.new ≡ mapping map.old }
-        ensures records { LosesHeaps map.old map.new }
+        ensures kept { KeepsRest map.old map.new }
         ensures probes { result.probes ≡ resize_probes (store_of map.old) heap block change }
         ensures bounds { AreInBounds result.probes block (find_heap heap (store_of map.old).heaps) }
     {
