@@ -78,15 +78,11 @@ returns-clause-kept c =
     λ i. record { mapped = λ a. is_some ((c.set_len.ensures.mapping i).place a); at = c.set_len.ensures.bytes i } in
     let same = layout-regions m c.put.new.map c.put.ensures.layout in
     let records = rw same at c.set_len.ensures.regions in
+    let r = c.args.region.now in
     record {
       sound = sound_ended m c.put.new.map c.set_len.new.self h c.args.end ends bytes records c.set_len.ensures.marks;
       classes = classes_ended m c.put.new.map c.set_len.new.self h c.args.end ends bytes records c.set_len.ensures.marks c.requires.state.classes;
       others = ap (λ s. s.others) (returns-clause-store c);
       mapping = c.set_len.ensures.mapping ∙ layout-mapping _ _ c.put.ensures.layout;
+      order = end_order m c.set_len.new.self r.kind r.at c.args.end records;
     }
-
-pub returns-clause-order : goal.returns-clause-order
-returns-clause-order c =
-    let r = c.args.region.now in
-    let records = rw (layout-regions c.args.map.now c.put.new.map c.put.ensures.layout) at c.set_len.ensures.regions in
-    end_order c.args.map.now c.set_len.new.self r.kind r.at c.args.end records

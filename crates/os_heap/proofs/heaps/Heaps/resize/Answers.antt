@@ -2,7 +2,7 @@ use Rattle.std.proofs.Common.{refl, sym}
 use Rattle.os_heap.specs.Store.{store_of}
 use Rattle.os_heap.proofs.Bounds.{in_bounds}
 use Rattle.os_heap.proofs.Resizing.{resize_nowhere}
-use Rattle.os_heap.proofs.LostRecords.{loses_none}
+use Rattle.os_heap.proofs.LostRecords.{rest_kept}
 use Rattle.os_heap.proofs.heaps.Heaps.resize.Goals as goal
 
 pub resize_block-requires-clause-found : goal.resize_block-requires-clause-found
@@ -12,11 +12,7 @@ pub returns-in-Some : goal.returns-in-Some
 returns-in-Some c =
     record {
       store = c.resize_block.ensures.store;
-      sound = c.resize_block.ensures.kept.sound;
-      classes = c.resize_block.ensures.kept.classes;
-      others = c.resize_block.ensures.kept.others;
-      mapping = c.resize_block.ensures.kept.mapping;
-      records = c.resize_block.ensures.kept.records;
+      kept = c.resize_block.ensures.kept;
       probes = c.resize_block.ensures.probes;
       bounds = rw c.resize_block.ensures.probes (in_bounds (store_of c.args.map.now) c.args.heap c.args.block c.args.change);
     }
@@ -26,11 +22,7 @@ returns-in-None c =
     let none = resize_nowhere c.args.map.now c.args.heap c.args.block c.args.change c.in-None.ensures in
     record {
       store = rw (c.refused.ensures, none.0) (refl, refl);
-      sound = c.requires.sound;
-      classes = c.requires.classes;
-      others = refl;
-      mapping = refl;
-      records = loses_none c.args.map.now c.requires.sound;
+      kept = rest_kept c.args.map.now c.requires.state;
       probes = rw c.refused.ensures (sym none.1);
       bounds = rw (c.in-None.ensures, c.refused.ensures) refl;
     }
