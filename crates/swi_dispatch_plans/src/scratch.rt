@@ -3,10 +3,9 @@
 
 ghost use Rattle.std.specs.Prelude.{◌≡◌, IfOk};
 ghost use Rattle.profile.specs.Sizes.{AreGood};
-ghost use Rattle.os_heap.specs.Store.{AreClasses};
 ghost use Rattle.instances_table.specs.plans.Plans.{plan_after_code};
 ghost use Rattle.instances.specs.module_state.ModuleState.{module_state_of};
-ghost use Rattle.instances.specs.Turns.{IsUnderWay};
+ghost use Rattle.instances.specs.Turns.{IsMapUnderWay};
 ghost use Rattle.swi_dispatch_plans.specs.Trials.{error_ahead};
 
 use address_map::AddressMap;
@@ -73,8 +72,7 @@ impl Scratch {
         plan: &Plan,
         outcome: Outcome,
     ) -> Option<u32>
-        requires going { IsUnderWay (module_state_of memory.now areas.now instances.now) plan.now }
-        requires classes { AreClasses memory.now }
+        requires state { IsMapUnderWay memory.now areas.now instances.now plan.now }
         requires sizes { areas.now.sizes ≡ self.old }
         ensures error { result ≡ error_ahead (module_state_of memory.now areas.now instances.now)
             (plan_after_code plan.now outcome) }

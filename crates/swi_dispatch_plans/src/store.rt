@@ -3,7 +3,7 @@
 //!
 //! Each takes the core, the memory and, where it needs them, the areas: what a caller's registers
 //! ask for, and where the answer goes. Between calls holds what `os_heap` and `dynamic_areas` ask
-//! (`AreClasses`, `IsAreaStore`); `LeavesSound` says that each of them keeps it, and the flex store
+//! (`IsSoundMap`, `IsAreaMap`); `LeavesSound` says that each of them keeps it, and the flex store
 //! and the other recorded ranges too.
 #![tactic(auto)]
 

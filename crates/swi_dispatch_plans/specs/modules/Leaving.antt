@@ -11,7 +11,13 @@ use Rattle.instances.specs.Modules.{Module, slots_of}
 -- Memory, areas and modules after a call: memory and areas as sound as before, the same instances,
 -- and a call under way that could go on still can.
 pub record LeavesModuleState (m n : AddressMap) (k l : AreaTable) (old new : List Module) : Type 0 where
-  pub memory : LeavesSound m n l
+  pub memory : LeavesSound m n k l
   pub slots : slots_of new ≡ slots_of old
   pub going : (plan : Option Plan) → MayGoOn (module_state_of m k old) plan → MayGoOn
       (module_state_of n l new) plan
+
+-- the same of a call on names alone, whatever the areas are
+pub record LeavesInstances (m : AddressMap) (old new : List Module) : Type 0 where
+  pub slots : slots_of new ≡ slots_of old
+  pub going : (l : AreaTable) (plan : Option Plan) → MayGoOn (module_state_of m l old) plan → MayGoOn
+      (module_state_of m l new) plan

@@ -3,9 +3,9 @@
 
 ghost use Rattle.std.specs.Prelude.{◌≡◌, List};
 ghost use Rattle.profile.specs.Outcome.{Leaves};
-ghost use Rattle.os_heap.specs.Store.{AreClasses, IsSound, store_of};
+ghost use Rattle.os_heap.specs.Store.{IsSound, store_of};
 ghost use Rattle.dynamic_areas.specs.Areas.{AreaTable};
-ghost use Rattle.dynamic_areas.specs.Ground.{IsAreaStore, area_store_of};
+ghost use Rattle.dynamic_areas.specs.Kept.{IsAreaMap};
 ghost use Rattle.instances.specs.Modules.{Module};
 ghost use Rattle.instances.specs.module_state.ModuleState.{module_state_of};
 ghost use Rattle.swi_dispatch_plans.specs.store.Leaving.{LeavesSound};
@@ -35,13 +35,11 @@ pub(crate) fn claim_block(
     memory: &mut AddressMap,
     areas: &mut Areas,
 ) -> Result<(), Refusal>
-    requires area_store { IsAreaStore (area_store_of memory.old areas.old) }
-    requires classes { AreClasses memory.old }
+    requires state { IsAreaMap memory.old areas.old }
     ensures state { (modules : List Module) → Leaves (cpu.old, module_state_of memory.old areas.old modules)
         (block_claimed cpu.old (module_state_of memory.old areas.old modules)) result
         (cpu.new, module_state_of memory.new areas.new modules) }
-    ensures leaves { LeavesSound memory.old memory.new areas.new }
-    ensures sizes { areas.new.sizes ≡ areas.old.sizes }
+    ensures leaves { LeavesSound memory.old memory.new areas.old areas.new }
 {
     let size = cpu.register(3);
     let block = Rma::new().claim(memory, areas, size)?;
@@ -55,12 +53,11 @@ pub(crate) fn free_block(
     memory: &mut AddressMap,
     areas: &Areas,
 ) -> Result<(), Refusal>
-    requires area_store { IsAreaStore (area_store_of memory.old areas.now) }
-    requires classes { AreClasses memory.old }
+    requires state { IsAreaMap memory.old areas.now }
     ensures state { (modules : List Module) → Leaves (cpu.old, module_state_of memory.old areas.now modules)
         (rma_block_after_free cpu.old (module_state_of memory.old areas.now modules)) result
         (cpu.new, module_state_of memory.new areas.now modules) }
-    ensures leaves { LeavesSound memory.old memory.new areas.now }
+    ensures leaves { LeavesSound memory.old memory.new areas.now areas.now }
 {
     let block = cpu.register(2);
     Rma::new().free(memory, block)?;
@@ -74,13 +71,11 @@ pub(crate) fn extend_block(
     memory: &mut AddressMap,
     areas: &mut Areas,
 ) -> Result<(), Refusal>
-    requires area_store { IsAreaStore (area_store_of memory.old areas.old) }
-    requires classes { AreClasses memory.old }
+    requires state { IsAreaMap memory.old areas.old }
     ensures state { (modules : List Module) → Leaves (cpu.old, module_state_of memory.old areas.old modules)
         (block_extended cpu.old (module_state_of memory.old areas.old modules)) result
         (cpu.new, module_state_of memory.new areas.new modules) }
-    ensures leaves { LeavesSound memory.old memory.new areas.new }
-    ensures sizes { areas.new.sizes ≡ areas.old.sizes }
+    ensures leaves { LeavesSound memory.old memory.new areas.old areas.new }
 {
     let block = cpu.register(2);
     let change = cpu.register(3);

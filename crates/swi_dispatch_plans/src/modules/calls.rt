@@ -2,8 +2,7 @@
 
 ghost use Rattle.std.specs.Prelude.{◌≡◌};
 ghost use Rattle.profile.specs.Outcome.{Leaves};
-ghost use Rattle.os_heap.specs.Store.{AreClasses};
-ghost use Rattle.dynamic_areas.specs.Ground.{IsAreaStore, area_store_of};
+ghost use Rattle.dynamic_areas.specs.Kept.{IsAreaMap};
 ghost use Rattle.instances.specs.module_state.ModuleState.{module_state_of};
 ghost use Rattle.swi_dispatch_plans.specs.modules.Calls.{result_of_module_call};
 ghost use Rattle.swi_dispatch_plans.specs.modules.Leaving.{LeavesModuleState};
@@ -30,13 +29,11 @@ pub fn call_module(
     areas: &mut Areas,
     instances: &mut Instances,
 ) -> Result<(), Refusal>
-    requires area_store { IsAreaStore (area_store_of memory.old areas.old) }
-    requires classes { AreClasses memory.old }
+    requires state { IsAreaMap memory.old areas.old }
     ensures state { Leaves (cpu.old, module_state_of memory.old areas.old instances.old)
         (result_of_module_call cpu.old (module_state_of memory.old areas.old instances.old)) result
         (cpu.new, module_state_of memory.new areas.new instances.new) }
     ensures leaves { LeavesModuleState memory.old memory.new areas.old areas.new instances.old instances.new }
-    ensures sizes { areas.new.sizes ≡ areas.old.sizes }
 {
     match ModuleReason::of(cpu.register(0)) {
         Some(ModuleReason::DescribeArea) => describe_area(cpu, memory),

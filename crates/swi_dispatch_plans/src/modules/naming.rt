@@ -2,15 +2,13 @@
 //! (RISC OS 3 Programmer's Reference Manual, "OS_Module").
 #![tactic(auto, unfolding(os_heap::specs::Store::store_of))]
 
-ghost use Rattle.std.specs.Prelude.{◌≡◌, Option};
+ghost use Rattle.std.specs.Prelude.{◌≡◌};
 ghost use Rattle.profile.specs.Outcome.{Leaves};
 ghost use Rattle.address_map.specs.Bytes.{AreMapped};
 ghost use Rattle.address_map.specs.Memory.{is_mapped};
 ghost use Rattle.dynamic_areas.specs.Areas.{AreaTable};
-ghost use Rattle.instances_table.specs.plans.Plans.{Plan};
-ghost use Rattle.instances.specs.Modules.{slots_of};
-ghost use Rattle.instances.specs.Turns.{MayGoOn};
 ghost use Rattle.instances.specs.module_state.ModuleState.{module_state_of};
+ghost use Rattle.swi_dispatch_plans.specs.modules.Leaving.{LeavesInstances};
 ghost use Rattle.swi_dispatch_plans.specs.modules.Naming.{instance_found, instance_preferred, instance_renamed, instance_shown};
 
 use address_map::AddressMap;
@@ -50,10 +48,7 @@ pub(crate) fn rename_instance(
     ensures state { (l : AreaTable) → Leaves (cpu.now, module_state_of memory.now l instances.old)
         (instance_renamed cpu.now (module_state_of memory.now l instances.old)) result
         (cpu.now, module_state_of memory.now l instances.new) }
-    ensures slots { slots_of instances.new ≡ slots_of instances.old }
-    ensures going { (l : AreaTable) (plan : Option Plan) → MayGoOn
-        (module_state_of memory.now l instances.old) plan
-        → MayGoOn (module_state_of memory.now l instances.new) plan }
+    ensures leaves { LeavesInstances memory.now instances.old instances.new }
 {
     let full = string_in(cpu, memory, 1)?;
     let new = string_in(cpu, memory, 2)?;
@@ -70,10 +65,7 @@ pub(crate) fn prefer_instance(
     ensures state { (l : AreaTable) → Leaves (cpu.now, module_state_of memory.now l instances.old)
         (instance_preferred cpu.now (module_state_of memory.now l instances.old)) result
         (cpu.now, module_state_of memory.now l instances.new) }
-    ensures slots { slots_of instances.new ≡ slots_of instances.old }
-    ensures going { (l : AreaTable) (plan : Option Plan) → MayGoOn
-        (module_state_of memory.now l instances.old) plan
-        → MayGoOn (module_state_of memory.now l instances.new) plan }
+    ensures leaves { LeavesInstances memory.now instances.old instances.new }
 {
     let full = string_in(cpu, memory, 1)?;
     instances.prefer(full.as_slice())?;

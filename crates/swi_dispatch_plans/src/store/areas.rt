@@ -3,9 +3,9 @@
 
 ghost use Rattle.std.specs.Prelude.{◌≡◌, Some, None, Err};
 ghost use Rattle.profile.specs.Outcome.{Leaves};
-ghost use Rattle.os_heap.specs.Store.{AreClasses};
 ghost use Rattle.dynamic_areas.specs.Changing.{change_answer, area_table_changed, store_changed};
 ghost use Rattle.dynamic_areas.specs.Ground.{IsAreaStore, area_store_of};
+ghost use Rattle.dynamic_areas.specs.Kept.{IsAreaMap};
 ghost use Rattle.dynamic_areas.specs.Rooms.{IsAreaTable};
 ghost use Rattle.swi_dispatch_plans.specs.store.Areas.{area_called, area_changed, area_created, area_enumerated, area_named, area_read, area_removed, area_renumbered, area_shown, change_asked, wanted_of, with_area_table};
 ghost use Rattle.swi_dispatch_plans.specs.store.Leaving.{LeavesSound};
@@ -48,13 +48,11 @@ pub fn read_area(cpu: &mut Cpu, memory: &AddressMap, areas: &Areas) -> Result<()
 /// changed then.
 #[tactic(auto, unfolding(crate::specs::store::Areas::area_called))]
 pub fn call_area(cpu: &mut Cpu, memory: &mut AddressMap, areas: &mut Areas) -> Result<(), Refusal>
-    requires area_store { IsAreaStore (area_store_of memory.old areas.old) }
-    requires classes { AreClasses memory.old }
+    requires state { IsAreaMap memory.old areas.old }
     ensures state { Leaves (cpu.old, area_store_of memory.old areas.old)
         (area_called cpu.old (area_store_of memory.old areas.old)) result
         (cpu.new, area_store_of memory.new areas.new) }
-    ensures leaves { LeavesSound memory.old memory.new areas.new }
-    ensures sizes { areas.new.sizes ≡ areas.old.sizes }
+    ensures leaves { LeavesSound memory.old memory.new areas.old areas.new }
 {
     match AreaReason::of(cpu.register(0)) {
         Some(AreaReason::Create) => create_area(cpu, memory, areas),
@@ -69,13 +67,11 @@ pub fn call_area(cpu: &mut Cpu, memory: &mut AddressMap, areas: &mut Areas) -> R
 // R1 to R7 are the words of a new area, and R8 points to its name.
 #[tactic(auto, unfolding(os_heap::specs::Store::store_of))]
 fn create_area(cpu: &mut Cpu, memory: &mut AddressMap, areas: &mut Areas) -> Result<(), Refusal>
-    requires area_store { IsAreaStore (area_store_of memory.old areas.old) }
-    requires classes { AreClasses memory.old }
+    requires state { IsAreaMap memory.old areas.old }
     ensures state { Leaves (cpu.old, area_store_of memory.old areas.old)
         (area_created cpu.old (area_store_of memory.old areas.old)) result
         (cpu.new, area_store_of memory.new areas.new) }
-    ensures leaves { LeavesSound memory.old memory.new areas.new }
-    ensures sizes { areas.new.sizes ≡ areas.old.sizes }
+    ensures leaves { LeavesSound memory.old memory.new areas.old areas.new }
 {
     let wanted = wanted_area(cpu);
     let name_at = cpu.register(8);
@@ -107,13 +103,11 @@ fn make_area(
     wanted: &Wanted,
     name: &[u8],
 ) -> Result<(), Refusal>
-    requires area_store { IsAreaStore (area_store_of memory.old areas.old) }
-    requires classes { AreClasses memory.old }
+    requires state { IsAreaMap memory.old areas.old }
     ensures state { Leaves (cpu.old, area_store_of memory.old areas.old)
         (area_named cpu.old (area_store_of memory.old areas.old) wanted.now (Some name.now)) result
         (cpu.new, area_store_of memory.new areas.new) }
-    ensures leaves { LeavesSound memory.old memory.new areas.new }
-    ensures sizes { areas.new.sizes ≡ areas.old.sizes }
+    ensures leaves { LeavesSound memory.old memory.new areas.old areas.new }
 {
     let made = areas.create(memory, wanted, name)?;
     cpu.set_register(1, made.number);
@@ -133,13 +127,11 @@ fn unnamed_error(cpu: &Cpu, memory: &AddressMap, areas: &Areas, wanted: &Wanted)
 }
 
 fn remove_area(cpu: &mut Cpu, memory: &mut AddressMap, areas: &mut Areas) -> Result<(), Refusal>
-    requires area_store { IsAreaStore (area_store_of memory.old areas.old) }
-    requires classes { AreClasses memory.old }
+    requires state { IsAreaMap memory.old areas.old }
     ensures state { Leaves (cpu.old, area_store_of memory.old areas.old)
         (area_removed cpu.old (area_store_of memory.old areas.old)) result
         (cpu.new, area_store_of memory.new areas.new) }
-    ensures leaves { LeavesSound memory.old memory.new areas.new }
-    ensures sizes { areas.new.sizes ≡ areas.old.sizes }
+    ensures leaves { LeavesSound memory.old memory.new areas.old areas.new }
 {
     let number = cpu.register(1);
     areas.remove(memory, number)?;
@@ -175,12 +167,11 @@ fn next_area(cpu: &mut Cpu, memory: &AddressMap, areas: &Areas) -> Result<(), Re
 }
 
 fn renumber_area(cpu: &mut Cpu, memory: &AddressMap, areas: &mut Areas) -> Result<(), Refusal>
-    requires area_store { IsAreaStore (area_store_of memory.now areas.old) }
+    requires state { IsAreaMap memory.now areas.old }
     ensures state { Leaves (cpu.old, area_store_of memory.now areas.old)
         (area_renumbered cpu.old (area_store_of memory.now areas.old)) result
         (cpu.new, area_store_of memory.now areas.new) }
-    ensures area_store { IsAreaStore (area_store_of memory.now areas.new) }
-    ensures sizes { areas.new.sizes ≡ areas.old.sizes }
+    ensures leaves { LeavesSound memory.now memory.now areas.old areas.new }
 {
     let old = cpu.register(1);
     let new = cpu.register(2);
@@ -192,13 +183,11 @@ fn renumber_area(cpu: &mut Cpu, memory: &AddressMap, areas: &mut Areas) -> Resul
 /// not all can, so the call may change something and err. Answers the error with which it ends, if
 /// it does.
 pub fn change_area(cpu: &mut Cpu, memory: &mut AddressMap, areas: &mut Areas) -> Option<ErrorNumber>
-    requires area_store { IsAreaStore (area_store_of memory.old areas.old) }
-    requires classes { AreClasses memory.old }
+    requires state { IsAreaMap memory.old areas.old }
     ensures error { result ≡ (change_asked cpu.old (area_store_of memory.old areas.old)).error }
     ensures state { (cpu.new, area_store_of memory.new areas.new)
         ≡ area_changed cpu.old (area_store_of memory.old areas.old) }
-    ensures leaves { LeavesSound memory.old memory.new areas.new }
-    ensures sizes { areas.new.sizes ≡ areas.old.sizes }
+    ensures leaves { LeavesSound memory.old memory.new areas.old areas.new }
 {
     let number = cpu.register(0);
     let amount = cpu.register(1);
@@ -211,16 +200,14 @@ pub fn change_area(cpu: &mut Cpu, memory: &mut AddressMap, areas: &mut Areas) ->
 }
 
 fn resize_area(memory: &mut AddressMap, areas: &mut Areas, number: u32, amount: u32) -> Changed
-    requires area_store { IsAreaStore (area_store_of memory.old areas.old) }
-    requires classes { AreClasses memory.old }
+    requires state { IsAreaMap memory.old areas.old }
     ensures answer { let e = area_store_of memory.old areas.old in
         result ≡ change_answer e.area_table.areas e.store e.pool number amount }
     ensures area_store { let e = area_store_of memory.old areas.old in
         area_store_of memory.new areas.new
         ≡ with_area_table (store_changed e.store e.area_table.areas number amount result.bytes)
         (area_table_changed e.area_table number amount result.bytes) }
-    ensures leaves { LeavesSound memory.old memory.new areas.new }
-    ensures sizes { areas.new.sizes ≡ areas.old.sizes }
+    ensures leaves { LeavesSound memory.old memory.new areas.old areas.new }
 {
     areas.change(memory, number, amount)
 }
