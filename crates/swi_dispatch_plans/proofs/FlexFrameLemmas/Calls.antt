@@ -24,7 +24,8 @@ use Rattle.flex_store.specs.State.{IsFlex, IsFlexAt, flex_in, state_of_flex}
 use Rattle.flex_store.specs.declared.flex.Extent.{Extent}
 use Rattle.flex_store.specs.declared.flex.Flex.{Flex}
 use Rattle.instances.specs.module_state.Sound.{count_beside}
-use Rattle.swi_dispatch_plans.specs.flex_frame.CallLaws.{IsFlexCall, IsLeft}
+use Rattle.flex_store.specs.Kept.{KeepsLayoutAndHeaps}
+use Rattle.swi_dispatch_plans.specs.flex_frame.CallLaws.{IsLeft}
 use Rattle.swi_dispatch_plans.specs.flex_frame.Ground.{HasFlex, anchors_in, flex_of, flex_state, headers_in, records_with, spelled_store, store_flexed}
 
 -- the state of a call is the one that memory and the place of the store spell
@@ -66,10 +67,10 @@ store_is : (m n : AddressMap) (g : Flex) → IsFlex n g → (store_of n).others 
     → store_of n ≡ store_flexed (store_of m) (state_of_flex n g)
 store_is m n g is others heaps = store_spelled m n g (store_of m).others is others heaps
 
-pub flex_left : (m n : AddressMap) (f g : Flex) (t : FlexState) → IsFlexCall m n f g → state_of_flex n g ≡ t → IsLeft m n g t
+pub flex_left : (m n : AddressMap) (g : Flex) (t : FlexState) → KeepsLayoutAndHeaps m n g.extent → state_of_flex n g ≡ t → IsLeft m n g t
 unfolding state_of_flex
-flex_left m n f g t call state = record {
-  store = store_is m n g call.flex (layout-others m n call.same) call.heaps ∙ ap (store_flexed (store_of m)) state;
+flex_left m n g t call state = record {
+  store = store_is m n g call.flex (layout-others m n call.layout) call.heaps ∙ ap (store_flexed (store_of m)) state;
   flex = flex_is n g call.flex ∙ ap (λ (x : FlexState). flex_of x.flex) state;
 }
 
@@ -82,8 +83,8 @@ flex_stays_by m n f g is is' others heaps state = (
   flex_is n g is' ∙ ap (λ (x : FlexState). flex_of x.flex) state ∙ sym (flex_is m f is),
 )
 
-pub flex_stays_so : (m n : AddressMap) (f g : Flex) → IsFlex m f → IsFlexCall m n f g → state_of_flex n g ≡ state_of_flex m f → (store_of n ≡ store_of m) × (g ≡ f)
-flex_stays_so m n f g is call state = flex_stays_by m n f g is call.flex (layout-others m n call.same) call.heaps state
+pub flex_stays_so : (m n : AddressMap) (f g : Flex) → IsFlex m f → KeepsLayoutAndHeaps m n g.extent → state_of_flex n g ≡ state_of_flex m f → (store_of n ≡ store_of m) × (g ≡ f)
+flex_stays_so m n f g is call state = flex_stays_by m n f g is call.flex (layout-others m n call.layout) call.heaps state
 
 -- The store is there after a call where it was before.
 fitted_there : (t : FlexState) (s : FlexStore) (olds news : List Block) (r : FlexState × Bool) → t.flex ≡ Some s → flex_if_room t s olds news ≡ r → is_some r.0.flex ≡ true
@@ -194,11 +195,11 @@ place_free s a place =
     let last = and_parts (word_start a % 4 == 0 && s.bytes.mapped (word_start a)) (not met && not other) place in
     word_free s.others a (not-true met (and_parts (not met) (not other) last.1).0)
 
-pub has_after : (m n : AddressMap) (f g : Flex) → IsSound (store_of m) → HasFlex m f → IsFlexCall m n f g
+pub has_after : (m n : AddressMap) (f g : Flex) → IsSound (store_of m) → HasFlex m f → KeepsLayoutAndHeaps m n g.extent
     → is_some (state_of_flex n g).flex ≡ is_some (state_of_flex m f).flex → HasFlex n g
 unfolding state_of_flex AreAnchorsFree
 has_after m n f g sound has call there =
-    let others = layout-others m n call.same in
+    let others = layout-others m n call.layout in
     record {
       is = call.flex;
       free = λ a is. ap (λ (rs : List Region). is_in_other_record rs a) others
@@ -213,22 +214,22 @@ has_after m n f g sound has call there =
     }
 
 -- the four calls on a store
-pub has_allocated : (m n : AddressMap) (f g : Flex) (anchor size : ℕ) (x : Result Bool ErrorNumber) → IsSound (store_of m) → HasFlex m f → IsFlexCall m n f g
+pub has_allocated : (m n : AddressMap) (f g : Flex) (anchor size : ℕ) (x : Result Bool ErrorNumber) → IsSound (store_of m) → HasFlex m f → KeepsLayoutAndHeaps m n g.extent
     → Gives (state_of_flex m f) (flex_after_alloc (store_of m) (state_of_flex m f) anchor size) x (state_of_flex n g) → HasFlex n g
 has_allocated m n f g anchor size x sound has call gives =
     has_after m n f g sound has call (given_there Bool _ _ _ x (allocated_there (store_of m) (state_of_flex m f) anchor size) gives)
 
-pub has_released : (m n : AddressMap) (f g : Flex) (anchor : ℕ) (x : Result (Unit {0}) ErrorNumber) → IsSound (store_of m) → HasFlex m f → IsFlexCall m n f g
+pub has_released : (m n : AddressMap) (f g : Flex) (anchor : ℕ) (x : Result (Unit {0}) ErrorNumber) → IsSound (store_of m) → HasFlex m f → KeepsLayoutAndHeaps m n g.extent
     → Gives (state_of_flex m f) (flex_after_release (state_of_flex m f) anchor) x (state_of_flex n g) → HasFlex n g
 has_released m n f g anchor x sound has call gives =
     has_after m n f g sound has call (given_there (Unit {0}) _ _ _ x (released_there (state_of_flex m f) anchor) gives)
 
-pub has_extended : (m n : AddressMap) (f g : Flex) (anchor size : ℕ) (x : Result Bool ErrorNumber) → IsSound (store_of m) → HasFlex m f → IsFlexCall m n f g
+pub has_extended : (m n : AddressMap) (f g : Flex) (anchor size : ℕ) (x : Result Bool ErrorNumber) → IsSound (store_of m) → HasFlex m f → KeepsLayoutAndHeaps m n g.extent
     → Gives (state_of_flex m f) (flex_after_extend (state_of_flex m f) anchor size) x (state_of_flex n g) → HasFlex n g
 has_extended m n f g anchor size x sound has call gives =
     has_after m n f g sound has call (given_there Bool _ _ _ x (extended_there (state_of_flex m f) anchor size) gives)
 
-pub has_mid_extended : (m n : AddressMap) (f g : Flex) (anchor at by : ℕ) (x : Result Bool ErrorNumber) → IsSound (store_of m) → HasFlex m f → IsFlexCall m n f g
+pub has_mid_extended : (m n : AddressMap) (f g : Flex) (anchor at by : ℕ) (x : Result Bool ErrorNumber) → IsSound (store_of m) → HasFlex m f → KeepsLayoutAndHeaps m n g.extent
     → Gives (state_of_flex m f) (mid_extended (state_of_flex m f) anchor at by) x (state_of_flex n g) → HasFlex n g
 has_mid_extended m n f g anchor at by x sound has call gives =
     has_after m n f g sound has call (given_there Bool _ _ _ x (mid_extended_there (state_of_flex m f) anchor at by) gives)

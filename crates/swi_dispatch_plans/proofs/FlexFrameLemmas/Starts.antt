@@ -11,6 +11,7 @@ use Rattle.instances.specs.Ground.{AreAreas}
 use Rattle.instances.specs.flex_frame.Keeping.{AreAnchorsFree}
 use Rattle.instances.proofs.ImageLemmas.{mapped_more}
 use Rattle.flex_store.specs.Calls.{FlexState, flex_record, is_flex_range}
+use Rattle.flex_store.specs.Kept.{KeepsMarksAndHeaps}
 use Rattle.flex_store.specs.State.{IsFlex, IsFlexAt, state_of_flex}
 use Rattle.flex_store.specs.declared.flex.Extent.{Extent}
 use Rattle.flex_store.specs.declared.flex.Flex.{Flex}
@@ -20,18 +21,6 @@ use Rattle.flex_store.proofs.Recorded.{others_in-other}
 use Rattle.swi_dispatch_plans.proofs.FlexFrameLemmas.ModuleStates.{beside_begun}
 use Rattle.swi_dispatch_plans.proofs.FlexFrameLemmas.Calls.{flex_is, flex_stays_by, store_spelled}
 use Rattle.swi_dispatch_plans.specs.flex_frame.Ground.{HasFlex, flex_of, records_with, store_flexed, with_flex_record}
-
--- what the call leaves, where it was done, and where it was refused
-pub record IsFlexMade (m n : AddressMap) (g : Flex) : Type 0 where
-  pub flex : IsFlex n g
-  pub mapping : mapping n ≡ mapping m
-  pub marks : class_of n ≡ class_of m
-  pub heaps : (store_of n).heaps ≡ (store_of m).heaps
-  pub sound : IsSound (store_of n)
-
-pub flex_made : (m n : AddressMap) (g : Flex) → IsFlex n g → mapping n ≡ mapping m → class_of n ≡ class_of m → (store_of n).heaps ≡ (store_of m).heaps
-    → IsSound (store_of n) → IsFlexMade m n g
-flex_made m n g flex mapping marks heaps sound = record { flex = flex; mapping = mapping; marks = marks; heaps = heaps; sound = sound }
 
 pub others_made : (m n : AddressMap) (start end : ℕ) → regions n ≡ regions m ++ flex_record start end ∷ []
     → (store_of n).others ≡ (store_of m).others ++ flex_record start end ∷ []
@@ -43,7 +32,7 @@ unfolding store_of
 others_same m n records = ap others_in records
 
 -- the store and its place, where the call was done
-pub made_left : (m n : AddressMap) (g : Flex) (t : FlexState) (start end : ℕ) → IsFlexMade m n g → regions n ≡ regions m ++ flex_record start end ∷ []
+pub made_left : (m n : AddressMap) (g : Flex) (t : FlexState) (start end : ℕ) → KeepsMarksAndHeaps m n g.extent → regions n ≡ regions m ++ flex_record start end ∷ []
     → state_of_flex n g ≡ t → (store_of n ≡ store_flexed (with_flex_record (store_of m) start end) t) × (g ≡ flex_of t.flex)
 unfolding state_of_flex
 made_left m n g t start end made records state = (
@@ -53,12 +42,12 @@ made_left m n g t start end made records state = (
 )
 
 -- and where it was refused
-pub unmade_left : (m n : AddressMap) (f g : Flex) → IsFlex m f → IsFlexMade m n g → regions n ≡ regions m → state_of_flex n g ≡ state_of_flex m f
+pub unmade_left : (m n : AddressMap) (f g : Flex) → IsFlex m f → KeepsMarksAndHeaps m n g.extent → regions n ≡ regions m → state_of_flex n g ≡ state_of_flex m f
     → (store_of n ≡ store_of m) × (g ≡ f)
 unmade_left m n f g is made records state = flex_stays_by m n f g is made.flex (others_same m n records) made.heaps state
 
 -- the areas stand on memory with a record more, whose range is mapped
-pub made_areas : (m n : AddressMap) (g : Flex) (l : AreaTable) (start end : ℕ) → IsFlexMade m n g → regions n ≡ regions m ++ flex_record start end ∷ []
+pub made_areas : (m n : AddressMap) (g : Flex) (l : AreaTable) (start end : ℕ) → KeepsMarksAndHeaps m n g.extent → regions n ≡ regions m ++ flex_record start end ∷ []
     → AreMapped (is_mapped m) start (end - start) → AreAreas (store_of m) (free_pages m) l → AreAreas (store_of n) (free_pages n) l
 unfolding store_of
 made_areas m n g l start end made records there areas =
@@ -78,7 +67,7 @@ made_areas m n g l start end made records there areas =
       heap = rw made.heaps areas.heap;
     }
 
-pub unmade_areas : (m n : AddressMap) (g : Flex) (l : AreaTable) → IsFlexMade m n g → store_of n ≡ store_of m → AreAreas (store_of m) (free_pages m) l
+pub unmade_areas : (m n : AddressMap) (g : Flex) (l : AreaTable) → KeepsMarksAndHeaps m n g.extent → store_of n ≡ store_of m → AreAreas (store_of m) (free_pages m) l
     → AreAreas (store_of n) (free_pages n) l
 unmade_areas m n g l made store areas =
     let free : free_pages n ≡ free_pages m = ap (λ (p : Mapping). p.free_pages) made.mapping in
@@ -99,7 +88,7 @@ anchorless m n f is none marks a =
     let no = subst (IsFlexAt m) none is in
     ap (λ (c : ℕ → _). is_anchor (c a)) marks ∙ no.anchors a
 
-pub has_made : (m n : AddressMap) (f g : Flex) (start end : ℕ) → HasFlex m f → f.extent ≡ None → is_some g.extent ≡ true → IsFlexMade m n g
+pub has_made : (m n : AddressMap) (f g : Flex) (start end : ℕ) → HasFlex m f → f.extent ≡ None → is_some g.extent ≡ true → KeepsMarksAndHeaps m n g.extent
     → regions n ≡ regions m ++ flex_record start end ∷ [] → HasFlex n g
 unfolding AreAnchorsFree
 has_made m n f g start end has none some made records = record {

@@ -3,36 +3,30 @@
 use Rattle.std.proofs.Common.{◌≡◌, Result, Ok, Err, refl, subst}
 use Rattle.profile.specs.Outcome.{Gives}
 use Rattle.profile.specs.declared.error.ErrorNumber.{ErrorNumber}
-use Rattle.dynamic_areas.specs.Memory.{layout}
 use Rattle.dynamic_areas.specs.AddressMap.{AddressMap}
 use Rattle.swi_dispatch_plans.proofs.FlexFrameLemmas.Calls.{flex_left, flex_stays_so, state_is}
-use Rattle.swi_dispatch_plans.specs.flex_frame.CallLaws.{AreAnchorsAllowed, IsFlexCall, IsLeft}
+use Rattle.swi_dispatch_plans.specs.flex_frame.CallLaws.{IsLeft}
 use Rattle.swi_dispatch_plans.specs.flex_frame.Ground.{HasFlex}
 use Rattle.flex_store.specs.Calls.{FlexState}
+use Rattle.flex_store.specs.Kept.{KeepsLayoutAndHeaps}
 use Rattle.flex_store.specs.State.{IsFlex, state_of_flex as flex_state_of}
 use Rattle.flex_store.specs.declared.flex.Flex.{Flex}
 use Rattle.swi_dispatch_plans.proofs.FlexFrameLemmas.InstancesModuleStates.{module_state_kept}
 use Rattle.dynamic_areas.proofs.HeapCalls.{areas_written}
 use Rattle.dynamic_areas.proofs.Frame.{layout-others}
-use Rattle.dynamic_areas.specs.Store.{AreClasses, IsSound, store_of}
+use Rattle.dynamic_areas.specs.Store.{store_of}
 use Rattle.swi_dispatch_plans.specs.flex_frame.module_state.ModuleState.{module_state_of}
 use Rattle.swi_dispatch_plans.specs.flex.Calls.{memory_after_flex, memory_of, state_in, memory_with_flex}
 use Rattle.swi_dispatch_plans.specs.flex.Leaving.{CanCallFlex, LeavesFlex}
 
--- what the contracts of these calls say of memory
-pub flex_call : (m n : AddressMap) (f g : Flex) → IsFlex n g → layout n ≡ layout m
-    → (store_of n).heaps ≡ (store_of m).heaps → AreAnchorsAllowed m n → IsFlexCall m n f g
-flex_call m n f g flex same heaps anchors = record { flex = flex; same = same; heaps = heaps; anchors = anchors }
-
--- so all that stands on the memory stays
-pub leaves_called : (m n : AddressMap) (f g : Flex) → IsFlexCall m n f g → IsSound (store_of n) → AreClasses n
-    → HasFlex n g → LeavesFlex m n g
-leaves_called m n f g call sound classes has = record {
+-- All that stands on the memory stays.
+pub leaves_called : (m n : AddressMap) (g : Flex) → KeepsLayoutAndHeaps m n g.extent → HasFlex n g → LeavesFlex m n g
+leaves_called m n g call has = record {
   flex = has;
-  classes = classes;
+  classes = call.classes;
   module_state = λ l ms pending module_state.
-      module_state_kept (module_state_of m l ms) (module_state_of n l ms) pending module_state refl (layout-others m n call.same)
-      (areas_written m n l module_state.area_store sound call.same);
+      module_state_kept (module_state_of m l ms) (module_state_of n l ms) pending module_state refl (layout-others m n call.layout)
+      (areas_written m n l module_state.area_store call.sound call.layout);
 }
 
 -- and where nothing is changed
@@ -40,13 +34,13 @@ pub leaves_same : (m : AddressMap) (f : Flex) → CanCallFlex m f → LeavesFlex
 leaves_same m f can = record { flex = can.flex; classes = can.classes; module_state = λ l ms pending module_state. module_state }
 
 -- what such a call leaves, and what one that was refused
-called_left : (m n : AddressMap) (f g : Flex) (t : FlexState) → IsFlexCall m n f g → flex_state_of n g ≡ t
+called_left : (m n : AddressMap) (g : Flex) (t : FlexState) → KeepsLayoutAndHeaps m n g.extent → flex_state_of n g ≡ t
     → memory_of n g ≡ memory_with_flex (store_of m) t
-called_left m n f g t call state =
-    let left : IsLeft m n g t = flex_left m n f g t call state in
+called_left m n g t call state =
+    let left : IsLeft m n g t = flex_left m n g t call state in
     λ i. record { store = left.store i; flex = left.flex i }
 
-refused_left : (m n : AddressMap) (f g : Flex) → IsFlex m f → IsFlexCall m n f g → flex_state_of n g ≡ flex_state_of m f
+refused_left : (m n : AddressMap) (f g : Flex) → IsFlex m f → KeepsLayoutAndHeaps m n g.extent → flex_state_of n g ≡ flex_state_of m f
     → memory_of n g ≡ memory_of m f
 refused_left m n f g is call state =
     let same = flex_stays_so m n f g is call state in
@@ -54,17 +48,17 @@ refused_left m n f g is call state =
 
 -- What it leaves, and answers, is what its definition says.
 left_so : (A : Type 0) (m n : AddressMap) (f g : Flex) (r : Result (FlexState × A) ErrorNumber)
-    (x : Result A ErrorNumber) → IsFlex m f → IsFlexCall m n f g
+    (x : Result A ErrorNumber) → IsFlex m f → KeepsLayoutAndHeaps m n g.extent
     → Gives {U = A} (flex_state_of m f) r x (flex_state_of n g)
     → Gives {U = A} (memory_of m f) (memory_after_flex (store_of m) r) x (memory_of n g)
-left_so A m n f g (Ok q) (Ok u) is call gives = (called_left m n f g q.0 call gives.0, gives.1)
+left_so A m n f g (Ok q) (Ok u) is call gives = (called_left m n g q.0 call gives.0, gives.1)
 left_so A m n f g (Err e) (Err d) is call gives = (gives.0, refused_left m n f g is call gives.1)
 left_so A m n f g (Ok q) (Err d) is call gives = absurd gives
 left_so A m n f g (Err e) (Ok u) is call gives = absurd gives
 
 -- the same of a call whose definition is given what memory spells
 pub call_left : (A : Type 0) (m n : AddressMap) (f g : Flex) (call : FlexState → Result (FlexState × A) ErrorNumber)
-    (x : Result A ErrorNumber) → IsFlex m f → IsFlexCall m n f g
+    (x : Result A ErrorNumber) → IsFlex m f → KeepsLayoutAndHeaps m n g.extent
     → Gives {U = A} (flex_state_of m f) (call (flex_state_of m f)) x (flex_state_of n g)
     → Gives {U = A} (memory_of m f) (memory_after_flex (store_of m) (call (state_in (memory_of m f)))) x (memory_of n g)
 call_left A m n f g call x is made gives =

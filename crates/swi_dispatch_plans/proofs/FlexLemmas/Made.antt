@@ -7,16 +7,17 @@ use Rattle.profile.specs.declared.error.ErrorNumber.{ErrorNumber}
 use Rattle.dynamic_areas.specs.Memory.{regions}
 use Rattle.dynamic_areas.specs.AddressMap.{AddressMap}
 use Rattle.swi_dispatch_plans.proofs.FlexFrameLemmas.Calls.{ok_is, state_is}
-use Rattle.swi_dispatch_plans.proofs.FlexFrameLemmas.Starts.{IsFlexMade, has_made, made_areas, made_left, others_made, room_there, unmade_areas, unmade_left}
+use Rattle.swi_dispatch_plans.proofs.FlexFrameLemmas.Starts.{has_made, made_areas, made_left, others_made, room_there, unmade_areas, unmade_left}
 use Rattle.swi_dispatch_plans.proofs.FlexFrameLemmas.ModuleStates.{begun_module_state}
 use Rattle.swi_dispatch_plans.specs.flex_frame.Ground.{HasFlex, records_with, with_flex_record}
 use Rattle.flex_store.specs.Blocks.{FlexStore}
 use Rattle.flex_store.specs.Calls.{FlexState, flex_after_init, flex_after_init_over, flex_record, is_flex_range, with_flex_range}
+use Rattle.flex_store.specs.Kept.{KeepsMarksAndHeaps}
 use Rattle.flex_store.specs.State.{IsFlex, flex_in, state_of_flex as flex_state_of}
 use Rattle.flex_store.specs.declared.flex.Extent.{Extent}
 use Rattle.flex_store.specs.declared.flex.Flex.{Flex}
 use Rattle.swi_dispatch_plans.proofs.FlexFrameLemmas.InstancesModuleStates.{module_state_kept}
-use Rattle.dynamic_areas.specs.Store.{AreClasses, Store, store_of}
+use Rattle.dynamic_areas.specs.Store.{Store, store_of}
 use Rattle.swi_dispatch_plans.specs.flex_frame.module_state.Sound.{count_beside}
 use Rattle.swi_dispatch_plans.specs.flex_frame.module_state.ModuleState.{module_state_of}
 use Rattle.swi_dispatch_plans.specs.flex.Calls.{flex_in_range, memory_after_flex, memory_of, state_in}
@@ -56,10 +57,10 @@ an_extent m (Some e) s is = refl
 
 -- what stands on the memory where it was done
 begun_leaves : (m n : AddressMap) (f g : Flex) (start end : ℕ) (r : FlexState × Unit {0}) → HasFlex m f
-    → flex_after_init (store_of m) (flex_state_of m f) start end ≡ Ok r → flex_state_of n g ≡ r.0 → IsFlexMade m n g
-    → regions n ≡ regions m ++ flex_record start end ∷ [] → AreClasses n → LeavesFlex m n g
+    → flex_after_init (store_of m) (flex_state_of m f) start end ≡ Ok r → flex_state_of n g ≡ r.0 → KeepsMarksAndHeaps m n g.extent
+    → regions n ≡ regions m ++ flex_record start end ∷ [] → LeavesFlex m n g
 unfolding flex_state_of
-begun_leaves m n f g start end r has is state made records classes =
+begun_leaves m n f g start end r has is state made records =
     let begun : IsBegun (store_of m) (flex_state_of m f) start end r =
     is_begun (store_of m) (flex_state_of m f) start end r is in
     let none : f.extent ≡ None = no_extent m f.extent begun.none in
@@ -67,7 +68,7 @@ begun_leaves m n f g start end r has is state made records classes =
     an_extent n g.extent _ (ap (λ (t : FlexState). t.flex) (state ∙ sym begun.left)) in
     record {
       flex = has_made m n f g start end has none some made records;
-      classes = classes;
+      classes = made.classes;
       module_state = λ l ms pending module_state.
           begun_module_state (module_state_of m l ms) (module_state_of n l ms) pending start end
           (record {
@@ -81,8 +82,8 @@ begun_leaves m n f g start end r has is state made records classes =
 
 -- and where it was refused
 unbegun_leaves : (m n : AddressMap) (f g : Flex) → HasFlex m f → flex_state_of n g ≡ flex_state_of m f
-    → IsFlexMade m n g → regions n ≡ regions m → AreClasses n → LeavesFlex m n g
-unbegun_leaves m n f g has state made records classes =
+    → KeepsMarksAndHeaps m n g.extent → regions n ≡ regions m → LeavesFlex m n g
+unbegun_leaves m n f g has state made records =
     let left = unmade_left m n f g has.is made records state in
     let others = ap (λ (s : Store). s.others) left.0 in
     record {
@@ -92,7 +93,7 @@ unbegun_leaves m n f g has state made records classes =
         beside =
             ap count_beside others ∙ has.beside ∙ ap (λ (h : Flex). records_with h.extent) (sym left.1);
       };
-      classes = classes;
+      classes = made.classes;
       module_state = λ l ms pending module_state.
           module_state_kept (module_state_of m l ms) (module_state_of n l ms) pending module_state refl others
           (unmade_areas m n g l made left.0 module_state.area_store);
@@ -100,20 +101,20 @@ unbegun_leaves m n f g has state made records classes =
 
 pub made_leaves : (m n : AddressMap) (f g : Flex) (start end : ℕ) (r : Result (FlexState × Unit {0}) ErrorNumber)
     (x : Result (Unit {0}) ErrorNumber) → HasFlex m f → flex_after_init (store_of m) (flex_state_of m f) start end ≡ r
-    → Gives {U = Unit {0}} (flex_state_of m f) r x (flex_state_of n g) → IsFlexMade m n g
+    → Gives {U = Unit {0}} (flex_state_of m f) r x (flex_state_of n g) → KeepsMarksAndHeaps m n g.extent
     → MatchResult x (λ _. regions n ≡ regions m ++ flex_record start end ∷ []) (λ _. regions n ≡ regions m)
-    → AreClasses n → LeavesFlex m n g
-made_leaves m n f g start end (Ok r) (Ok u) has is gives made records classes =
-    begun_leaves m n f g start end r has is gives.0 made records classes
-made_leaves m n f g start end (Err e) (Err d) has is gives made records classes =
-    unbegun_leaves m n f g has gives.1 made records classes
-made_leaves m n f g start end (Ok r) (Err d) has is gives made records classes = absurd gives
-made_leaves m n f g start end (Err e) (Ok u) has is gives made records classes = absurd gives
+    → LeavesFlex m n g
+made_leaves m n f g start end (Ok r) (Ok u) has is gives made records =
+    begun_leaves m n f g start end r has is gives.0 made records
+made_leaves m n f g start end (Err e) (Err d) has is gives made records =
+    unbegun_leaves m n f g has gives.1 made records
+made_leaves m n f g start end (Ok r) (Err d) has is gives made records = absurd gives
+made_leaves m n f g start end (Err e) (Ok u) has is gives made records = absurd gives
 
 -- memory and the store then
 made_so : (m n : AddressMap) (f g : Flex) (start end : ℕ) (r : Result (FlexState × Unit {0}) ErrorNumber)
     (x : Result (Unit {0}) ErrorNumber) → IsFlex m f
-    → Gives {U = Unit {0}} (flex_state_of m f) r x (flex_state_of n g) → IsFlexMade m n g
+    → Gives {U = Unit {0}} (flex_state_of m f) r x (flex_state_of n g) → KeepsMarksAndHeaps m n g.extent
     → MatchResult x (λ _. regions n ≡ regions m ++ flex_record start end ∷ []) (λ _. regions n ≡ regions m)
     → Gives {U = Unit {0}} (memory_of m f) (memory_after_flex (with_flex_record (store_of m) start end) r) x (memory_of n g)
 made_so m n f g start end (Ok r) (Ok u) is gives made records =
@@ -127,7 +128,7 @@ made_so m n f g start end (Err e) (Ok u) is gives made records = absurd gives
 
 pub made_given : (m n : AddressMap) (f g : Flex) (start end : ℕ) (x : Result (Unit {0}) ErrorNumber) → IsFlex m f
     → Gives {U = Unit {0}} (flex_state_of m f) (flex_after_init (store_of m) (flex_state_of m f) start end) x (flex_state_of n g)
-    → IsFlexMade m n g
+    → KeepsMarksAndHeaps m n g.extent
     → MatchResult x (λ _. regions n ≡ regions m ++ flex_record start end ∷ []) (λ _. regions n ≡ regions m)
     → Gives {U = Unit {0}} (memory_of m f) (flex_in_range (memory_of m f) start end) x (memory_of n g)
 made_given m n f g start end x is gives made records =

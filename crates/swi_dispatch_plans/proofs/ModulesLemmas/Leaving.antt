@@ -1,24 +1,23 @@
 -- What the calls on modules leave, by what is said of memory and areas, or of the modules.
 use Rattle.profile.specs.MemoryMap.{system_start}
-use Rattle.std.proofs.Common.{◌≡◌, ℕ, List, Option, refl, arith}
+use Rattle.std.proofs.Common.{ℕ, List, refl, arith}
 use Rattle.address_map.proofs.InRange.{range_inside}
 use Rattle.address_map.specs.declared.map.AddressMap.{AddressMap}
 use Rattle.address_map.specs.Bytes.{AreMapped}
-use Rattle.os_heap.specs.Store.{AreClasses, Store, store_of}
+use Rattle.os_heap.specs.Store.{Store, store_of}
 use Rattle.dynamic_areas.specs.Areas.{AreaTable}
 use Rattle.dynamic_areas.specs.Ground.{AreAreas, IsAreaStore, area_store_of}
+use Rattle.dynamic_areas.specs.Kept.{IsAreaMap}
 use Rattle.dynamic_areas.proofs.HeapCalls.{system_mapped}
-use Rattle.instances_table.specs.plans.Plans.{Plan}
-use Rattle.instances.specs.Modules.{Module, slots_of}
+use Rattle.instances.specs.Modules.{Module}
 use Rattle.instances.proofs.GoingOn.{may_go_on_kept}
-use Rattle.instances.specs.Turns.{MayGoOn}
 use Rattle.instances.specs.module_state.ModuleState.{module_state_of}
 use Rattle.swi_dispatch_plans.proofs.StoreLemmas.Leaving.{leaves_memory}
 use Rattle.swi_dispatch_plans.specs.store.Leaving.{LeavesSound}
-use Rattle.swi_dispatch_plans.specs.modules.Leaving.{LeavesModuleState}
+use Rattle.swi_dispatch_plans.specs.modules.Leaving.{LeavesInstances, LeavesModuleState}
 
 -- a call on memory and areas
-pub module_state_left : (m n : AddressMap) (k l : AreaTable) (modules : List Module) → LeavesSound m n l → LeavesModuleState m n k l modules modules
+pub module_state_left : (m n : AddressMap) (k l : AreaTable) (modules : List Module) → LeavesSound m n k l → LeavesModuleState m n k l modules modules
 module_state_left m n k l modules left = record {
   memory = left;
   slots = refl;
@@ -26,14 +25,11 @@ module_state_left m n k l modules left = record {
 }
 
 -- a call on the modules alone, and one that changes nothing
-pub named_left : (m : AddressMap) (l : AreaTable) (old new : List Module) → IsAreaStore (area_store_of m l) → AreClasses m → slots_of new ≡ slots_of old
-    → ((plan : Option Plan) → MayGoOn (module_state_of m l old) plan → MayGoOn (module_state_of m l new) plan) → LeavesModuleState m m l l old new
-named_left m l old new area_store classes slots going =
-    record { memory = leaves_memory m l area_store classes; slots = slots; going = going }
+pub named_left : (m : AddressMap) (l : AreaTable) (old new : List Module) → IsAreaMap m l → LeavesInstances m old new → LeavesModuleState m m l l old new
+named_left m l old new is left = record { memory = leaves_memory m l is; slots = left.slots; going = left.going l }
 
-pub nothing_left : (m : AddressMap) (l : AreaTable) (modules : List Module) → IsAreaStore (area_store_of m l) → AreClasses m
-    → LeavesModuleState m m l l modules modules
-nothing_left m l modules area_store classes = module_state_left m m l l modules (leaves_memory m l area_store classes)
+pub nothing_left : (m : AddressMap) (l : AreaTable) (modules : List Module) → IsAreaMap m l → LeavesModuleState m m l l modules modules
+nothing_left m l modules is = module_state_left m m l l modules (leaves_memory m l is)
 
 -- the private words of the modules are mapped
 pub private_room : (m : AddressMap) (l : AreaTable) → IsAreaStore (area_store_of m l) → AreMapped (store_of m).bytes.mapped 0x01C02000 256

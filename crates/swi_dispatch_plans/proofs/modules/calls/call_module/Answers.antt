@@ -4,11 +4,11 @@ use Rattle.swi_dispatch_plans.proofs.modules.calls.call_module.Goals as goal
 
 pub print_instance-requires : goal.print_instance-requires
 unfolding store_of
-print_instance-requires c = private_room _ _ c.requires.area_store
+print_instance-requires c = private_room _ _ c.requires.state.area_store
 
 pub find_instance-requires : goal.find_instance-requires
 unfolding store_of
-find_instance-requires c = private_room _ _ c.requires.area_store
+find_instance-requires c = private_room _ _ c.requires.state.area_store
 
 pub returns-in-Some-Claim-clause-leaves : goal.returns-in-Some-Claim-clause-leaves
 returns-in-Some-Claim-clause-leaves c = module_state_left _ _ _ _ _ c.claim_block.ensures.leaves
@@ -21,23 +21,23 @@ returns-in-Some-Extend-clause-leaves c = module_state_left _ _ _ _ _ c.extend_bl
 
 pub returns-in-Some-Rename-clause-leaves : goal.returns-in-Some-Rename-clause-leaves
 returns-in-Some-Rename-clause-leaves c =
-    named_left _ _ _ _ c.requires.area_store c.requires.classes c.rename_instance.ensures.slots (c.rename_instance.ensures.going c.args.areas.now)
+    named_left _ _ _ _ c.requires.state c.rename_instance.ensures.leaves
 
 pub returns-in-Some-Prefer-clause-leaves : goal.returns-in-Some-Prefer-clause-leaves
 returns-in-Some-Prefer-clause-leaves c =
-    named_left _ _ _ _ c.requires.area_store c.requires.classes c.prefer_instance.ensures.slots (c.prefer_instance.ensures.going c.args.areas.now)
+    named_left _ _ _ _ c.requires.state c.prefer_instance.ensures.leaves
 
 pub returns-in-Some-DescribeArea-clause-leaves : goal.returns-in-Some-DescribeArea-clause-leaves
-returns-in-Some-DescribeArea-clause-leaves c = nothing_left _ _ _ c.requires.area_store c.requires.classes
+returns-in-Some-DescribeArea-clause-leaves c = nothing_left _ _ _ c.requires.state
 
 pub returns-in-Some-Info-clause-leaves : goal.returns-in-Some-Info-clause-leaves
-returns-in-Some-Info-clause-leaves c = nothing_left _ _ _ c.requires.area_store c.requires.classes
+returns-in-Some-Info-clause-leaves c = nothing_left _ _ _ c.requires.state
 
 pub returns-in-Some-Lookup-clause-leaves : goal.returns-in-Some-Lookup-clause-leaves
-returns-in-Some-Lookup-clause-leaves c = nothing_left _ _ _ c.requires.area_store c.requires.classes
+returns-in-Some-Lookup-clause-leaves c = nothing_left _ _ _ c.requires.state
 
 pub returns-in_default-clause-leaves : goal.returns-in_default-clause-leaves
-returns-in_default-clause-leaves c = nothing_left _ _ _ c.requires.area_store c.requires.classes
+returns-in_default-clause-leaves c = nothing_left _ _ _ c.requires.state
 
 pub returns-in_default-2-clause-leaves : goal.returns-in_default-2-clause-leaves
-returns-in_default-2-clause-leaves c = nothing_left _ _ _ c.requires.area_store c.requires.classes
+returns-in_default-2-clause-leaves c = nothing_left _ _ _ c.requires.state

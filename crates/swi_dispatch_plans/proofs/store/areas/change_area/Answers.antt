@@ -11,4 +11,4 @@ returns-in-Err-clause-error c =
     unknown_error _ _ _ _ _ _ (subst (λ (n : ℕ). area_in c.args.areas.now.areas n ≡ Err c.in-Err.error) c.register-number.ensures c.in-Err.ensures)
 
 pub returns-in-Err-clause-leaves : goal.returns-in-Err-clause-leaves
-returns-in-Err-clause-leaves c = leaves_memory _ _ c.requires.area_store c.requires.classes
+returns-in-Err-clause-leaves c = leaves_memory _ _ c.requires.state
