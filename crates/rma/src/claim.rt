@@ -41,26 +41,18 @@ impl Rma {
         areas: &mut Areas,
         size: u32,
     ) -> Result<u32, ErrorNumber>
-        requires area_store { IsAreaStore (area_store_of map.old areas.old) }
-        requires classes { AreClasses map.old }
+        requires state { IsAreaMap map.old areas.old }
         ensures claimed { Gives (area_store_of map.old areas.old)
             (rma_claimed (area_store_of map.old areas.old) size) result
             (area_store_of map.new areas.new) }
-        ensures area_store { IsAreaStore (area_store_of map.new areas.new) }
-        ensures classes { AreClasses map.new }
-        ensures others { (store_of map.new).others ≡ (store_of map.old).others }
-        ensures order { KeepsOrder map.old map.new }
-        ensures stays { StaysInPlace map.old map.new }
-        ensures places { KeepsPlaces map.old map.new }
+        ensures kept { KeepsRecords map.old map.new areas.old areas.new }
         ensures live { IfOk result (λ block. IsLiveBlock (store_of map.new) block (total_for size)) }
         ensures unheaped { IfOk result (λ block. holds_heap (store_of map.new).heaps block
             (total_for size - 4) ≡ false) }
         ensures inside { IfOk result (λ block. in_range module_area_start module_area_maximum block ≡ true) }
         ensures alone { IfOk result (λ block. is_in_record (store_of map.old).others block ≡ false) }
-        ensures flex { KeepsFlex (store_of map.old) (store_of map.new) }
         ensures unanchored { IfOk result (λ block. RangeHasNoAnchor (store_of map.new) block
             (total_for size - 4)) }
-        ensures sizes { areas.new.sizes ≡ areas.old.sizes }
     {
         match Heaps::new().get(map, RMA_START, size).answer {
             Ok(block) => Ok(block),
@@ -72,25 +64,18 @@ impl Rma {
 
 /// Claims a block where no room is left, once the area is grown.
 fn claim_grown(map: &mut AddressMap, areas: &mut Areas, size: u32) -> Result<u32, ErrorNumber>
-    requires area_store { IsAreaStore (area_store_of map.old areas.old) }
-    requires classes { AreClasses map.old }
+    requires state { IsAreaMap map.old areas.old }
     ensures claimed { Gives (area_store_of map.old areas.old)
         (in_grown_area (area_store_of map.old areas.old) (rma_base (store_of map.old) + total_for size)
         (λ s. store_after_get s module_area_start size)) result (area_store_of map.new areas.new) }
-    ensures area_store { IsAreaStore (area_store_of map.new areas.new) }
-    ensures classes { AreClasses map.new }
-    ensures others { (store_of map.new).others ≡ (store_of map.old).others }
-    ensures order { KeepsOrder map.old map.new }
-    ensures places { KeepsPlaces map.old map.new }
+    ensures kept { KeepsRecords map.old map.new areas.old areas.new }
     ensures live { IfOk result (λ block. IsLiveBlock (store_of map.new) block (total_for size)) }
     ensures unheaped { IfOk result (λ block. holds_heap (store_of map.new).heaps block (total_for size - 4)
         ≡ false) }
     ensures inside { IfOk result (λ block. in_range module_area_start module_area_maximum block ≡ true) }
     ensures alone { IfOk result (λ block. is_in_record (store_of map.old).others block ≡ false) }
-    ensures flex { KeepsFlex (store_of map.old) (store_of map.new) }
     ensures unanchored { IfOk result (λ block. RangeHasNoAnchor (store_of map.new) block
         (total_for size - 4)) }
-    ensures sizes { areas.new.sizes ≡ areas.old.sizes }
 {
     let heaps = Heaps::new();
     let end = u64::from(heaps.base(map, RMA_START)) + total_for(size);

@@ -45,18 +45,11 @@ impl Rma {
         block: u32,
         change: u32,
     ) -> Result<u32, ErrorNumber>
-        requires area_store { IsAreaStore (area_store_of map.old areas.old) }
-        requires classes { AreClasses map.old }
+        requires state { IsAreaMap map.old areas.old }
         ensures extended { Gives (area_store_of map.old areas.old)
             (rma_extended (area_store_of map.old areas.old) block change) result
             (area_store_of map.new areas.new) }
-        ensures area_store { IsAreaStore (area_store_of map.new areas.new) }
-        ensures classes { AreClasses map.new }
-        ensures others { (store_of map.new).others ≡ (store_of map.old).others }
-        ensures records { LosesInOrder map.old map.new }
-        ensures stays { StaysInPlace map.old map.new }
-        ensures flex { KeepsFlex (store_of map.old) (store_of map.new) }
-        ensures sizes { areas.new.sizes ≡ areas.old.sizes }
+        ensures kept { LosesInnerHeaps map.old map.new areas.old areas.new }
     {
         grow_in_place(map, areas, block, change);
         match Heaps::new().resize(map, RMA_START, block, change).answer {
@@ -69,17 +62,10 @@ impl Rma {
 
 /// Grows the area for a change of its last block, where that needs it and can have it.
 fn grow_in_place(map: &mut AddressMap, areas: &mut Areas, block: u32, change: u32)
-    requires area_store { IsAreaStore (area_store_of map.old areas.old) }
-    requires classes { AreClasses map.old }
+    requires state { IsAreaMap map.old areas.old }
     ensures grown { area_store_of map.new areas.new ≡ grown_in_place (area_store_of map.old areas.old) block
         change }
-    ensures area_store { IsAreaStore (area_store_of map.new areas.new) }
-    ensures classes { AreClasses map.new }
-    ensures others { (store_of map.new).others ≡ (store_of map.old).others }
-    ensures order { KeepsOrder map.old map.new }
-    ensures places { KeepsPlaces map.old map.new }
-    ensures flex { KeepsFlex (store_of map.old) (store_of map.new) }
-    ensures sizes { areas.new.sizes ≡ areas.old.sizes }
+    ensures kept { KeepsRecords map.old map.new areas.old areas.new }
 {
     let end = end_in_place(map, block, change);
     let _ = grow_to(map, areas, end);
@@ -93,8 +79,7 @@ fn move_grown(
     block: u32,
     change: u32,
 ) -> Result<u32, ErrorNumber>
-    requires area_store { IsAreaStore (area_store_of map.old areas.old) }
-    requires classes { AreClasses map.old }
+    requires state { IsAreaMap map.old areas.old }
     requires full { is_full (store_after_resize (store_of map.old) module_area_start block change) ≡ true }
     requires tried { grown_in_place (area_store_of map.old areas.old) block change ≡ area_store_of map.old
         areas.old }
@@ -103,13 +88,7 @@ fn move_grown(
         (end_if_moved (rma_base (store_of map.old)) change
         (block_sized (store_of map.old) module_area_start block))
         (λ s. store_after_resize s module_area_start block change)) result (area_store_of map.new areas.new) }
-    ensures area_store { IsAreaStore (area_store_of map.new areas.new) }
-    ensures classes { AreClasses map.new }
-    ensures others { (store_of map.new).others ≡ (store_of map.old).others }
-    ensures records { LosesInOrder map.old map.new }
-    ensures places { KeepsPlaces map.old map.new }
-    ensures flex { KeepsFlex (store_of map.old) (store_of map.new) }
-    ensures sizes { areas.new.sizes ≡ areas.old.sizes }
+    ensures kept { LosesInnerHeaps map.old map.new areas.old areas.new }
 {
     let end = end_if_moved(map, block, change);
     if holds_heap(map, block) {

@@ -29,19 +29,11 @@ impl Rma {
     ///
     /// RISC OS 3 Programmer's Reference Manual, "OS_Module", reason 7.
     pub fn free(&self, map: &mut AddressMap, block: u32) -> Result<(), ErrorNumber>
-        requires sound { IsSound (store_of map.old) }
-        requires classes { AreClasses map.old }
+        requires state { IsSoundMap map.old }
         ensures freed { (l : AreaTable)
             → Gives (area_store_of map.old l) (rma_freed (area_store_of map.old l) block) result
             (area_store_of map.new l) }
-        ensures sound { IsSound (store_of map.new) }
-        ensures area_store { (l : AreaTable) → IsAreaStore (area_store_of map.old l) → IsAreaStore
-            (area_store_of map.new l) }
-        ensures classes { AreClasses map.new }
-        ensures others { (store_of map.new).others ≡ (store_of map.old).others }
-        ensures mapping { mapping map.new ≡ mapping map.old }
-        ensures records { LosesHeaps map.old map.new }
-        ensures flex { KeepsFlex (store_of map.old) (store_of map.new) }
+        ensures kept { FreesRoom map.old map.new (regions map.old) (store_of map.old).others }
     {
         match Heaps::new().free(map, RMA_START, block).answer {
             Ok(()) => Ok(()),

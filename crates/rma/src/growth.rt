@@ -24,18 +24,11 @@ use profile::memory_map::{PAGE_SIZE, RMA_MAXIMUM};
 ///
 /// `RmaNoRoom` where the pool or the maximum does not allow so much. Nothing is changed then.
 pub(crate) fn grow_to(map: &mut AddressMap, areas: &mut Areas, end: u64) -> Result<(), ErrorNumber>
-    requires area_store { IsAreaStore (area_store_of map.old areas.old) }
-    requires classes { AreClasses map.old }
+    requires state { IsAreaMap map.old areas.old }
     ensures grown { Leaves (area_store_of map.old areas.old)
         (grown_to (area_store_of map.old areas.old) end) result
         (area_store_of map.new areas.new) }
-    ensures area_store { IsAreaStore (area_store_of map.new areas.new) }
-    ensures classes { AreClasses map.new }
-    ensures others { (store_of map.new).others ≡ (store_of map.old).others }
-    ensures order { KeepsOrder map.old map.new }
-    ensures places { KeepsPlaces map.old map.new }
-    ensures flex { KeepsFlex (store_of map.old) (store_of map.new) }
-    ensures sizes { areas.new.sizes ≡ areas.old.sizes }
+    ensures kept { KeepsRecords map.old map.new areas.old areas.new }
 {
     if !can_grow_to(map, areas, end) {
         return Err(ErrorNumber::RmaNoRoom);

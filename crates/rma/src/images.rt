@@ -27,11 +27,7 @@ impl Rma {
         requires sound { IsSound (store_of map.old) }
         requires may { CanRecord (store_of map.old) at }
         ensures store { store_of map.new ≡ image_recorded (store_of map.old) at }
-        ensures sound { IsSound (store_of map.new) }
-        ensures area_store { (l : AreaTable) → IsAreaStore (area_store_of map.old l) → IsAreaStore
-            (area_store_of map.new l) }
-        ensures classes { AreClasses map.old → AreClasses map.new }
-        ensures mapping { mapping map.new ≡ mapping map.old }
+        ensures kept { KeepsAreaStores map.old map.new }
         ensures order { MatchResult (block_sized (store_of map.old) module_area_start at)
             (λ _. AddsRecord map.old map.new Image at) (λ _. KeepsOrder map.old map.new) }
         ensures flex { IfOk (block_sized (store_of map.old) module_area_start at)
@@ -49,13 +45,8 @@ impl Rma {
     pub fn drop_image(&self, map: &mut AddressMap, at: u32)
         requires { IsSound (store_of map.old) }
         ensures store { store_of map.new ≡ image_dropped (store_of map.old) at }
-        ensures sound { IsSound (store_of map.new) }
-        ensures area_store { (l : AreaTable) → IsAreaStore (area_store_of map.old l) → IsAreaStore
-            (area_store_of map.new l) }
-        ensures classes { AreClasses map.old → AreClasses map.new }
-        ensures mapping { mapping map.new ≡ mapping map.old }
+        ensures kept { KeepsFlexAreas map.old map.new }
         ensures regions { regions map.new ≡ without_region (regions map.old) Image at }
-        ensures flex { KeepsFlex (store_of map.old) (store_of map.new) }
     {
         map.disown(Kind::Image, at);
     }
@@ -64,17 +55,9 @@ impl Rma {
     /// is done to a block that is no image, and the heaps in it are forgotten; where there is no
     /// block, nothing more is done.
     pub fn free_image(&self, map: &mut AddressMap, at: u32)
-        requires sound { IsSound (store_of map.old) }
-        requires classes { AreClasses map.old }
+        requires state { IsSoundMap map.old }
         ensures store { store_of map.new ≡ image_freed (store_of map.old) at }
-        ensures sound { IsSound (store_of map.new) }
-        ensures area_store { (l : AreaTable) → IsAreaStore (area_store_of map.old l) → IsAreaStore
-            (area_store_of map.new l) }
-        ensures classes { AreClasses map.new }
-        ensures mapping { mapping map.new ≡ mapping map.old }
-        ensures records { regions map.new ≡ filter (stays (store_of map.new).heaps)
-            (without_region (regions map.old) Image at) }
-        ensures flex { KeepsFlex (store_of map.old) (store_of map.new) }
+        ensures kept { FreesRoom map.old map.new (without_region (regions map.old) Image at) (without_region (store_of map.old).others Image at) }
     {
         self.drop_image(map, at);
         let _ = Heaps::new().free(map, RMA_START, at).answer;

@@ -36,13 +36,8 @@ impl Rma {
         ensures placed { (l : AreaTable)
             → area_store_of map.new l ≡ with_store (area_store_of map.old l)
             (with_image_in_place (store_of map.old) at len) }
-        ensures sound { IsSound (store_of map.new) }
-        ensures area_store { (l : AreaTable) → IsAreaStore (area_store_of map.old l) → IsAreaStore
-            (area_store_of map.new l) }
-        ensures classes { AreClasses map.old → AreClasses map.new }
-        ensures mapping { mapping map.new ≡ mapping map.old }
+        ensures kept { KeepsFlexAreas map.old map.new }
         ensures order { AddsRecord map.old map.new Image at }
-        ensures flex { KeepsFlex (store_of map.old) (store_of map.new) }
     {
         map.own(Kind::Image, at, len);
     }

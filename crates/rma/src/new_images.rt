@@ -39,15 +39,12 @@ impl Rma {
         areas: &mut Areas,
         image: &[u8],
     ) -> Result<u32, ErrorNumber>
-        requires area_store { IsAreaStore (area_store_of map.old areas.old) }
-        requires classes { AreClasses map.old }
+        requires state { IsAreaMap map.old areas.old }
         requires room { length (store_of map.old).others < 68 }
         ensures made { Gives (area_store_of map.old areas.old)
             (image_made (area_store_of map.old areas.old) image.now) result
             (area_store_of map.new areas.new) }
-        ensures area_store { IsAreaStore (area_store_of map.new areas.new) }
-        ensures classes { AreClasses map.new }
-        ensures flex { KeepsFlex (store_of map.old) (store_of map.new) }
+        ensures kept { KeepsAreas map.old map.new areas.old areas.new }
         ensures whole { IfOk result (λ block. block % 4 ≡ 0) }
         ensures inside { IfOk result (λ block. in_range module_area_start module_area_maximum block ≡ true) }
         ensures alone { IfOk result (λ block. is_in_record (store_of map.old).others block ≡ false) }
@@ -58,9 +55,7 @@ impl Rma {
             (λ block. has_image block (store_of map.old).others ≡ false →
             AddsRecord map.old map.new Image block)
             (λ _. KeepsOrder map.old map.new) }
-        ensures places { KeepsPlaces map.old map.new }
         ensures fits { IfOk result (λ block. length image.now ≤ 4194304) }
-        ensures sizes { areas.new.sizes ≡ areas.old.sizes }
     {
         if image.len() > RMA_MAXIMUM as usize {
             return Err(ErrorNumber::RmaNoRoom);
@@ -87,16 +82,13 @@ impl Rma {
         from: u32,
         len: u32,
     ) -> Result<u32, ErrorNumber>
-        requires area_store { IsAreaStore (area_store_of map.old areas.old) }
-        requires classes { AreClasses map.old }
+        requires state { IsAreaMap map.old areas.old }
         requires room { length (store_of map.old).others < 68 }
         requires source { AreMapped (is_mapped map.old) from len }
         ensures made { Gives (area_store_of map.old areas.old)
             (image_copied (area_store_of map.old areas.old) from len) result
             (area_store_of map.new areas.new) }
-        ensures area_store { IsAreaStore (area_store_of map.new areas.new) }
-        ensures classes { AreClasses map.new }
-        ensures flex { KeepsFlex (store_of map.old) (store_of map.new) }
+        ensures kept { KeepsAreas map.old map.new areas.old areas.new }
         ensures whole { IfOk result (λ block. block % 4 ≡ 0) }
         ensures inside { IfOk result (λ block. in_range module_area_start module_area_maximum block ≡ true) }
         ensures alone { IfOk result (λ block. is_in_record (store_of map.old).others block ≡ false) }
@@ -106,8 +98,6 @@ impl Rma {
             (λ block. has_image block (store_of map.old).others ≡ false →
             AddsRecord map.old map.new Image block)
             (λ _. KeepsOrder map.old map.new) }
-        ensures places { KeepsPlaces map.old map.new }
-        ensures sizes { areas.new.sizes ≡ areas.old.sizes }
     {
         let block = self.claim(map, areas, len)?;
         fill_from(map, block, from, len);
@@ -123,13 +113,7 @@ fn fill(map: &mut AddressMap, block: u32, bytes: &[u8])
     requires unheaped { holds_heap (store_of map.old).heaps block (total_for (length bytes.now) - 4) ≡ false }
     requires unanchored { RangeHasNoAnchor (store_of map.old) block (total_for (length bytes.now) - 4) }
     ensures store { store_of map.new ≡ store_with_image_bytes (store_of map.old) block bytes.now }
-    ensures sound { IsSound (store_of map.new) }
-    ensures area_store { (l : AreaTable) → IsAreaStore (area_store_of map.old l) → IsAreaStore
-        (area_store_of map.new l) }
-    ensures classes { AreClasses map.old → AreClasses map.new }
-    ensures layout { layout map.new ≡ layout map.old }
-    ensures flex { KeepsFlex (store_of map.old) (store_of map.new) }
-    ensures unanchored { RangeHasNoAnchor (store_of map.new) block (total_for (length bytes.now) - 4) }
+    ensures kept { KeepsBlock map.old map.new block (total_for (length bytes.now) - 4) }
 {
     map.put_bytes(block, bytes);
 }
@@ -142,13 +126,7 @@ fn fill_from(map: &mut AddressMap, block: u32, from: u32, len: u32)
     requires unanchored { RangeHasNoAnchor (store_of map.old) block (total_for len - 4) }
     requires source { AreMapped (is_mapped map.old) from len }
     ensures store { store_of map.new ≡ store_after_copy (store_of map.old) from block len }
-    ensures sound { IsSound (store_of map.new) }
-    ensures area_store { (l : AreaTable) → IsAreaStore (area_store_of map.old l) → IsAreaStore
-        (area_store_of map.new l) }
-    ensures classes { AreClasses map.old → AreClasses map.new }
-    ensures layout { layout map.new ≡ layout map.old }
-    ensures flex { KeepsFlex (store_of map.old) (store_of map.new) }
-    ensures unanchored { RangeHasNoAnchor (store_of map.new) block (total_for len - 4) }
+    ensures kept { KeepsBlock map.old map.new block (total_for len - 4) }
 {
     map.move_bytes(from, block, len);
 }

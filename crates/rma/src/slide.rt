@@ -26,16 +26,12 @@ impl Rma {
     /// this project's own.
     #[tactic(auto, using(crate::proofs::FlexFrameLemmas::Slides::slides_keep))]
     pub fn slide(&self, map: &mut AddressMap, movable: &[u32]) -> Moves
-        requires sound { IsSound (store_of map.old) }
-        requires classes { AreClasses map.old }
+        requires state { IsSoundMap map.old }
         requires movable { MaySlide (store_of map.old) module_area_start movable.now }
         ensures slid { IsHeapSlid (store_of map.old) module_area_start movable.now
             (store_of map.new) result.items }
-        ensures sound { IsSound (store_of map.new) }
-        ensures classes { AreClasses map.new }
-        ensures mapping { mapping map.new ≡ mapping map.old }
+        ensures kept { KeepsMapped map.old map.new }
         ensures regions { regions map.new ≡ moved_regions result.items (regions map.old) }
-        ensures flex { KeepsFlex (store_of map.old) (store_of map.new) }
     {
         slide(map, RMA_START, movable)
     }

@@ -40,8 +40,7 @@ pub(crate) fn pass_free(map: &mut AddressMap, heap: u32, cursor: &Cursor) -> Cur
         ≡ with_item_marked cursor.now.at (Free (word_at (byte_at map.old) (cursor.now.at + 4)))
         (head_class false)
         (class_of map.old) a }
-    ensures bytes { byte_at map.new ≡ byte_at map.old }
-    ensures layout { layout map.new ≡ layout map.old }
+    ensures kept { KeepsBytesAndLayout map.old map.new }
 {
     let total = word(map, cursor.at + 4);
     let free = follow(map, heap, cursor.at);

@@ -28,13 +28,10 @@ pub type Moves = ArrayVec<BlockMove, MOST_MOVES>;
 /// RISC OS 3 Programmer's Reference Manual, "OS_Module", reason 8; which blocks can be moved is
 /// this project's own.
 pub fn slide(map: &mut AddressMap, heap: u32, movable: &[u32]) -> Moves
-    requires sound { IsSound (store_of map.old) }
-    requires classes { AreClasses map.old }
+    requires state { IsSoundMap map.old }
     requires movable { MaySlide (store_of map.old) heap movable.now }
     ensures slid { IsHeapSlid (store_of map.old) heap movable.now (store_of map.new) result.items }
-    ensures sound { IsSound (store_of map.new) }
-    ensures classes { AreClasses map.new }
-    ensures mapping { mapping map.new ≡ mapping map.old }
+    ensures kept { KeepsMapped map.old map.new }
     ensures regions { regions map.new ≡ moved_regions result.items (regions map.old) }
 {
     let moves = slide_items(map, heap, movable);
