@@ -3,6 +3,7 @@ pub use Rattle.os_heap_words.specs.lists
 pub mod Calls
 pub mod Copies
 pub mod Images
+pub mod Kept
 pub mod Laws
 pub mod NewImages
 pub mod Places

@@ -4,17 +4,16 @@ ghost use Rattle.std.specs.Prelude.{◌≡◌, ◌+◌, ◌-◌, false, true, If
 ghost use Rattle.profile.specs.MemoryMap.{module_area_maximum, module_area_start};
 ghost use Rattle.profile.specs.Outcome.{Gives};
 ghost use Rattle.address_map.specs.Bytes.{in_range};
-ghost use Rattle.address_map.specs.Memory.{StaysInPlace};
 ghost use Rattle.os_heap_words.specs.lists.Lists.{total_for};
 ghost use Rattle.dynamic_areas.specs.Calls.{store_after_get};
 ghost use Rattle.dynamic_areas.specs.Forgetting.{holds_heap};
-ghost use Rattle.dynamic_areas.specs.Order.{KeepsOrder};
-ghost use Rattle.dynamic_areas.specs.Store.{store_of, AreClasses};
-ghost use Rattle.dynamic_areas.specs.Ground.{area_store_of, IsAreaStore};
-ghost use Rattle.rma.specs.flex_frame.Keeping.{is_in_record, RangeHasNoAnchor, KeepsFlex};
+ghost use Rattle.dynamic_areas.specs.Store.{store_of};
+ghost use Rattle.dynamic_areas.specs.Ground.{area_store_of};
+ghost use Rattle.rma.specs.flex_frame.Keeping.{is_in_record, RangeHasNoAnchor};
 ghost use Rattle.rma.specs.Calls.{in_grown_area, rma_base, rma_claimed};
 ghost use Rattle.rma.specs.NewImages.{IsLiveBlock};
-ghost use Rattle.rma.specs.Places.{KeepsPlaces};
+ghost use Rattle.dynamic_areas.specs.Kept.{IsAreaMap};
+ghost use Rattle.rma.specs.Kept.{KeepsRecords};
 
 use crate::area::Rma;
 use crate::errors::{is_no_room, rma_error};

@@ -4,14 +4,12 @@ ghost use Rattle.profile.specs.MemoryMap.{module_area_start};
 ghost use Rattle.std.specs.Prelude.{◌≡◌, ◌<◌, ◌+◌, ◌^◌, true, is_ok, if◌then◌else◌};
 ghost use Rattle.profile.specs.Outcome.{Gives};
 ghost use Rattle.profile.specs.declared.error.ErrorNumber.TheVariants.{RmaBlockHoldsHeap, RmaNoRoom};
-ghost use Rattle.address_map.specs.Memory.{StaysInPlace};
 ghost use Rattle.dynamic_areas.specs.Calls.{block_sized, store_after_resize};
-ghost use Rattle.dynamic_areas.specs.Order.{KeepsOrder, LosesInOrder};
-ghost use Rattle.dynamic_areas.specs.Store.{store_of, AreClasses, IsSound};
+ghost use Rattle.dynamic_areas.specs.Store.{store_of, IsSound};
 ghost use Rattle.dynamic_areas.specs.Ground.{area_store_of, IsAreaStore};
-ghost use Rattle.rma.specs.flex_frame.Keeping.{KeepsFlex};
 ghost use Rattle.rma.specs.Calls.{block_holds, end_if_moved, end_in_place, grown_in_place, grown_to, in_grown_area, is_full, rma_base, rma_extended, total_changed};
-ghost use Rattle.rma.specs.Places.{KeepsPlaces};
+ghost use Rattle.dynamic_areas.specs.Kept.{IsAreaMap};
+ghost use Rattle.rma.specs.Kept.{KeepsRecords, LosesInnerHeaps};
 
 use crate::area::Rma;
 use crate::errors::{is_no_room, rma_error};

@@ -1,14 +1,12 @@
 //! OS_Module 7: a block is given back.
 
-ghost use Rattle.std.specs.Prelude.{◌≡◌};
 ghost use Rattle.profile.specs.Outcome.{Gives};
-ghost use Rattle.address_map.specs.Memory.{mapping};
-ghost use Rattle.dynamic_areas.specs.Store.{AreClasses, store_of, IsSound};
+ghost use Rattle.dynamic_areas.specs.Store.{store_of};
 ghost use Rattle.dynamic_areas.specs.Areas.{AreaTable};
-ghost use Rattle.dynamic_areas.specs.Ground.{area_store_of, IsAreaStore};
-ghost use Rattle.dynamic_areas.specs.Order.{LosesHeaps};
-ghost use Rattle.rma.specs.flex_frame.Keeping.{KeepsFlex};
+ghost use Rattle.dynamic_areas.specs.Ground.{area_store_of};
 ghost use Rattle.rma.specs.Calls.{rma_freed};
+ghost use Rattle.dynamic_areas.specs.Sound.{IsSoundMap};
+ghost use Rattle.rma.specs.Kept.{FreesRoom};
 
 use crate::area::Rma;
 use crate::errors::rma_error;

@@ -2,15 +2,13 @@
 
 ghost use Rattle.std.specs.Prelude.{◌≡◌, ◌*◌, is_ok};
 ghost use Rattle.profile.specs.Outcome.{Leaves};
-ghost use Rattle.dynamic_areas.specs.Order.{KeepsOrder};
-ghost use Rattle.dynamic_areas.specs.Store.{store_of, AreClasses};
 ghost use Rattle.dynamic_areas.specs.Areas.{find_area};
 ghost use Rattle.dynamic_areas.specs.Changing.{pages_had};
 ghost use Rattle.dynamic_areas.specs.Ground.{area_store_of, IsAreaStore};
 ghost use Rattle.dynamic_areas.specs.Rooms.{IsAreaTable};
-ghost use Rattle.rma.specs.flex_frame.Keeping.{KeepsFlex};
 ghost use Rattle.rma.specs.Calls.{grown_to};
-ghost use Rattle.rma.specs.Places.{KeepsPlaces};
+ghost use Rattle.dynamic_areas.specs.Kept.{IsAreaMap};
+ghost use Rattle.rma.specs.Kept.{KeepsRecords};
 
 use address_map::AddressMap;
 use dynamic_areas::{Areas, MODULE_AREA};

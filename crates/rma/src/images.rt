@@ -2,17 +2,16 @@
 
 ghost use Rattle.profile.specs.MemoryMap.{module_area_start};
 ghost use Rattle.std.specs.Prelude.{◌≡◌, IfOk, MatchResult};
-ghost use Rattle.std.specs.List.{filter};
-ghost use Rattle.address_map.specs.Memory.{mapping, regions};
+ghost use Rattle.address_map.specs.Memory.{regions};
 ghost use Rattle.address_map.specs.Records.{without_region};
 ghost use Rattle.address_map.specs.declared.region.Kind.TheVariants.{Image};
 ghost use Rattle.dynamic_areas.specs.Calls.{block_sized};
-ghost use Rattle.dynamic_areas.specs.Order.{stays, AddsRecord, KeepsOrder};
-ghost use Rattle.dynamic_areas.specs.Store.{store_of, AreClasses, IsSound};
-ghost use Rattle.dynamic_areas.specs.Areas.{AreaTable};
-ghost use Rattle.dynamic_areas.specs.Ground.{area_store_of, IsAreaStore};
+ghost use Rattle.dynamic_areas.specs.Order.{AddsRecord, KeepsOrder};
+ghost use Rattle.dynamic_areas.specs.Store.{store_of, IsSound};
 ghost use Rattle.rma.specs.flex_frame.Keeping.{RangeHasNoAnchor, KeepsFlex};
 ghost use Rattle.rma.specs.Images.{image_dropped, image_freed, image_recorded, CanRecord};
+ghost use Rattle.dynamic_areas.specs.Sound.{IsSoundMap};
+ghost use Rattle.rma.specs.Kept.{KeepsAreaStores, KeepsFlexAreas, FreesRoom};
 
 use crate::area::Rma;
 use address_map::{AddressMap, Kind};
@@ -57,7 +56,8 @@ impl Rma {
     pub fn free_image(&self, map: &mut AddressMap, at: u32)
         requires state { IsSoundMap map.old }
         ensures store { store_of map.new ≡ image_freed (store_of map.old) at }
-        ensures kept { FreesRoom map.old map.new (without_region (regions map.old) Image at) (without_region (store_of map.old).others Image at) }
+        ensures kept { FreesRoom map.old map.new (without_region (regions map.old) Image at)
+            (without_region (store_of map.old).others Image at) }
     {
         self.drop_image(map, at);
         let _ = Heaps::new().free(map, RMA_START, at).answer;

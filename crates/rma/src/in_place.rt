@@ -1,16 +1,15 @@
 //! Images that stay where they lie: whether a range may be one, and its record.
 
 ghost use Rattle.std.specs.Prelude.{◌≡◌, ◌<◌, true, length};
-ghost use Rattle.address_map.specs.Memory.{mapping};
 ghost use Rattle.address_map.specs.declared.region.Kind.TheVariants.{Image};
 ghost use Rattle.dynamic_areas.specs.Order.{AddsRecord};
 ghost use Rattle.dynamic_areas.specs.Ranges.{are_bytes_mapped, meets_any};
-ghost use Rattle.dynamic_areas.specs.Store.{store_of, AreClasses, IsSound};
+ghost use Rattle.dynamic_areas.specs.Store.{store_of, IsSound};
 ghost use Rattle.dynamic_areas.specs.Areas.{AreaTable};
-ghost use Rattle.dynamic_areas.specs.Ground.{area_store_of, IsAreaStore};
-ghost use Rattle.rma.specs.flex_frame.Keeping.{KeepsFlex};
+ghost use Rattle.dynamic_areas.specs.Ground.{area_store_of};
 ghost use Rattle.rma.specs.Calls.{with_store};
 ghost use Rattle.rma.specs.NewImages.{may_be_in_place, with_image_in_place};
+ghost use Rattle.rma.specs.Kept.{KeepsFlexAreas};
 
 use crate::area::Rma;
 use address_map::{AddressMap, Kind};

@@ -4,18 +4,18 @@ ghost use Rattle.std.specs.Prelude.{◌≡◌, ◌-◌, ◌%◌, ◌≤◌, ◌<
 ghost use Rattle.profile.specs.MemoryMap.{module_area_maximum, module_area_start};
 ghost use Rattle.profile.specs.Outcome.{Gives};
 ghost use Rattle.address_map.specs.Bytes.{in_range, AreMapped};
-ghost use Rattle.address_map.specs.Memory.{is_mapped, layout};
+ghost use Rattle.address_map.specs.Memory.{is_mapped};
 ghost use Rattle.os_heap_words.specs.lists.Lists.{total_for};
 ghost use Rattle.dynamic_areas.specs.Calls.{store_after_copy};
 ghost use Rattle.dynamic_areas.specs.Forgetting.{holds_heap};
 ghost use Rattle.address_map.specs.declared.region.Kind.TheVariants.{Image};
 ghost use Rattle.dynamic_areas.specs.Order.{AddsRecord, KeepsOrder};
-ghost use Rattle.dynamic_areas.specs.Store.{store_of, AreClasses, IsSound, has_image};
-ghost use Rattle.dynamic_areas.specs.Areas.{AreaTable};
-ghost use Rattle.dynamic_areas.specs.Ground.{area_store_of, IsAreaStore};
-ghost use Rattle.rma.specs.flex_frame.Keeping.{is_in_record, RangeHasNoAnchor, KeepsFlex};
+ghost use Rattle.dynamic_areas.specs.Store.{store_of, IsSound, has_image};
+ghost use Rattle.dynamic_areas.specs.Ground.{area_store_of};
+ghost use Rattle.rma.specs.flex_frame.Keeping.{is_in_record, RangeHasNoAnchor};
 ghost use Rattle.rma.specs.NewImages.{store_with_image_bytes, image_copied, image_made, image_record, IsLiveBlock};
-ghost use Rattle.rma.specs.Places.{KeepsPlaces};
+ghost use Rattle.dynamic_areas.specs.Kept.{IsAreaMap};
+ghost use Rattle.rma.specs.Kept.{KeepsAreas, KeepsBlock};
 
 use crate::area::Rma;
 use address_map::AddressMap;

@@ -2,11 +2,12 @@
 
 ghost use Rattle.profile.specs.MemoryMap.{module_area_start};
 ghost use Rattle.std.specs.Prelude.{◌≡◌};
-ghost use Rattle.address_map.specs.Memory.{mapping, regions};
+ghost use Rattle.address_map.specs.Memory.{regions};
 ghost use Rattle.address_map.specs.Moves.{moved_regions};
-ghost use Rattle.dynamic_areas.specs.Store.{store_of, AreClasses, IsSound};
+ghost use Rattle.dynamic_areas.specs.Store.{store_of};
 ghost use Rattle.rma.specs.heap_slide.Slide.{MaySlide, IsHeapSlid};
-ghost use Rattle.rma.specs.flex_frame.Keeping.{KeepsFlex};
+ghost use Rattle.dynamic_areas.specs.Sound.{IsSoundMap};
+ghost use Rattle.rma.specs.Kept.{KeepsMapped};
 
 use crate::area::Rma;
 use crate::heap_slide::{Moves, slide};
@@ -24,7 +25,6 @@ impl Rma {
     ///
     /// RISC OS 3 Programmer's Reference Manual, "OS_Module", reason 8; which blocks can be moved is
     /// this project's own.
-    #[tactic(auto, using(crate::proofs::FlexFrameLemmas::Slides::slides_keep))]
     pub fn slide(&self, map: &mut AddressMap, movable: &[u32]) -> Moves
         requires state { IsSoundMap map.old }
         requires movable { MaySlide (store_of map.old) module_area_start movable.now }

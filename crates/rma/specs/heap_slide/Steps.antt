@@ -52,6 +52,11 @@ pub record IsLaid (m n : AddressMap) (start top at to total : ℕ) : Type 0 wher
       (is_head top (items_laid_last (to - top) total) (word_start a))
       (is_head_of at (Live total) (word_start a)) (class_of m a)
 
+-- no byte is another one, and the words of memory and its records are as they were, but for marks
+pub record KeepsBytesAndLayout (m n : AddressMap) : Type 0 where
+  pub bytes : byte_at n ≡ byte_at m
+  pub layout : layout n ≡ layout m
+
 -- a free item can be passed
 pub record IsFreeHere (m : AddressMap) (start at : ℕ) : Type 0 where
   pub low : start + 16 ≤ at

@@ -1,13 +1,12 @@
 //! One step of a slide: a free item is passed, or a block is laid at its new place.
 
-ghost use Rattle.std.specs.Prelude.{ℕ, ◌≡◌, ◌≤◌, ◌<◌, ◌+◌, ◌-◌, ◌%◌, ◌^◌, ◌==◌, false, if◌then◌else◌};
+ghost use Rattle.std.specs.Prelude.{ℕ, ◌≡◌, ◌≤◌, ◌+◌, ◌-◌, ◌%◌, ◌==◌, false, if◌then◌else◌};
 ghost use Rattle.address_map.specs.Items.{link_target};
-ghost use Rattle.address_map.specs.Memory.{byte_at, class_of, layout};
+ghost use Rattle.address_map.specs.Memory.{byte_at, class_of};
 ghost use Rattle.address_map.specs.Bytes.{word_at};
 ghost use Rattle.address_map.specs.declared.item.Item.TheVariants.{Free};
 ghost use Rattle.os_heap_words.specs.lists.Marks.{head_class, with_item_marked};
-ghost use Rattle.os_heap_words.specs.Outcomes.{CanStand, end_at};
-ghost use Rattle.rma.specs.heap_slide.Steps.{IsFreeHere, IsLaid, IsRoomForBlock, IsSetDown};
+ghost use Rattle.rma.specs.heap_slide.Steps.{IsFreeHere, IsLaid, IsRoomForBlock, IsSetDown, KeepsBytesAndLayout};
 
 use address_map::{AddressMap, Item};
 use os_heap_words::marks::{make, mark_item};
