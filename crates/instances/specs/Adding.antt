@@ -2,19 +2,24 @@
 -- reasons 1, 10, 11 and 14): what each refuses, in order; what it does at once, which is to make
 -- the image; and the plan of the rest. The order of the refusals, the slots, and that an image in
 -- place meets nothing else that is recorded, are this project's own.
-use Rattle.std.specs.Prelude.{ℕ, not, List, [], length, ok_or, Result, Ok, Err, if◌then◌else◌}
+use Rattle.std.specs.Prelude.{◌≡◌, ℕ, not, List, [], length, ok_or, IfOk, MatchResult, Result, Ok, Err, if◌then◌else◌}
 use Rattle.profile.specs.Outcome.{bind}
 use Rattle.profile.specs.declared.error.ErrorNumber.{ErrorNumber}
 use Rattle.profile.specs.declared.error.ErrorNumber.TheVariants.{BadPointer, BadString, ModuleBadHeader, InstanceTableFull}
 use Rattle.address_map.specs.Bytes.{bytes_between}
+use Rattle.address_map.specs.Memory.{mapping}
 use Rattle.address_map.specs.declared.map.AddressMap.{AddressMap}
 use Rattle.address_map.specs.declared.region.Kind.TheVariants as kind
 use Rattle.instances_table.specs.plans.ModuleHeaderHeader.{header_of}
 use Rattle.instances_table.specs.plans.HeaderFault.{HeaderFault}
 use Rattle.instances_table.specs.plans.Header.{Header}
-use Rattle.dynamic_areas.specs.Order.{AddsRecord}
+use Rattle.dynamic_areas.specs.Areas.{AreaTable}
+use Rattle.dynamic_areas.specs.Order.{AddsRecord, KeepsOrder}
+use Rattle.dynamic_areas.specs.Store.{AreClasses, store_of}
 use Rattle.rma.specs.Calls.{with_store}
 use Rattle.rma.specs.Copies.{may_be_copied}
+use Rattle.rma.specs.Places.{KeepsPlaces}
+use Rattle.rma.specs.flex_frame.Keeping.{KeepsFlex}
 use Rattle.rma.specs.NewImages.{image_copied, image_made, may_be_in_place, with_image_in_place}
 use Rattle.instances_table.specs.plans.Calls.{instantiate_plan, load_plan}
 use Rattle.instances_table.specs.plans.Plans.{Plan}
@@ -22,7 +27,9 @@ use Rattle.instances_table.specs.declared.parts.Image.{Image}
 use Rattle.instances_table.specs.Modules.{Module, slots_of}
 use Rattle.instances_table.specs.Changes.{free_slot_for, instance_room, modules_of_title}
 use Rattle.instances_table.specs.Lookup.{module_at}
-use Rattle.instances.specs.module_state.ModuleState.{ModuleState}
+use Rattle.instances.specs.actions.Pending.{pending_of}
+use Rattle.instances.specs.module_state.Sound.{IsModuleState}
+use Rattle.instances.specs.module_state.ModuleState.{ModuleState, module_state_of}
 use Rattle.instances.specs.Given.{given_instance, given_module, is_text_too_long}
 
 -- Reason 14: a new instance of a module that is there, with its name, and a text, which has to be
@@ -84,3 +91,22 @@ copying w at len =
 -- these stands where it stood.
 abbrev pub AddsImage : AddressMap → AddressMap → ℕ → Type 0
 AddsImage m n at = AddsRecord m n kind.Image at
+
+-- What such a call keeps where the image stays where it stands: the module state is sound, with the
+-- image pending, all that is mapped stays where it is, and no record but the image's comes or goes.
+pub record AddsInPlace (old new : AddressMap) (l : AreaTable) (modules : List Module) (result : Result Plan ErrorNumber) : Type 0 where
+  pub sound : IfOk result (λ plan. IsModuleState (module_state_of new l modules) (pending_of plan))
+  pub classes : AreClasses new
+  pub mapping : mapping new ≡ mapping old
+  pub order : MatchResult result (λ plan. AddsImage old new plan.given.image) (λ _. KeepsOrder old new)
+  pub flex : KeepsFlex (store_of old) (store_of new)
+
+-- The same where the image gets a block: the module area may grow, and what was mapped before lies
+-- where it lay.
+pub record AddsInBlock (old new : AddressMap) (before after : AreaTable) (modules : List Module) (result : Result Plan ErrorNumber) : Type 0 where
+  pub sound : IfOk result (λ plan. IsModuleState (module_state_of new after modules) (pending_of plan))
+  pub classes : AreClasses new
+  pub order : MatchResult result (λ plan. AddsImage old new plan.given.image) (λ _. KeepsOrder old new)
+  pub places : KeepsPlaces old new
+  pub flex : KeepsFlex (store_of old) (store_of new)
+  pub sizes : after.sizes ≡ before.sizes

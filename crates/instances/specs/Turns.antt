@@ -1,13 +1,19 @@
 -- A call that is under way on the module state: its plan finds what its actions ask for, and module code
 -- runs only where an action has some (this project's own).
 use Rattle.std.specs.Prelude.{◌≡◌, Bool, true, false, Option, Some, None, List, []}
+use Rattle.address_map.specs.Memory.{mapping, regions}
+use Rattle.address_map.specs.declared.map.AddressMap.{AddressMap}
+use Rattle.address_map.specs.declared.region.Region.{Region}
+use Rattle.dynamic_areas.specs.Areas.{AreaTable}
+use Rattle.dynamic_areas.specs.Store.{AreClasses, store_of}
+use Rattle.rma.specs.flex_frame.Keeping.{KeepsFlex}
 use Rattle.instances_table.specs.declared.plans.action.PlanAction.{PlanAction}
 use Rattle.instances_table.specs.declared.plans.action.PlanAction.TheVariants.{Finalise, Initialise}
 use Rattle.instances_table.specs.declared.plans.code.Code.{Code}
 use Rattle.instances_table.specs.plans.Carrying.{Doing}
 use Rattle.instances_table.specs.plans.Plans.{Plan, first_action}
 use Rattle.instances.specs.module_state.Sound.{IsModuleState}
-use Rattle.instances.specs.module_state.ModuleState.{ModuleState}
+use Rattle.instances.specs.module_state.ModuleState.{ModuleState, module_state_of}
 use Rattle.instances_table.specs.Modules.{Module}
 use Rattle.instances.specs.actions.Actions.{doing}
 use Rattle.instances.specs.actions.Codes.{code_among}
@@ -34,6 +40,19 @@ pub record IsUnderWay (w : ModuleState) (p : Plan) : Type 0 where
   pub module_state : IsModuleState w (pending_of p)
   pub ready : IsReady w.modules p
   pub code : p.runs ≡ true → calls_module (first_action p.actions) ≡ true
+
+-- A map that stands, with areas and modules, for such a module state, and whose words are marked.
+pub record IsMapUnderWay (m : AddressMap) (l : AreaTable) (modules : List Module) (p : Plan) : Type 0 where
+  pub going : IsUnderWay (module_state_of m l modules) p
+  pub classes : AreClasses m
+
+-- It is so still, and the records have become what the actions that were done make of them.
+pub record KeepsUnderWay (old new : AddressMap) (l : AreaTable) (modules : List Module) (p : Plan) (Records : List Region → List Region → Type 0) : Type 0 where
+  pub going : IsUnderWay (module_state_of new l modules) p
+  pub classes : AreClasses new
+  pub mapping : mapping new ≡ mapping old
+  pub records : Records (regions old) (regions new)
+  pub flex : KeepsFlex (store_of old) (store_of new)
 
 -- A module state between module calls, or one whose call is under way while module code runs.
 abbrev pub MayGoOn : ModuleState → Option Plan → Type 0

@@ -1,19 +1,16 @@
 //! The calls that add a module whose image gets a block of the module area.
-ghost use Rattle.std.specs.Prelude.{◌≡◌, ◌≤◌, ◌<◌, ◌∷◌, [], false, length, ok_or, IfOk, IfSome, MatchResult, Ok};
+ghost use Rattle.std.specs.Prelude.{◌≡◌, ◌≤◌, ◌<◌, ◌∷◌, [], false, length, IfOk, Ok};
 ghost use Rattle.profile.specs.Outcome.{Gives};
 ghost use Rattle.address_map.specs.Bytes.{bytes_between, AreMapped};
 ghost use Rattle.address_map.specs.Memory.{is_mapped};
-ghost use Rattle.dynamic_areas.specs.Order.{KeepsOrder};
-ghost use Rattle.dynamic_areas.specs.Store.{store_of, AreClasses};
-ghost use Rattle.rma.specs.flex_frame.Keeping.{KeepsFlex};
-ghost use Rattle.rma.specs.Places.{KeepsPlaces};
+ghost use Rattle.dynamic_areas.specs.Store.{store_of};
 ghost use Rattle.instances_table.specs.plans.ModuleHeaderHeader.{header_of};
 ghost use Rattle.instances.specs.actions.Pending.{pending_of};
 ghost use Rattle.instances.specs.actions.Ready.{IsReady};
 ghost use Rattle.instances_table.specs.Changes.{is_slot_held, titled_otherwise};
-ghost use Rattle.instances.specs.module_state.Sound.{IsModuleState};
 ghost use Rattle.instances.specs.module_state.ModuleState.{module_state_of};
-ghost use Rattle.instances.specs.Adding.{AddsImage, adding_plan, good_header, loading, slot_for};
+ghost use Rattle.instances.specs.Adding.{adding_plan, good_header, loading, slot_for, AddsInBlock};
+ghost use Rattle.instances.specs.module_state.Kept.{IsModuleMap};
 
 use crate::given::{given_module, is_too_long};
 use crate::instances::Instances;
@@ -45,21 +42,13 @@ impl Instances {
         image: &[u8],
         text: &[u8],
     ) -> Result<Plan, ErrorNumber>
-        requires sound { IsModuleState (module_state_of map.old areas.old self.now) [] }
-        requires classes { AreClasses map.old }
+        requires state { IsModuleMap map.old areas.old self.now }
         ensures module_state { Gives (module_state_of map.old areas.old self.now)
             (loading (module_state_of map.old areas.old self.now) image.now text.now) result
             (module_state_of map.new areas.new self.now) }
-        ensures sound { IfOk result (λ plan. IsModuleState (module_state_of map.new areas.new self.now)
-            (pending_of plan)) }
-        ensures classes { AreClasses map.new }
-        ensures order { MatchResult result (λ plan. AddsImage map.old map.new plan.given.image)
-            (λ _. KeepsOrder map.old map.new) }
-        ensures places { KeepsPlaces map.old map.new }
-        ensures flex { KeepsFlex (store_of map.old) (store_of map.new) }
+        ensures kept { AddsInBlock map.old map.new areas.old areas.new self.now result }
         ensures ready { IfOk result (λ plan. IsReady self.now plan) }
         ensures rests { IfOk result (λ plan. plan.runs ≡ false) }
-        ensures sizes { areas.new.sizes ≡ areas.old.sizes }
     {
         if is_too_long(text) {
             return Err(ErrorNumber::BadString);

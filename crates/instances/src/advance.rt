@@ -2,9 +2,6 @@
 #![tactic(auto, using(crate::proofs::Keeping::keeps_same))]
 
 ghost use Rattle.std.specs.Prelude.{◌≡◌, [], None, Some, IfSome};
-ghost use Rattle.address_map.specs.Memory.{mapping, regions};
-ghost use Rattle.dynamic_areas.specs.Store.{AreClasses, store_of};
-ghost use Rattle.rma.specs.flex_frame.Keeping.{KeepsFlex};
 ghost use Rattle.instances_table.specs.plans.Carrying.{advance_of_plan, carry_of_plan};
 ghost use Rattle.instances_table.specs.plans.Plans.{plan_after_action, first_action, plan_after_code};
 ghost use Rattle.instances.specs.module_state.Records.{CarriesRecords, MayTurnRecords, TurnsRecords};
@@ -14,7 +11,8 @@ ghost use Rattle.instances.specs.actions.Actions.{module_state_after_action};
 ghost use Rattle.instances.specs.actions.Pending.{pending_of};
 ghost use Rattle.instances.specs.tidying.Slid.{module_state_slid};
 ghost use Rattle.instances.specs.Naming.{KeepsOtherInstances};
-ghost use Rattle.instances.specs.Turns.{IsUnderWay, code_called, module_doing};
+ghost use Rattle.instances.specs.Turns.{code_called, module_doing, IsMapUnderWay, KeepsUnderWay};
+ghost use Rattle.instances.specs.module_state.Kept.{KeepsState};
 
 use crate::actions::{act, code_of};
 use crate::instances::Instances;
@@ -37,8 +35,7 @@ impl Instances {
         plan: &mut Plan,
         outcome: Outcome,
     ) -> Option<Code>
-        requires going { IsUnderWay (module_state_of map.old areas.now self.old) plan.old }
-        requires classes { AreClasses map.old }
+        requires state { IsMapUnderWay map.old areas.now self.old plan.old }
         ensures carried { carry_of_plan module_doing (module_state_of map.old areas.now self.old)
             (plan_after_code plan.old outcome)
             ≡ record {
@@ -50,13 +47,9 @@ impl Instances {
         ensures code { IfSome result (λ code. code_called self.new (first_action plan.new.actions) ≡ Some
             code) }
         ensures ended { result ≡ None → IsModuleState (module_state_of map.new areas.now self.new) [] }
-        ensures going { IsUnderWay (module_state_of map.new areas.now self.new) plan.new }
         ensures others { KeepsOtherInstances self.old self.new plan.old plan.new result }
-        ensures classes { AreClasses map.new }
-        ensures mapping { mapping map.new ≡ mapping map.old }
-        ensures records { CarriesRecords (plan_after_code plan.old outcome).actions (regions map.old)
-            (regions map.new) }
-        ensures flex { KeepsFlex (store_of map.old) (store_of map.new) }
+        ensures kept { KeepsUnderWay map.old map.new areas.now self.new plan.new
+            (CarriesRecords (plan_after_code plan.old outcome).actions) }
     {
         let mut outcome = outcome;
         loop {
@@ -77,8 +70,7 @@ impl Instances {
         plan: &mut Plan,
         outcome: Outcome,
     ) -> Advance
-        requires going { IsUnderWay (module_state_of map.old areas.now self.old) plan.old }
-        requires classes { AreClasses map.old }
+        requires state { IsMapUnderWay map.old areas.now self.old plan.old }
         ensures advanced { advance_of_plan module_doing (module_state_of map.old areas.now self.old)
             plan.old outcome
             ≡ record {
@@ -87,12 +79,8 @@ impl Instances {
               step =
                   result;
             } }
-        ensures going { IsUnderWay (module_state_of map.new areas.now self.new) plan.new }
-        ensures classes { AreClasses map.new }
-        ensures mapping { mapping map.new ≡ mapping map.old }
-        ensures records { MayTurnRecords (first_action (plan_after_code plan.old outcome).actions)
-            (regions map.old) (regions map.new) }
-        ensures flex { KeepsFlex (store_of map.old) (store_of map.new) }
+        ensures kept { KeepsUnderWay map.old map.new areas.now self.new plan.new
+            (MayTurnRecords (first_action (plan_after_code plan.old outcome).actions)) }
     {
         self.table.known();
         plan.settle(outcome);
@@ -116,17 +104,12 @@ impl Instances {
     /// An action's own part.
     fn act(&mut self, map: &mut AddressMap, areas: &Areas, plan: &Plan, action: PlanAction)
         requires first { first_action plan.now.actions ≡ Some action }
-        requires going { IsUnderWay (module_state_of map.old areas.now self.old) plan.now }
-        requires classes { AreClasses map.old }
+        requires state { IsMapUnderWay map.old areas.now self.old plan.now }
         ensures module_state { module_state_of map.new areas.now self.new
             ≡ module_state_after_action module_state_slid plan.now.given
             (module_state_of map.old areas.now self.old) action }
-        ensures sound { IsModuleState (module_state_of map.new areas.now self.new)
-            (pending_of (plan_after_action plan.now action)) }
-        ensures classes { AreClasses map.new }
-        ensures mapping { mapping map.new ≡ mapping map.old }
-        ensures records { TurnsRecords action (regions map.old) (regions map.new) }
-        ensures flex { KeepsFlex (store_of map.old) (store_of map.new) }
+        ensures kept { KeepsState map.old map.new areas.now self.new
+            (pending_of (plan_after_action plan.now action)) (TurnsRecords action) }
     {
         self.table.known();
         let given = plan.given();

@@ -1,19 +1,15 @@
 //! The calls that add a module whose image is a copy of bytes in memory.
-ghost use Rattle.std.specs.Prelude.{◌≡◌, [], false, true, IfOk, MatchResult, Ok};
+ghost use Rattle.std.specs.Prelude.{◌≡◌, false, true, IfOk, Ok};
 ghost use Rattle.profile.specs.Outcome.{Gives};
 ghost use Rattle.address_map.specs.Bytes.{bytes_between};
 ghost use Rattle.dynamic_areas.specs.Ground.{area_store_of};
-ghost use Rattle.dynamic_areas.specs.Order.{KeepsOrder};
-ghost use Rattle.dynamic_areas.specs.Store.{AreClasses, store_of};
-ghost use Rattle.rma.specs.flex_frame.Keeping.{KeepsFlex};
-ghost use Rattle.rma.specs.Places.{KeepsPlaces};
+ghost use Rattle.dynamic_areas.specs.Store.{store_of};
 ghost use Rattle.rma.specs.Copies.{may_be_copied};
 ghost use Rattle.instances_table.specs.plans.ModuleHeaderHeader.{header_of};
-ghost use Rattle.instances.specs.actions.Pending.{pending_of};
 ghost use Rattle.instances.specs.actions.Ready.{IsReady};
-ghost use Rattle.instances.specs.module_state.Sound.{IsModuleState};
 ghost use Rattle.instances.specs.module_state.ModuleState.{module_state_of};
-ghost use Rattle.instances.specs.Adding.{AddsImage, copying};
+ghost use Rattle.instances.specs.Adding.{copying, AddsInBlock};
+ghost use Rattle.instances.specs.module_state.Kept.{IsModuleMap};
 
 use crate::adding::header_at;
 use crate::instances::Instances;
@@ -45,21 +41,13 @@ impl Instances {
         at: u32,
         len: u32,
     ) -> Result<Plan, ErrorNumber>
-        requires sound { IsModuleState (module_state_of map.old areas.old self.now) [] }
-        requires classes { AreClasses map.old }
+        requires state { IsModuleMap map.old areas.old self.now }
         ensures module_state { Gives (module_state_of map.old areas.old self.now)
             (copying (module_state_of map.old areas.old self.now) at len) result
             (module_state_of map.new areas.new self.now) }
-        ensures sound { IfOk result (λ plan. IsModuleState (module_state_of map.new areas.new self.now)
-            (pending_of plan)) }
-        ensures classes { AreClasses map.new }
-        ensures order { MatchResult result (λ plan. AddsImage map.old map.new plan.given.image)
-            (λ _. KeepsOrder map.old map.new) }
-        ensures places { KeepsPlaces map.old map.new }
-        ensures flex { KeepsFlex (store_of map.old) (store_of map.new) }
+        ensures kept { AddsInBlock map.old map.new areas.old areas.new self.now result }
         ensures ready { IfOk result (λ plan. IsReady self.now plan) }
         ensures rests { IfOk result (λ plan. plan.runs ≡ false) }
-        ensures sizes { areas.new.sizes ≡ areas.old.sizes }
     {
         if !Rma::new().may_be_copied(map, areas, at, len) {
             return Err(ErrorNumber::BadPointer);
@@ -85,23 +73,15 @@ impl Instances {
         len: u32,
         header: Header,
     ) -> Result<Plan, ErrorNumber>
-        requires sound { IsModuleState (module_state_of map.old areas.old self.now) [] }
-        requires classes { AreClasses map.old }
+        requires state { IsModuleMap map.old areas.old self.now }
         requires may { may_be_copied (area_store_of map.old areas.old) at len ≡ true }
         requires header { header_of (bytes_between (store_of map.old).bytes.at at len) ≡ Ok header }
         ensures module_state { Gives (module_state_of map.old areas.old self.now)
             (copying (module_state_of map.old areas.old self.now) at len) result
             (module_state_of map.new areas.new self.now) }
-        ensures sound { IfOk result (λ plan. IsModuleState (module_state_of map.new areas.new self.now)
-            (pending_of plan)) }
-        ensures classes { AreClasses map.new }
-        ensures order { MatchResult result (λ plan. AddsImage map.old map.new plan.given.image)
-            (λ _. KeepsOrder map.old map.new) }
-        ensures places { KeepsPlaces map.old map.new }
-        ensures flex { KeepsFlex (store_of map.old) (store_of map.new) }
+        ensures kept { AddsInBlock map.old map.new areas.old areas.new self.now result }
         ensures ready { IfOk result (λ plan. IsReady self.now plan) }
         ensures rests { IfOk result (λ plan. plan.runs ≡ false) }
-        ensures sizes { areas.new.sizes ≡ areas.old.sizes }
     {
         let slot = self.slot_for(&header)?;
         let copy = Rma::new().copy_image(map, areas, at, len)?;

@@ -1,18 +1,14 @@
 //! The calls that add a module whose image stays where it stands.
-ghost use Rattle.std.specs.Prelude.{◌≡◌, ◌∷◌, [], false, true, IfOk, MatchResult, Ok};
+ghost use Rattle.std.specs.Prelude.{◌≡◌, false, true, IfOk, Ok};
 ghost use Rattle.profile.specs.Outcome.{Gives};
 ghost use Rattle.address_map.specs.Bytes.{bytes_between};
-ghost use Rattle.address_map.specs.Memory.{mapping};
-ghost use Rattle.dynamic_areas.specs.Order.{KeepsOrder};
-ghost use Rattle.dynamic_areas.specs.Store.{AreClasses, store_of};
-ghost use Rattle.rma.specs.flex_frame.Keeping.{KeepsFlex};
+ghost use Rattle.dynamic_areas.specs.Store.{store_of};
 ghost use Rattle.rma.specs.NewImages.{may_be_in_place};
 ghost use Rattle.instances_table.specs.plans.ModuleHeaderHeader.{header_of};
-ghost use Rattle.instances.specs.actions.Pending.{pending_of};
 ghost use Rattle.instances.specs.actions.Ready.{IsReady};
-ghost use Rattle.instances.specs.module_state.Sound.{IsModuleState};
 ghost use Rattle.instances.specs.module_state.ModuleState.{module_state_of};
-ghost use Rattle.instances.specs.Adding.{AddsImage, inserting};
+ghost use Rattle.instances.specs.Adding.{inserting, AddsInPlace};
+ghost use Rattle.instances.specs.module_state.Kept.{IsModuleMap};
 
 use crate::adding::header_at;
 use crate::instances::Instances;
@@ -43,18 +39,11 @@ impl Instances {
         at: u32,
         len: u32,
     ) -> Result<Plan, ErrorNumber>
-        requires sound { IsModuleState (module_state_of map.old areas.now self.now) [] }
-        requires classes { AreClasses map.old }
+        requires state { IsModuleMap map.old areas.now self.now }
         ensures module_state { Gives (module_state_of map.old areas.now self.now)
             (inserting (module_state_of map.old areas.now self.now) at len) result
             (module_state_of map.new areas.now self.now) }
-        ensures sound { IfOk result (λ plan. IsModuleState (module_state_of map.new areas.now self.now)
-            (pending_of plan)) }
-        ensures classes { AreClasses map.new }
-        ensures mapping { mapping map.new ≡ mapping map.old }
-        ensures order { MatchResult result (λ plan. AddsImage map.old map.new plan.given.image)
-            (λ _. KeepsOrder map.old map.new) }
-        ensures flex { KeepsFlex (store_of map.old) (store_of map.new) }
+        ensures kept { AddsInPlace map.old map.new areas.now self.now result }
         ensures ready { IfOk result (λ plan. IsReady self.now plan) }
         ensures rests { IfOk result (λ plan. plan.runs ≡ false) }
     {
@@ -81,20 +70,13 @@ impl Instances {
         len: u32,
         header: Header,
     ) -> Result<Plan, ErrorNumber>
-        requires sound { IsModuleState (module_state_of map.old areas.now self.now) [] }
-        requires classes { AreClasses map.old }
+        requires state { IsModuleMap map.old areas.now self.now }
         requires may { may_be_in_place (store_of map.old) at len ≡ true }
         requires header { header_of (bytes_between (store_of map.old).bytes.at at len) ≡ Ok header }
         ensures module_state { Gives (module_state_of map.old areas.now self.now)
             (inserting (module_state_of map.old areas.now self.now) at len) result
             (module_state_of map.new areas.now self.now) }
-        ensures sound { IfOk result (λ plan. IsModuleState (module_state_of map.new areas.now self.now)
-            (pending_of plan)) }
-        ensures classes { AreClasses map.new }
-        ensures mapping { mapping map.new ≡ mapping map.old }
-        ensures order { MatchResult result (λ plan. AddsImage map.old map.new plan.given.image)
-            (λ _. KeepsOrder map.old map.new) }
-        ensures flex { KeepsFlex (store_of map.old) (store_of map.new) }
+        ensures kept { AddsInPlace map.old map.new areas.now self.now result }
         ensures ready { IfOk result (λ plan. IsReady self.now plan) }
         ensures rests { IfOk result (λ plan. plan.runs ≡ false) }
     {

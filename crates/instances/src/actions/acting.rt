@@ -1,17 +1,14 @@
 //! One action of a plan.
 
 ghost use Rattle.std.specs.Prelude.{ℕ, List, ◌≡◌, [], ◌∷◌, true, false};
-ghost use Rattle.address_map.specs.Memory.{mapping, regions};
-ghost use Rattle.dynamic_areas.specs.Store.{AreClasses, store_of};
 ghost use Rattle.dynamic_areas.specs.Areas.{AreaTable};
-ghost use Rattle.rma.specs.flex_frame.Keeping.{KeepsFlex};
 ghost use Rattle.instances_table.specs.declared.parts.Image.{Image};
-ghost use Rattle.instances.specs.module_state.Records.{LosesRecords};
-ghost use Rattle.instances.specs.module_state.Sound.{HasSystemPages, IsModuleState};
+ghost use Rattle.instances.specs.module_state.Sound.{IsModuleState};
 ghost use Rattle.instances.specs.module_state.ModuleState.{ModuleState, module_state_of};
 ghost use Rattle.instances.specs.actions.Actions.{module_state_after_action, image_given};
 ghost use Rattle.instances.specs.actions.Asked.{CanAct};
 ghost use Rattle.instances.specs.actions.Pending.{settles};
+ghost use Rattle.instances.specs.module_state.Kept.{IsSystemMap, DropsRecords};
 
 use crate::actions::adding::{give_up, insert, instantiate};
 use crate::actions::removal::{free_private, remove};
@@ -25,23 +22,17 @@ use instances_table::plans::{Given, PlanAction};
 #[tactic(auto, using(crate::proofs::ModuleStateLemmas::Keeping::keeps_same, crate::proofs::ModuleStateLemmas::Records::loses_same))]
 pub fn act(map: &mut AddressMap, table: &mut InstanceTable, given: &Given, action: PlanAction)
     requires can { CanAct given.now table.old action }
-    requires system { HasSystemPages map.old }
-    requires classes { AreClasses map.old }
+    requires state { IsSystemMap map.old }
     ensures module_state { (slide : ℕ → ModuleState → ModuleState) (l : AreaTable)
         → module_state_of map.new l table.new ≡ module_state_after_action slide given.now
         (module_state_of map.old l table.old)
         action }
-    ensures sound { (l : AreaTable) (pending : List Image) → settles action ≡ false
-        → IsModuleState (module_state_of map.old l table.old) pending
-        → IsModuleState (module_state_of map.new l table.new) pending }
     ensures settled { (l : AreaTable) → settles action ≡ true
         → IsModuleState (module_state_of map.old l table.old) (image_given given.now ∷ [])
         → IsModuleState (module_state_of map.new l table.new) [] }
-    ensures pages { HasSystemPages map.new }
-    ensures classes { AreClasses map.new }
-    ensures mapping { mapping map.new ≡ mapping map.old }
-    ensures records { LosesRecords (regions map.old) (regions map.new) }
-    ensures flex { KeepsFlex (store_of map.old) (store_of map.new) }
+    ensures kept { DropsRecords map.old map.new ((l : AreaTable) (pending : List Image)
+        → settles action ≡ false → IsModuleState (module_state_of map.old l table.old) pending
+        → IsModuleState (module_state_of map.new l table.new) pending) }
 {
     match action {
         PlanAction::Finalise(..) | PlanAction::Slide => {}

@@ -1,18 +1,15 @@
 //! What adds a module or an instance, or gives a new module's image up.
 
-ghost use Rattle.std.specs.Prelude.{ℕ, List, ◌≡◌, [], ◌∷◌, true};
-ghost use Rattle.address_map.specs.Memory.{layout, mapping, regions};
-ghost use Rattle.dynamic_areas.specs.Store.{AreClasses, store_of};
+ghost use Rattle.std.specs.Prelude.{List, ◌≡◌, [], ◌∷◌, true};
 ghost use Rattle.dynamic_areas.specs.Areas.{AreaTable};
 ghost use Rattle.dynamic_areas.specs.Ground.{area_store_of};
-ghost use Rattle.rma.specs.flex_frame.Keeping.{KeepsFlex};
 ghost use Rattle.instances_table.specs.Changes.{is_new};
 ghost use Rattle.instances_table.specs.Modules.{Module};
-ghost use Rattle.instances.specs.module_state.Records.{LosesRecords};
 ghost use Rattle.instances.specs.module_state.Sound.{HasSystemPages, IsModuleState};
 ghost use Rattle.instances.specs.module_state.ModuleState.{image_gone, with_private, module_state_of};
 ghost use Rattle.instances.specs.actions.Actions.{image_given, with_another, with_new};
 ghost use Rattle.instances.specs.actions.Asked.{CanInstantiate};
+ghost use Rattle.instances.specs.module_state.Kept.{IsSystemMap, StaysSoundWith, KeepsPages, DropsRecords};
 
 use crate::actions::removal::drop_image;
 use crate::module_state::put_private;
@@ -30,13 +27,9 @@ pub fn insert(map: &mut AddressMap, table: &mut InstanceTable, given: &Given, sl
     ensures area_store { (l : AreaTable) → area_store_of map.new l ≡ with_private (area_store_of map.old l)
         slot 0 }
     ensures modules { table.new ≡ with_new given.now slot table.old }
-    ensures sound { (l : AreaTable) → IsModuleState (module_state_of map.old l table.old)
-        (image_given given.now ∷ [])
-        → IsModuleState (module_state_of map.new l table.new) [] }
-    ensures pages { HasSystemPages map.new }
-    ensures classes { AreClasses map.old → AreClasses map.new }
-    ensures layout { layout map.new ≡ layout map.old }
-    ensures flex { KeepsFlex (store_of map.old) (store_of map.new) }
+    ensures kept { KeepsPages map.old map.new ((l : AreaTable)
+        → IsModuleState (module_state_of map.old l table.old) (image_given given.now ∷ [])
+        → IsModuleState (module_state_of map.new l table.new) []) }
 {
     put_private(map, slot, 0);
     table.insert(copied(&given.header), image_given(given), slot);
@@ -51,13 +44,7 @@ pub fn instantiate(map: &mut AddressMap, table: &mut InstanceTable, given: &Give
     ensures area_store { (l : AreaTable) → area_store_of map.new l ≡ with_private (area_store_of map.old l)
         slot 0 }
     ensures modules { table.new ≡ with_another given.now slot table.old }
-    ensures sound { (l : AreaTable) (pending : List Image) → IsModuleState
-        (module_state_of map.old l table.old) pending
-        → IsModuleState (module_state_of map.new l table.new) pending }
-    ensures pages { HasSystemPages map.new }
-    ensures classes { AreClasses map.old → AreClasses map.new }
-    ensures layout { layout map.new ≡ layout map.old }
-    ensures flex { KeepsFlex (store_of map.old) (store_of map.new) }
+    ensures kept { KeepsPages map.old map.new (StaysSoundWith map.old map.new table.old table.new) }
 {
     put_private(map, slot, 0);
     table.add_to(given.header.title.as_slice(), given.name.as_slice(), slot);
@@ -67,18 +54,12 @@ pub fn instantiate(map: &mut AddressMap, table: &mut InstanceTable, given: &Give
 ///
 /// RISC OS 3 Programmer's Reference Manual, "OS_Module", reasons 1, 10 and 11.
 pub fn give_up(map: &mut AddressMap, given: &Given)
-    requires system { HasSystemPages map.old }
-    requires classes { AreClasses map.old }
+    requires state { IsSystemMap map.old }
     ensures area_store { (l : AreaTable) → area_store_of map.new l ≡ image_gone (area_store_of map.old l)
         (image_given given.now) }
-    ensures sound { (l : AreaTable) (modules : List Module)
+    ensures kept { DropsRecords map.old map.new ((l : AreaTable) (modules : List Module)
         → IsModuleState (module_state_of map.old l modules) (image_given given.now ∷ [])
-        → IsModuleState (module_state_of map.new l modules) [] }
-    ensures pages { HasSystemPages map.new }
-    ensures classes { AreClasses map.new }
-    ensures mapping { mapping map.new ≡ mapping map.old }
-    ensures records { LosesRecords (regions map.old) (regions map.new) }
-    ensures flex { KeepsFlex (store_of map.old) (store_of map.new) }
+        → IsModuleState (module_state_of map.new l modules) []) }
 {
     drop_image(map, image_given(given));
 }

@@ -1,17 +1,14 @@
 //! What instances have in the system pages: their private words, and the environment text.
 
-ghost use Rattle.std.specs.Prelude.{ℕ, List, ◌≡◌, ◌≤◌, ◌<◌, length};
+ghost use Rattle.std.specs.Prelude.{◌≡◌, ◌≤◌, ◌<◌, length};
 ghost use Rattle.address_map.specs.Bytes.{AreMapped, word_at};
-ghost use Rattle.address_map.specs.Memory.{byte_at, is_mapped, layout};
-ghost use Rattle.dynamic_areas.specs.Store.{AreClasses, store_of};
+ghost use Rattle.address_map.specs.Memory.{byte_at, is_mapped};
 ghost use Rattle.dynamic_areas.specs.Areas.{AreaTable};
-ghost use Rattle.dynamic_areas.specs.Ground.{IsAreaStore, area_store_of};
-ghost use Rattle.rma.specs.flex_frame.Keeping.{KeepsFlex};
+ghost use Rattle.dynamic_areas.specs.Ground.{area_store_of};
 ghost use Rattle.instances_table.specs.plans.Code.{private_of};
-ghost use Rattle.instances_table.specs.declared.parts.Image.{Image};
-ghost use Rattle.instances_table.specs.Modules.{Module};
-ghost use Rattle.instances.specs.module_state.Sound.{HasSystemPages, IsModuleState};
-ghost use Rattle.instances.specs.module_state.ModuleState.{private_word, with_private, with_text, module_state_of};
+ghost use Rattle.instances.specs.module_state.Sound.{HasSystemPages};
+ghost use Rattle.instances.specs.module_state.ModuleState.{private_word, with_private, with_text};
+ghost use Rattle.instances.specs.module_state.Kept.{StaysSound, KeepsPages};
 
 use address_map::AddressMap;
 use instances_table::plans::private_word;
@@ -33,13 +30,7 @@ pub fn put_private(map: &mut AddressMap, slot: u32, value: u32)
     requires system { HasSystemPages map.old }
     ensures area_store { (l : AreaTable) → area_store_of map.new l ≡ with_private (area_store_of map.old l)
         slot value }
-    ensures sound { (l : AreaTable) (modules : List Module) (pending : List Image)
-        → IsModuleState (module_state_of map.old l modules) pending
-        → IsModuleState (module_state_of map.new l modules) pending }
-    ensures pages { HasSystemPages map.new }
-    ensures classes { AreClasses map.old → AreClasses map.new }
-    ensures layout { layout map.new ≡ layout map.old }
-    ensures flex { KeepsFlex (store_of map.old) (store_of map.new) }
+    ensures kept { KeepsPages map.old map.new (StaysSound map.old map.new) }
 {
     map.put_word(private_word(slot), value);
 }
@@ -51,15 +42,7 @@ pub fn put_text(map: &mut AddressMap, text: &[u8])
     requires system { HasSystemPages map.old }
     ensures area_store { (l : AreaTable) → area_store_of map.new l ≡ with_text (area_store_of map.old l)
         text.now }
-    ensures areas { (l : AreaTable) → IsAreaStore (area_store_of map.old l) → IsAreaStore
-        (area_store_of map.new l) }
-    ensures sound { (l : AreaTable) (modules : List Module) (pending : List Image)
-        → IsModuleState (module_state_of map.old l modules) pending
-        → IsModuleState (module_state_of map.new l modules) pending }
-    ensures pages { HasSystemPages map.new }
-    ensures classes { AreClasses map.old → AreClasses map.new }
-    ensures layout { layout map.new ≡ layout map.old }
-    ensures flex { KeepsFlex (store_of map.old) (store_of map.new) }
+    ensures kept { KeepsPages map.old map.new (StaysSound map.old map.new) }
 {
     map.put_bytes(ENVIRONMENT_TEXT, text);
     map.put_bytes(ENVIRONMENT_TEXT + text.len() as u32, &[0]);

@@ -1,16 +1,12 @@
 //! Private words and images follow the blocks that moved.
-ghost use Rattle.std.specs.Prelude.{◌≡◌, ◌≤◌, ◌<◌, ℕ, List, length, map, slice_index, EachIndex};
+ghost use Rattle.std.specs.Prelude.{◌≡◌, ◌≤◌, ◌<◌, length, map, slice_index, EachIndex};
 ghost use Rattle.address_map.specs.Bytes.{AreMapped};
-ghost use Rattle.address_map.specs.Memory.{byte_at, is_mapped, layout};
-ghost use Rattle.dynamic_areas.specs.Store.{AreClasses, store_of};
+ghost use Rattle.address_map.specs.Memory.{byte_at, is_mapped};
 ghost use Rattle.dynamic_areas.specs.Areas.{AreaTable};
 ghost use Rattle.dynamic_areas.specs.Ground.{area_store_of};
-ghost use Rattle.rma.specs.flex_frame.Keeping.{KeepsFlex};
-ghost use Rattle.instances_table.specs.declared.parts.Image.{Image};
-ghost use Rattle.instances_table.specs.Modules.{Module};
-ghost use Rattle.instances.specs.module_state.Sound.{HasSystemPages, IsModuleState};
-ghost use Rattle.instances.specs.module_state.ModuleState.{module_state_of};
+ghost use Rattle.instances.specs.module_state.Sound.{HasSystemPages};
 ghost use Rattle.instances.specs.tidying.Slid.{image_moved, private_words_at, words_moved};
+ghost use Rattle.instances.specs.module_state.Kept.{StaysSound, KeepsPages};
 
 use crate::module_state::{private_value, put_private};
 use address_map::{AddressMap, BlockMove};
@@ -43,12 +39,7 @@ pub(crate) fn move_words(map: &mut AddressMap, slots: &[u32], moves: &[BlockMove
     requires system { HasSystemPages map.old }
     ensures area_store { (l : AreaTable) → area_store_of map.new l ≡ words_moved moves.now slots.now
         (area_store_of map.old l) }
-    ensures sound { (l : AreaTable) (modules : List Module) (pending : List Image)
-        → IsModuleState (module_state_of map.old l modules) pending
-        → IsModuleState (module_state_of map.new l modules) pending }
-    ensures classes { AreClasses map.old → AreClasses map.new }
-    ensures layout { layout map.new ≡ layout map.old }
-    ensures flex { KeepsFlex (store_of map.old) (store_of map.new) }
+    ensures kept { KeepsPages map.old map.new (StaysSound map.old map.new) }
 {
     for slot in slots {
         let word = private_value(map, *slot);

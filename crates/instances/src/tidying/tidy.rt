@@ -1,13 +1,10 @@
 //! The slide of the module area.
-ghost use Rattle.std.specs.Prelude.{◌≡◌, [], ◌≤◌, length};
-ghost use Rattle.address_map.specs.Memory.{mapping, regions};
-ghost use Rattle.dynamic_areas.specs.Store.{AreClasses, store_of};
-ghost use Rattle.rma.specs.flex_frame.Keeping.{KeepsFlex};
+ghost use Rattle.std.specs.Prelude.{◌≡◌, []};
 ghost use Rattle.instances_table.specs.declared.plans.action.PlanAction.TheVariants.{Slide};
 ghost use Rattle.instances.specs.module_state.Records.{TurnsRecords};
-ghost use Rattle.instances.specs.module_state.Sound.{IsModuleState};
 ghost use Rattle.instances.specs.module_state.ModuleState.{module_state_of};
 ghost use Rattle.instances.specs.tidying.Slid.{module_state_slid};
+ghost use Rattle.instances.specs.module_state.Kept.{IsModuleMap, KeepsState};
 
 use crate::tidying::follow::{move_images, move_words, private_words};
 use crate::tidying::movable::movable_blocks;
@@ -25,15 +22,10 @@ use rma::Rma;
 /// RISC OS 3 Programmer's Reference Manual, "OS_Module", reason 8; which blocks can be moved is
 /// this project's own.
 pub fn slide(map: &mut AddressMap, areas: &Areas, table: &mut InstanceTable, return_address: u32)
-    requires sound { IsModuleState (module_state_of map.old areas.now table.old) [] }
-    requires classes { AreClasses map.old }
+    requires state { IsModuleMap map.old areas.now table.old }
     ensures module_state { module_state_of map.new areas.now table.new
         ≡ module_state_slid return_address (module_state_of map.old areas.now table.old) }
-    ensures sound { IsModuleState (module_state_of map.new areas.now table.new) [] }
-    ensures classes { AreClasses map.new }
-    ensures mapping { mapping map.new ≡ mapping map.old }
-    ensures records { TurnsRecords Slide (regions map.old) (regions map.new) }
-    ensures flex { KeepsFlex (store_of map.old) (store_of map.new) }
+    ensures kept { KeepsState map.old map.new areas.now table.new [] (TurnsRecords Slide) }
 {
     let slots = table.slots();
     let words = private_words(map, slots.as_slice());

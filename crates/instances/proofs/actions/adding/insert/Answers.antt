@@ -13,9 +13,18 @@ put_private-requires-clause-below c =
 pub returns-clause-modules : goal.returns-clause-modules
 returns-clause-modules c = rw (c.copied.ensures, c.image_given.ensures) at c.insert.ensures.table
 
-pub returns-clause-sound : goal.returns-clause-sound
-returns-clause-sound c = λ l module_state.
-    let put = c.put_private.ensures.sound l c.args.table.now (image_given c.args.given.now ∷ []) module_state in
+pub returns-clause-kept : goal.returns-clause-kept
+returns-clause-kept c =
+    let kept = c.put_private.ensures.kept in
     let added = rw (c.copied.ensures, c.image_given.ensures) at c.insert.ensures.table in
-    module_state_renewed (module_state_of c.put_private.new.map l c.args.table.now) (module_state_of c.put_private.new.map l c.insert.new.self)
-    (image_given c.args.given.now ∷ []) [] put (images_new c.args.given.now c.args.slot c.args.table.now c.insert.new.self c.requires.new added) refl put.area_store
+    record {
+      sound = λ l module_state.
+          let put = kept.sound l c.args.table.now (image_given c.args.given.now ∷ []) module_state in
+          module_state_renewed (module_state_of c.put_private.new.map l c.args.table.now) (module_state_of c.put_private.new.map l c.insert.new.self)
+          (image_given c.args.given.now ∷ []) [] put (images_new c.args.given.now c.args.slot c.args.table.now c.insert.new.self c.requires.new added) refl put.area_store;
+      areas = kept.areas;
+      pages = kept.pages;
+      classes = kept.classes;
+      layout = kept.layout;
+      flex = kept.flex;
+    }

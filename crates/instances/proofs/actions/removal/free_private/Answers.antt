@@ -16,11 +16,14 @@ use Rattle.instances.proofs.ActionsLemmas.Removing.{freed_by}
 use Rattle.instances.proofs.actions.removal.free_private.Goals as goal
 
 pub private_value-block-requires-clause-mapped : goal.private_value-block-requires-clause-mapped
-private_value-block-requires-clause-mapped c = λ a low high. c.requires.system.mapped a (omega (arith, low)) (omega (arith, high))
+private_value-block-requires-clause-mapped c = λ a low high. c.requires.state.system.mapped a (omega (arith, low)) (omega (arith, high))
+
+pub free-requires : goal.free-requires
+free-requires c = record { state = record { sound = c.requires.state.system.sound; classes = c.requires.state.classes } }
 
 pub put_private-requires-clause-system : goal.put_private-requires-clause-system
 put_private-requires-clause-system c =
-    pages_stay c.args.map.now c.free.new.map c.free.ensures.others c.free.ensures.mapping c.free.ensures.sound c.requires.system
+    pages_stay c.args.map.now c.free.new.map c.free.ensures.kept.others c.free.ensures.kept.mapping c.free.ensures.kept.sound c.requires.state.system
 
 pub returns-clause-area_store : goal.returns-clause-area_store
 unfolding private_freed
@@ -31,28 +34,25 @@ returns-clause-area_store c = λ l.
     c.put_private.ensures.area_store l ∙ ap (λ (f : AreaStore). with_private f c.args.slot 0) freed
     ∙ ap (λ b. with_private (or_same e (rma_freed e b)) c.args.slot 0) (c.private_value-block.ensures.area_store l)
 
-pub returns-clause-sound : goal.returns-clause-sound
-returns-clause-sound c = λ l modules pending module_state.
-    c.put_private.ensures.sound l modules pending
-    (module_state_kept (module_state_of c.args.map.now l modules) (module_state_of c.free.new.map l modules) pending module_state refl
-    c.free.ensures.others (c.free.ensures.area_store l module_state.area_store))
-
-pub returns-clause-flex : goal.returns-clause-flex
-returns-clause-flex c = keeps_then _ _ _ c.free.ensures.flex c.put_private.ensures.flex
-
-pub returns-clause-others : goal.returns-clause-others
-returns-clause-others c = layout-others c.free.new.map c.put_private.new.map c.put_private.ensures.layout ∙ c.free.ensures.others
-
-pub returns-clause-mapping : goal.returns-clause-mapping
-returns-clause-mapping c =
-    let same = c.put_private.ensures.layout in
+pub returns-clause-kept : goal.returns-clause-kept
+returns-clause-kept c =
+    let free = c.free.ensures.kept in
+    let put = c.put_private.ensures.kept in
+    let same = put.layout in
     let last : mapping c.put_private.new.map ≡ mapping c.free.new.map = λ i. record { place = (same i).place; free_pages = (same i).free_pages } in
-    last ∙ c.free.ensures.mapping
-
-pub returns-clause-records : goal.returns-clause-records
-returns-clause-records c =
     let none : AreaTable = record { sizes = record { pages = 0; app = 0; rma = 0 }; areas = [] } in
     let heaps : (store_of c.put_private.new.map).heaps ≡ (store_of c.free.new.map).heaps =
     ap (λ (e : AreaStore). e.store.heaps) (c.put_private.ensures.area_store none) in
-    layout-regions c.free.new.map c.put_private.new.map c.put_private.ensures.layout ∙ c.free.ensures.records
-    ∙ ap (λ (hs : List HeapList). filter (stays hs) (regions c.args.map.now)) (sym heaps)
+    record {
+      sound = λ l modules pending module_state.
+          put.sound l modules pending
+          (module_state_kept (module_state_of c.args.map.now l modules) (module_state_of c.free.new.map l modules) pending module_state refl
+          free.others (free.area_store l module_state.area_store));
+      pages = put.pages;
+      classes = put.classes free.classes;
+      others = layout-others c.free.new.map c.put_private.new.map put.layout ∙ free.others;
+      mapping = last ∙ free.mapping;
+      records = layout-regions c.free.new.map c.put_private.new.map put.layout ∙ free.records
+          ∙ ap (λ (hs : List HeapList). filter (stays hs) (regions c.args.map.now)) (sym heaps);
+      flex = keeps_then _ _ _ free.flex put.flex;
+    }

@@ -21,17 +21,17 @@ loop-outcome-preserved c = record {
   carried = next_carried (module_state_of c.loop-outcome.map c.args.areas.now c.loop-outcome.self) (module_state_of c.advance.new.map c.args.areas.now c.advance.new.self)
       c.loop-outcome.plan c.advance.new.plan c.loop-outcome.outcome c.advance.result c.advance.ensures.advanced _ c.in-Next.is
       c.loop-outcome.invariant.carried;
-  going = c.advance.ensures.going;
-  classes = c.advance.ensures.classes;
-  mapping = c.advance.ensures.mapping ∙ c.loop-outcome.invariant.mapping;
+  going = c.advance.ensures.kept.going;
+  classes = c.advance.ensures.kept.classes;
+  mapping = c.advance.ensures.kept.mapping ∙ c.loop-outcome.invariant.mapping;
   records = λ new later.
       c.loop-outcome.invariant.records new
       (carries_on (plan_after_code c.loop-outcome.plan c.loop-outcome.outcome).actions (regions c.loop-outcome.map) (regions c.advance.new.map) new
-      c.advance.ensures.records
+      c.advance.ensures.kept.records
       (subst (λ (actions : List PlanAction). CarriesRecords actions (regions c.advance.new.map) new)
       (next_left (module_state_of c.loop-outcome.map c.args.areas.now c.loop-outcome.self) (module_state_of c.advance.new.map c.args.areas.now c.advance.new.self)
       c.loop-outcome.plan c.advance.new.plan c.loop-outcome.outcome c.advance.result c.advance.ensures.advanced c.in-Next.is) later));
-  flex = keeps_then _ _ _ c.loop-outcome.invariant.flex c.advance.ensures.flex;
+  flex = keeps_then _ _ _ c.loop-outcome.invariant.flex c.advance.ensures.kept.flex;
 }
 
 pub returns-in-Code-clause-carried : goal.returns-in-Code-clause-carried
@@ -55,36 +55,38 @@ pub returns-in-End-clause-ended : goal.returns-in-End-clause-ended
 returns-in-End-clause-ended c = λ none.
     module_state_at_end (module_state_of c.loop-outcome.map c.args.areas.now c.loop-outcome.self) (module_state_of c.advance.new.map c.args.areas.now c.advance.new.self)
     c.loop-outcome.plan c.advance.new.plan c.loop-outcome.outcome c.advance.result c.advance.ensures.advanced c.in-End.field-0 c.in-End.is
-    c.advance.ensures.going
-
-pub returns-in-Code-clause-flex : goal.returns-in-Code-clause-flex
-returns-in-Code-clause-flex c = keeps_then _ _ _ c.loop-outcome.invariant.flex c.advance.ensures.flex
-
-pub returns-in-End-clause-flex : goal.returns-in-End-clause-flex
-returns-in-End-clause-flex c = keeps_then _ _ _ c.loop-outcome.invariant.flex c.advance.ensures.flex
+    c.advance.ensures.kept.going
 
 pub returns-in-Code-clause-others : goal.returns-in-Code-clause-others
 returns-in-Code-clause-others c =
     keeps_others _ (module_state_of c.advance.new.map c.args.areas.now c.advance.new.self) _ c.advance.new.plan _ (Some c.in-Code.code)
-    (returns-in-Code-clause-carried c) c.advance.ensures.going
+    (returns-in-Code-clause-carried c) c.advance.ensures.kept.going
 
 pub returns-in-End-clause-others : goal.returns-in-End-clause-others
 returns-in-End-clause-others c =
     keeps_others _ (module_state_of c.advance.new.map c.args.areas.now c.advance.new.self) _ c.advance.new.plan _ None
-    (returns-in-End-clause-carried c) c.advance.ensures.going
+    (returns-in-End-clause-carried c) c.advance.ensures.kept.going
 
-pub returns-in-Code-clause-mapping : goal.returns-in-Code-clause-mapping
-returns-in-Code-clause-mapping c = c.advance.ensures.mapping ∙ c.loop-outcome.invariant.mapping
+pub returns-in-Code-clause-kept : goal.returns-in-Code-clause-kept
+returns-in-Code-clause-kept c =
+    let kept = c.advance.ensures.kept in
+    record {
+      going = kept.going;
+      classes = kept.classes;
+      mapping = kept.mapping ∙ c.loop-outcome.invariant.mapping;
+      records = c.loop-outcome.invariant.records (regions c.advance.new.map)
+          (carries_last (plan_after_code c.loop-outcome.plan c.loop-outcome.outcome).actions (regions c.loop-outcome.map) (regions c.advance.new.map) kept.records);
+      flex = keeps_then _ _ _ c.loop-outcome.invariant.flex kept.flex;
+    }
 
-pub returns-in-End-clause-mapping : goal.returns-in-End-clause-mapping
-returns-in-End-clause-mapping c = c.advance.ensures.mapping ∙ c.loop-outcome.invariant.mapping
-
-pub returns-in-Code-clause-records : goal.returns-in-Code-clause-records
-returns-in-Code-clause-records c =
-    c.loop-outcome.invariant.records (regions c.advance.new.map)
-    (carries_last (plan_after_code c.loop-outcome.plan c.loop-outcome.outcome).actions (regions c.loop-outcome.map) (regions c.advance.new.map) c.advance.ensures.records)
-
-pub returns-in-End-clause-records : goal.returns-in-End-clause-records
-returns-in-End-clause-records c =
-    c.loop-outcome.invariant.records (regions c.advance.new.map)
-    (carries_last (plan_after_code c.loop-outcome.plan c.loop-outcome.outcome).actions (regions c.loop-outcome.map) (regions c.advance.new.map) c.advance.ensures.records)
+pub returns-in-End-clause-kept : goal.returns-in-End-clause-kept
+returns-in-End-clause-kept c =
+    let kept = c.advance.ensures.kept in
+    record {
+      going = kept.going;
+      classes = kept.classes;
+      mapping = kept.mapping ∙ c.loop-outcome.invariant.mapping;
+      records = c.loop-outcome.invariant.records (regions c.advance.new.map)
+          (carries_last (plan_after_code c.loop-outcome.plan c.loop-outcome.outcome).actions (regions c.loop-outcome.map) (regions c.advance.new.map) kept.records);
+      flex = keeps_then _ _ _ c.loop-outcome.invariant.flex kept.flex;
+    }

@@ -1,3 +1,4 @@
+use Rattle.dynamic_areas.proofs.HeapCalls.{areas_written}
 use Rattle.dynamic_areas.proofs.SystemWrites.{kept_classes}
 use Rattle.instances.proofs.ModuleStateLemmas.Writes.{pages_kept, private_keeps, private_kept, private_written, module_state_written}
 use Rattle.instances.proofs.module_state.system_pages.put_private.Goals as goal
@@ -8,25 +9,15 @@ returns-clause-area_store c =
     private_written _ _ c.args.slot _ _ c.private_word.ensures e.layout e.bytes
     (private_kept _ _ c.args.slot _ _ c.private_word.ensures e.layout e.bytes c.requires.system c.requires.below e.marks)
 
-pub returns-clause-sound : goal.returns-clause-sound
-returns-clause-sound c = λ l modules pending.
+pub returns-clause-kept : goal.returns-clause-kept
+returns-clause-kept c =
     let e = c.put_word.ensures in
-    module_state_written _ _ l modules pending
-    (private_kept _ _ c.args.slot _ _ c.private_word.ensures e.layout e.bytes c.requires.system c.requires.below e.marks) e.layout
-
-pub returns-clause-classes : goal.returns-clause-classes
-returns-clause-classes c =
-    let e = c.put_word.ensures in
-    kept_classes _ _
-    (private_kept _ _ c.args.slot _ _ c.private_word.ensures e.layout e.bytes c.requires.system c.requires.below e.marks) e.marks
-
-pub returns-clause-pages : goal.returns-clause-pages
-returns-clause-pages c =
-    let e = c.put_word.ensures in
-    pages_kept _ _
-    (private_kept _ _ c.args.slot _ _ c.private_word.ensures e.layout e.bytes c.requires.system c.requires.below e.marks) e.layout c.requires.system
-
-pub returns-clause-flex : goal.returns-clause-flex
-returns-clause-flex c =
-    let e = c.put_word.ensures in
-    private_keeps _ _ c.args.slot _ _ c.private_word.ensures e.layout e.bytes c.requires.system c.requires.below e.marks
+    let kept = private_kept _ _ c.args.slot _ _ c.private_word.ensures e.layout e.bytes c.requires.system c.requires.below e.marks in
+    record {
+      sound = λ l modules pending. module_state_written _ _ l modules pending kept e.layout;
+      areas = λ l area_store. areas_written _ _ l area_store kept.sound e.layout;
+      pages = pages_kept _ _ kept e.layout c.requires.system;
+      classes = kept_classes _ _ kept e.marks;
+      layout = e.layout;
+      flex = private_keeps _ _ c.args.slot _ _ c.private_word.ensures e.layout e.bytes c.requires.system c.requires.below e.marks;
+    }

@@ -11,39 +11,18 @@ returns-clause-area_store c =
     text_written _ _ _ c.args.text.now one.layout two.layout one.bytes two.bytes
     (text_kept _ _ _ c.args.text.now one.layout two.layout one.bytes two.bytes c.requires.system c.requires.short (two.marks ∙ one.marks))
 
-pub returns-clause-areas : goal.returns-clause-areas
-returns-clause-areas c = λ l area_store.
+pub returns-clause-kept : goal.returns-clause-kept
+returns-clause-kept c =
     let one = c.put_bytes.ensures in
     let two = c.put_bytes-2.ensures in
-    let kept = text_kept _ _ _ c.args.text.now one.layout two.layout one.bytes two.bytes c.requires.system c.requires.short (two.marks ∙ one.marks) in
-    areas_written _ _ l area_store kept.sound (two.layout ∙ one.layout)
-
-pub returns-clause-sound : goal.returns-clause-sound
-returns-clause-sound c = λ l modules pending.
-    let one = c.put_bytes.ensures in
-    let two = c.put_bytes-2.ensures in
-    module_state_written _ _ l modules pending
-    (text_kept _ _ _ c.args.text.now one.layout two.layout one.bytes two.bytes c.requires.system c.requires.short (two.marks ∙ one.marks))
-    (two.layout ∙ one.layout)
-
-pub returns-clause-classes : goal.returns-clause-classes
-returns-clause-classes c =
-    let one = c.put_bytes.ensures in
-    let two = c.put_bytes-2.ensures in
-    kept_classes _ _
-    (text_kept _ _ _ c.args.text.now one.layout two.layout one.bytes two.bytes c.requires.system c.requires.short (two.marks ∙ one.marks))
-    (two.marks ∙ one.marks)
-
-pub returns-clause-pages : goal.returns-clause-pages
-returns-clause-pages c =
-    let one = c.put_bytes.ensures in
-    let two = c.put_bytes-2.ensures in
-    pages_kept _ _
-    (text_kept _ _ _ c.args.text.now one.layout two.layout one.bytes two.bytes c.requires.system c.requires.short (two.marks ∙ one.marks))
-    (two.layout ∙ one.layout) c.requires.system
-
-pub returns-clause-flex : goal.returns-clause-flex
-returns-clause-flex c =
-    let one = c.put_bytes.ensures in
-    let two = c.put_bytes-2.ensures in
-    text_keeps _ _ _ c.args.text.now one.layout two.layout one.bytes two.bytes c.requires.system c.requires.short (two.marks ∙ one.marks)
+    let marks = two.marks ∙ one.marks in
+    let same = two.layout ∙ one.layout in
+    let kept = text_kept _ _ _ c.args.text.now one.layout two.layout one.bytes two.bytes c.requires.system c.requires.short marks in
+    record {
+      sound = λ l modules pending. module_state_written _ _ l modules pending kept same;
+      areas = λ l area_store. areas_written _ _ l area_store kept.sound same;
+      pages = pages_kept _ _ kept same c.requires.system;
+      classes = kept_classes _ _ kept marks;
+      layout = same;
+      flex = text_keeps _ _ _ c.args.text.now one.layout two.layout one.bytes two.bytes c.requires.system c.requires.short marks;
+    }

@@ -2,8 +2,8 @@ use Rattle.std.proofs.Common.{◌≡◌, ◌<◌, ◌+◌, ◌∙◌, ℕ, List,
 use Rattle.address_map.specs.Moves.{moved_to}
 use Rattle.address_map.specs.declared.follow.BlockMove.{BlockMove}
 use Rattle.dynamic_areas.specs.Ground.{AreaStore, area_store_of}
-use Rattle.rma.proofs.FlexFrameLemmas.Keeping.{keeps_then}
 use Rattle.instances.specs.module_state.ModuleState.{private_word, with_private}
+use Rattle.instances.proofs.ModuleStateLemmas.Keeping.{written_then}
 use Rattle.instances.proofs.TidyingLemmas.Looping.{words_next}
 use Rattle.instances.specs.tidying.Slid.{words_moved}
 use Rattle.instances.proofs.tidying.follow.move_words.Goals as goal
@@ -16,7 +16,6 @@ loop-slot-preserved c =
     let slot : ℕ = get_or slots i 0 in
     let within : i < length slots = omega arith in
     record {
-      system = c.put_private.ensures.pages;
       area_store = λ area_table.
           let e : AreaStore = area_store_of c.loop-slot.map area_table in
           let value : c.moved_to.result ≡ moved_to moves (private_word e slot) =
@@ -24,8 +23,5 @@ loop-slot-preserved c =
           let after : area_store_of c.put_private.new.map area_table ≡ with_private e slot (moved_to moves (private_word e slot)) =
           c.put_private.ensures.area_store area_table ∙ ap (with_private e slot) value in
           ap (words_moved moves (drop (i + 1) slots)) after ∙ sym (words_next moves slots i e within) ∙ c.loop-slot.invariant.area_store area_table;
-      sound = λ area_table modules pending module_state. c.put_private.ensures.sound area_table modules pending (c.loop-slot.invariant.sound area_table modules pending module_state);
-      classes = λ same. c.put_private.ensures.classes (c.loop-slot.invariant.classes same);
-      layout = c.put_private.ensures.layout ∙ c.loop-slot.invariant.layout;
-      flex = keeps_then _ _ _ c.loop-slot.invariant.flex c.put_private.ensures.flex;
+      kept = written_then _ _ _ c.loop-slot.invariant.kept c.put_private.ensures.kept;
     }

@@ -1,13 +1,9 @@
-use Rattle.profile.specs.MemoryMap.{module_area_start}
 use Rattle.std.proofs.Common.{◌≡◌, ◌∙◌, ℕ, List, [], ap, length, map, arith}
 use Rattle.address_map.specs.Memory.{byte_at}
 use Rattle.address_map.specs.declared.follow.BlockMove.{BlockMove}
-use Rattle.dynamic_areas.specs.Store.{store_of}
 use Rattle.dynamic_areas.proofs.Frame.{layout-regions}
-use Rattle.rma.specs.heap_slide.Slide.{MaySlide}
 use Rattle.dynamic_areas.specs.Ground.{area_store_of}
 use Rattle.rma.proofs.FlexFrameLemmas.Keeping.{keeps_then}
-use Rattle.rma.proofs.FlexFrameLemmas.Slides.{slides_keep}
 use Rattle.instances.proofs.ModuleStateLemmas.Records.{layout-mapping}
 use Rattle.instances.proofs.ModuleStateLemmas.Writes.{has_system}
 use Rattle.instances.proofs.TidyingLemmas.Tidying.{IsBlocksSlid, blocks_slid, may_slide, sound_after, module_state_after}
@@ -16,12 +12,15 @@ use Rattle.instances.proofs.tidying.tidy.slide.Goals as goal
 
 pub private_words-words-requires-clause-mapped : goal.private_words-words-requires-clause-mapped
 private_words-words-requires-clause-mapped c = λ a low high.
-    (has_system c.args.map.now c.args.areas.now c.args.table.now [] c.requires.sound).mapped a (omega arith) (omega arith)
+    (has_system c.args.map.now c.args.areas.now c.args.table.now [] c.requires.state.sound).mapped a (omega arith) (omega arith)
+
+pub slide-moves-requires-clause-state : goal.slide-moves-requires-clause-state
+slide-moves-requires-clause-state c = record { sound = c.requires.state.sound.area_store.ground.sound; classes = c.requires.state.classes }
 
 pub slide-moves-requires-clause-movable : goal.slide-moves-requires-clause-movable
 slide-moves-requires-clause-movable c =
     let slots : length c.as_slice.result.now ≡ length c.slots-slots.result.items = ap (length {A = ℕ}) c.as_slice.ensures.value in
-    may_slide c.args.map.now c.args.areas.now c.args.table.now c.as_slice-2.result.now c.as_slice-3.result.now c.args.return_address c.requires.sound
+    may_slide c.args.map.now c.args.areas.now c.args.table.now c.as_slice-2.result.now c.as_slice-3.result.now c.args.return_address c.requires.state.sound
     (omega (arith, slots)) (omega arith) (c.as_slice-3.ensures.value ∙ c.movable_blocks-movable.ensures)
 
 pub move_words-requires-clause-system : goal.move_words-requires-clause-system
@@ -29,11 +28,11 @@ move_words-requires-clause-system c =
     let moves : List BlockMove = c.slide-moves.result.items in
     let blocks : IsBlocksSlid c.args.map.now c.slide-moves.new.map c.args.areas.now c.args.table.now c.move_images.new.table c.as_slice-3.result.now moves =
     blocks_slid c.args.map.now c.slide-moves.new.map c.args.areas.now c.args.table.now c.move_images.new.table c.as_slice-3.result.now moves
-    c.requires.sound c.slide-moves.ensures.slid c.slide-moves.ensures.mapping
+    c.requires.state.sound c.slide-moves.ensures.slid c.slide-moves.ensures.kept.mapping
     (c.move_images.ensures ∙ ap (λ (ms : List BlockMove). map (image_moved ms) c.args.table.now) c.as_slice-4.ensures.value) in
     has_system c.slide-moves.new.map c.args.areas.now c.move_images.new.table []
     (sound_after c.args.map.now c.slide-moves.new.map c.args.areas.now c.args.table.now c.move_images.new.table c.as_slice-3.result.now moves
-    c.requires.sound c.slide-moves.ensures.sound blocks)
+    c.requires.state.sound c.slide-moves.ensures.kept.sound blocks)
 
 pub returns-clause-module_state : goal.returns-clause-module_state
 returns-clause-module_state c =
@@ -41,7 +40,7 @@ returns-clause-module_state c =
     let slots : List ℕ = c.slots-slots.result.items in
     let blocks : IsBlocksSlid c.args.map.now c.slide-moves.new.map c.args.areas.now c.args.table.now c.move_images.new.table c.as_slice-3.result.now moves =
     blocks_slid c.args.map.now c.slide-moves.new.map c.args.areas.now c.args.table.now c.move_images.new.table c.as_slice-3.result.now moves
-    c.requires.sound c.slide-moves.ensures.slid c.slide-moves.ensures.mapping
+    c.requires.state.sound c.slide-moves.ensures.slid c.slide-moves.ensures.kept.mapping
     (c.move_images.ensures ∙ ap (λ (ms : List BlockMove). map (image_moved ms) c.args.table.now) c.as_slice-4.ensures.value) in
     let words : c.as_slice-2.result.now ≡ private_words_at (byte_at c.args.map.now) slots =
     c.as_slice-2.ensures.value ∙ c.private_words-words.ensures ∙ ap (private_words_at (byte_at c.args.map.now)) c.as_slice.ensures.value in
@@ -53,31 +52,21 @@ returns-clause-module_state c =
     slots c.as_slice-2.result.now c.as_slice-3.result.now moves c.slots-slots.ensures.value words (c.as_slice-3.ensures.value ∙ c.movable_blocks-movable.ensures)
     blocks area_store
 
-pub returns-clause-sound : goal.returns-clause-sound
-returns-clause-sound c =
+pub returns-clause-kept : goal.returns-clause-kept
+returns-clause-kept c =
     let moves : List BlockMove = c.slide-moves.result.items in
     let blocks : IsBlocksSlid c.args.map.now c.slide-moves.new.map c.args.areas.now c.args.table.now c.move_images.new.table c.as_slice-3.result.now moves =
     blocks_slid c.args.map.now c.slide-moves.new.map c.args.areas.now c.args.table.now c.move_images.new.table c.as_slice-3.result.now moves
-    c.requires.sound c.slide-moves.ensures.slid c.slide-moves.ensures.mapping
+    c.requires.state.sound c.slide-moves.ensures.slid c.slide-moves.ensures.kept.mapping
     (c.move_images.ensures ∙ ap (λ (ms : List BlockMove). map (image_moved ms) c.args.table.now) c.as_slice-4.ensures.value) in
-    c.move_words.ensures.sound c.args.areas.now c.move_images.new.table []
-    (sound_after c.args.map.now c.slide-moves.new.map c.args.areas.now c.args.table.now c.move_images.new.table c.as_slice-3.result.now moves
-    c.requires.sound c.slide-moves.ensures.sound blocks)
-
-pub returns-clause-flex : goal.returns-clause-flex
-returns-clause-flex c =
-    let slots : length c.as_slice.result.now ≡ length c.slots-slots.result.items = ap (length {A = ℕ}) c.as_slice.ensures.value in
-    let may : MaySlide (store_of c.args.map.now) module_area_start c.as_slice-3.result.now =
-    may_slide c.args.map.now c.args.areas.now c.args.table.now c.as_slice-2.result.now c.as_slice-3.result.now c.args.return_address c.requires.sound
-    (omega (arith, slots)) (omega arith) (c.as_slice-3.ensures.value ∙ c.movable_blocks-movable.ensures) in
-    keeps_then _ _ _
-    (slides_keep (store_of c.args.map.now) (store_of c.slide-moves.new.map) c.as_slice-3.result.now c.slide-moves.result.items
-    c.requires.sound.area_store.ground.sound c.slide-moves.ensures.sound may c.slide-moves.ensures.slid)
-    c.move_words.ensures.flex
-
-pub returns-clause-mapping : goal.returns-clause-mapping
-returns-clause-mapping c = layout-mapping c.slide-moves.new.map c.move_words.new.map c.move_words.ensures.layout ∙ c.slide-moves.ensures.mapping
-
-pub returns-clause-records : goal.returns-clause-records
-returns-clause-records c =
-    (c.slide-moves.result.items, layout-regions c.slide-moves.new.map c.move_words.new.map c.move_words.ensures.layout ∙ c.slide-moves.ensures.regions)
+    let slid = c.slide-moves.ensures.kept in
+    let put = c.move_words.ensures.kept in
+    record {
+      sound = put.sound c.args.areas.now c.move_images.new.table []
+          (sound_after c.args.map.now c.slide-moves.new.map c.args.areas.now c.args.table.now c.move_images.new.table c.as_slice-3.result.now moves
+          c.requires.state.sound slid.sound blocks);
+      classes = put.classes slid.classes;
+      mapping = layout-mapping c.slide-moves.new.map c.move_words.new.map put.layout ∙ slid.mapping;
+      records = (moves, layout-regions c.slide-moves.new.map c.move_words.new.map put.layout ∙ c.slide-moves.ensures.regions);
+      flex = keeps_then _ _ _ slid.flex put.flex;
+    }
