@@ -2,10 +2,10 @@ use Rattle.swi_dispatch_plans.proofs.modules.area.claim_block.Goals as goal
 
 pub returns-in_err-block-clause-leaves : goal.returns-in_err-block-clause-leaves
 returns-in_err-block-clause-leaves c =
-    let did = c.claim.ensures in
-    record { area_store = did.area_store; classes = did.classes; others = did.others; flex = did.flex }
+    let did = c.claim.ensures.kept in
+    record { area_store = did.area_store; classes = did.classes; others = did.others; flex = did.flex; sizes = did.sizes }
 
 pub returns-clause-leaves : goal.returns-clause-leaves
 returns-clause-leaves c =
-    let did = c.claim.ensures in
-    record { area_store = did.area_store; classes = did.classes; others = did.others; flex = did.flex }
+    let did = c.claim.ensures.kept in
+    record { area_store = did.area_store; classes = did.classes; others = did.others; flex = did.flex; sizes = did.sizes }

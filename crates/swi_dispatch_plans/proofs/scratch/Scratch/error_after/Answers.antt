@@ -6,23 +6,25 @@ use Rattle.swi_dispatch_plans.proofs.Trials.{copied_classes, copied_module_state
 use Rattle.swi_dispatch_plans.proofs.scratch.Scratch.error_after.Goals as goal
 use Rattle.swi_dispatch_plans.proofs.scratch.Scratch.error_after.Goals.{in-Own, in-Well}
 
-pub carry-code-requires-clause-going : goal.carry-code-requires-clause-going
-carry-code-requires-clause-going c =
+pub carry-code-requires : goal.carry-code-requires
+carry-code-requires c =
     let copy = c.copy_from.ensures in
+    let is = c.requires.state in
+    let sound = is.going.module_state.area_store.ground.sound in
     let module_state = copied_module_state c.args.memory.now c.copy_from.new.self c.args.areas.now c.args.instances.now c.copy_from-2.new.self copy.bytes copy.layout copy.marks
-    c.requires.going.module_state.area_store.ground.sound c.copy_from-2.ensures in
-    rw c.copied-plan.ensures (subst (λ (w : ModuleState). IsUnderWay w c.args.plan.now) (sym module_state) c.requires.going)
-
-pub carry-code-requires-clause-classes : goal.carry-code-requires-clause-classes
-carry-code-requires-clause-classes c =
-    let copy = c.copy_from.ensures in
-    copied_classes c.args.memory.now c.copy_from.new.self copy.bytes copy.layout copy.marks c.requires.going.module_state.area_store.ground.sound c.requires.classes
+    sound c.copy_from-2.ensures in
+    record {
+      state = record {
+        going = rw c.copied-plan.ensures (subst (λ (w : ModuleState). IsUnderWay w c.args.plan.now) (sym module_state) is.going);
+        classes = copied_classes c.args.memory.now c.copy_from.new.self copy.bytes copy.layout copy.marks sound is.classes;
+      };
+    }
 
 pub returns-then-is_some-clause-error : goal.returns-then-is_some-clause-error
 returns-then-is_some-clause-error c =
     let copy = c.copy_from.ensures in
     let module_state = copied_module_state c.args.memory.now c.copy_from.new.self c.args.areas.now c.args.instances.now c.copy_from-2.new.self copy.bytes copy.layout copy.marks
-    c.requires.going.module_state.area_store.ground.sound c.copy_from-2.ensures in
+    c.requires.state.going.module_state.area_store.ground.sound c.copy_from-2.ensures in
     error_in_code _ _ _ _ _ (tried _ _ _ _ _ _ module_state c.copied-plan.ensures c.carry-code.ensures.carried) (sym c.is_some.ensures ∙ c.if-is_some.true)
 
 pub returns-clause-error : goal.returns-clause-error
@@ -30,7 +32,7 @@ unfolding store_of
 returns-clause-error c =
     let copy = c.copy_from.ensures in
     let module_state = copied_module_state c.args.memory.now c.copy_from.new.self c.args.areas.now c.args.instances.now c.copy_from-2.new.self copy.bytes copy.layout copy.marks
-    c.requires.going.module_state.area_store.ground.sound c.copy_from-2.ensures in
+    c.requires.state.going.module_state.area_store.ground.sound c.copy_from-2.ensures in
     let tried = tried _ _ _ _ _ _ module_state c.copied-plan.ensures c.carry-code.ensures.carried in
     let none = sym c.is_some.ensures ∙ c.if-is_some.false in
     elim c.match-end.branch [
