@@ -1,5 +1,5 @@
 -- Calls on the flex store keep all heaps, and what holds of them.
-use Rattle.std.proofs.Common.{◌≡◌, ◌⊎◌, ℕ, ◌+◌, ◌-◌, ◌%◌, ◌≤◌, ◌<◌, ◌&&◌, ◌==◌, not, true, false, List, [], ◌∷◌, Some, refl, sym, ap, ◌∙◌, arith, inl, inr}
+use Rattle.std.proofs.Common.{◌≡◌, ℕ, ◌+◌, ◌-◌, ◌%◌, ◌≤◌, ◌<◌, ◌&&◌, ◌==◌, not, true, false, List, [], ◌∷◌, Option, Some, refl, sym, ap, ◌∙◌, arith, inl, inr}
 use Rattle.std.specs.List.{list_any}
 use Rattle.std.proofs.lemmas.Bool.{and_parts, cases_Bool, eqb-true, false≢true, le-leb, lt-ltb, not-true, or_left, or_right}
 use Rattle.address_map.proofs.Bytes.{is_mapped-page}
@@ -19,6 +19,7 @@ use Rattle.os_heap.specs.Store.{AreClasses, ArePlaced, IsAnchorPlace, IsClearOfH
 use Rattle.flex_store.specs.declared.flex.Extent.{Extent}
 use Rattle.flex_store.specs.Blocks.{bytes_taken_by_all}
 use Rattle.flex_store.specs.Calls.{is_anchor_place}
+use Rattle.flex_store.specs.Kept.{AreAnchorsAllowed, IsFlexMap, KeepsLayoutAndHeaps}
 use Rattle.flex_store.specs.State.{blocks_of, HasNoHead, IsRecordedStore, is_recorded, is_store_record, KeepsBesidesFlex, KeepsHeads}
 use Rattle.flex_store.proofs.Headers.{IsWithin, header_within}
 
@@ -145,26 +146,15 @@ kept m n e f sound classes is k =
       headers = kept_header m n e f is k;
     })
 
-pub kept_sound : (m n : AddressMap) (e f : Extent) → IsSound (store_of m) → AreClasses m → IsRecordedStore m e → KeepsBesidesFlex m e n f → IsSound (store_of n)
-kept_sound m n e f sound classes is k = (kept m n e f sound classes is k).sound
-
-pub kept_classes : (m n : AddressMap) (e f : Extent) → IsSound (store_of m) → AreClasses m → IsRecordedStore m e → KeepsBesidesFlex m e n f → AreClasses n
-kept_classes m n e f sound classes is k = (kept m n e f sound classes is k).classes
-
-pub kept_heaps : (m n : AddressMap) (e f : Extent) → IsSound (store_of m) → AreClasses m → IsRecordedStore m e → KeepsBesidesFlex m e n f
-    → (store_of n).heaps ≡ (store_of m).heaps
-kept_heaps m n e f sound classes is k = (kept m n e f sound classes is k).heaps
-
 -- the store stays recorded
-pub kept_flex : (m n : AddressMap) (e f : Extent) → IsRecordedStore m e → KeepsBesidesFlex m e n f → IsRecordedStore n f
+kept_flex : (m n : AddressMap) (e f : Extent) → IsRecordedStore m e → KeepsBesidesFlex m e n f → IsRecordedStore n f
 kept_flex m n e f is k = record {
   held = k.store;
   recorded = rw (layout-others m n k.same, k.start, k.end) is.recorded;
 }
 
 -- Each anchor was one, or its word may be one, or it lies in the store.
-pub kept_anchors : (m n : AddressMap) (e f : Extent) → IsRecordedStore m e → KeepsBesidesFlex m e n f → (a : ℕ) → (store_of n).anchor a ≡ true
-    → ((store_of m).anchor a ≡ true) ⊎ ((is_anchor_place (store_of m) (word_start a) ≡ true) ⊎ (is_in_flex_store (store_of m).others a ≡ true))
+kept_anchors : (m n : AddressMap) (e f : Extent) → IsRecordedStore m e → KeepsBesidesFlex m e n f → AreAnchorsAllowed m n
 kept_anchors m n e f is k a anchor =
     elim (k.anchors (word_start a) (sym (k.store.store.anchors a) ∙ (sym (store_anchor n a) ∙ anchor))) [
       | inl was ↦ inl (store_anchor m a ∙ (is.held.store.anchors a ∙ was))
@@ -176,4 +166,28 @@ kept_anchors m n e f is k a anchor =
       ]
     ]
 
-pub ruleset keeping = (kept_sound, kept_classes, kept_heaps, kept_flex, kept_anchors)
+-- what a call on the store keeps
+pub kept_map : (m n : AddressMap) (e f : Extent) → IsFlexMap m (Some e) → KeepsBesidesFlex m e n f → KeepsLayoutAndHeaps m n (Some f)
+kept_map m n e f is k =
+    let s : IsSoundFlexed m n = kept m n e f is.sound is.classes is.flex k in
+    record {
+      flex = kept_flex m n e f is.flex k;
+      sound = s.sound;
+      classes = s.classes;
+      layout = k.same;
+      heaps = s.heaps;
+      anchors = kept_anchors m n e f is.flex k;
+    }
+
+-- and one that is refused before there is a store
+pub kept_same : (m : AddressMap) (o : Option Extent) → IsFlexMap m o → KeepsLayoutAndHeaps m m o
+kept_same m o is = record {
+  flex = is.flex;
+  sound = is.sound;
+  classes = is.classes;
+  layout = refl;
+  heaps = refl;
+  anchors = λ a was. inl was;
+}
+
+pub ruleset keeping = (kept_map, kept_same)

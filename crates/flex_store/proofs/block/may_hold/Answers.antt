@@ -50,7 +50,7 @@ returns-then-is_other c =
     (c.meets_other.ensures ∙ ap (λ (rs : List Region). met_in c.args.anchor rs) c.regions.ensures)
 
 pub is_in_contents-requires : goal.is_in_contents-requires
-is_in_contents-requires c = text_of_store c.args.map.now c.args.extent.now c.requires.store
+is_in_contents-requires c = text_of_store c.args.map.now c.args.extent.now c.requires.flex.held
 
 pub returns-then-not-is_met : goal.returns-then-not-is_met
 returns-then-not-is_met c =

@@ -10,7 +10,9 @@ own-requires-clause-region c = record {
   end = word_below c.args.map.now c.args.at c.requires.aligned c.requires.mapped;
 }
 
-pub returns-clause-layout : goal.returns-clause-layout
-returns-clause-layout c =
-    same_parts c.args.map.now c.own.new.self c.own.ensures.mapping
-    (c.own.ensures.regions ∙ with_word_region (regions c.args.map.now) c.args.kind c.args.at c.requires.kind)
+pub returns-clause-kept : goal.returns-clause-kept
+returns-clause-kept c = record {
+  bytes = c.own.ensures.bytes;
+  layout = same_parts c.args.map.now c.own.new.self c.own.ensures.mapping
+      (c.own.ensures.regions ∙ with_word_region (regions c.args.map.now) c.args.kind c.args.at c.requires.kind);
+}

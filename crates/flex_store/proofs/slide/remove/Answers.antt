@@ -24,7 +24,7 @@ pub settle-requires-clause-text : goal.settle-requires-clause-text
 settle-requires-clause-text c =
     let w : IsWrittenText (removal_shifts c.args.header c.args.end (first_at c.args.map.now c.args.header).size) c.args.map.now c.move_bytes.new.self c.args.header (c.args.header + (c.args.end - (c.args.header + c.taken.result))) (blocks_behind_first c.args.map.now c.args.header c.args.end) =
     closed_step c.args.map.now c.unmark.new.map c.move_bytes.new.self c.args.header c.args.end c.taken.result c.requires.text c.requires.room
-    (c.taken.ensures ∙ ap bytes_taken_by (c.from.ensures ∙ c.word-size.ensures)) c.unmark.ensures.bytes (c.move_bytes.ensures.layout ∙ c.unmark.ensures.layout) c.move_bytes.ensures.bytes in
+    (c.taken.ensures ∙ ap bytes_taken_by (c.from.ensures ∙ c.word-size.ensures)) c.unmark.ensures.kept.bytes (c.move_bytes.ensures.layout ∙ c.unmark.ensures.kept.layout) c.move_bytes.ensures.bytes in
     as_read (bytes_of c.move_bytes.new.self) c.args.header (c.args.header + (c.args.end - (c.args.header + c.taken.result))) (blocks_behind_first c.args.map.now c.args.header c.args.end) w.text
 
 pub settle-requires-clause-words : goal.settle-requires-clause-words
@@ -35,7 +35,7 @@ settle-requires-clause-words c =
     let shifts_is : one ∷ [] ≡ (removal_shifts c.args.header c.args.end (first_at c.args.map.now c.args.header).size) = λ i. record { from = next i; end = c.args.end; to = c.args.header } ∷ [] in
     let w : IsWrittenText (removal_shifts c.args.header c.args.end (first_at c.args.map.now c.args.header).size) c.args.map.now c.move_bytes.new.self c.args.header (c.args.header + (c.args.end - (c.args.header + c.taken.result))) (blocks_behind_first c.args.map.now c.args.header c.args.end) =
     closed_step c.args.map.now c.unmark.new.map c.move_bytes.new.self c.args.header c.args.end c.taken.result c.requires.text c.requires.room
-    (c.taken.ensures ∙ ap bytes_taken_by (c.from.ensures ∙ c.word-size.ensures)) c.unmark.ensures.bytes (c.move_bytes.ensures.layout ∙ c.unmark.ensures.layout) c.move_bytes.ensures.bytes in
+    (c.taken.ensures ∙ ap bytes_taken_by (c.from.ensures ∙ c.word-size.ensures)) c.unmark.ensures.kept.bytes (c.move_bytes.ensures.layout ∙ c.unmark.ensures.kept.layout) c.move_bytes.ensures.bytes in
     subst (λ (l : List Shift). AreAnchorWords (is_mapped c.move_bytes.new.self) c.args.header (c.args.header + (c.args.end - (c.args.header + c.taken.result)))
     (following l (blocks_in (byte_at c.move_bytes.new.self) c.args.header (c.args.header + (c.args.end - (c.args.header + c.taken.result)))))) (sym shifts_is) w.words
 
@@ -52,14 +52,14 @@ returns c =
     let shifts_is : one ∷ [] ≡ (removal_shifts c.args.header c.args.end (first_at c.args.map.now c.args.header).size) = λ i. record { from = next i; end = c.args.end; to = c.args.header } ∷ [] in
     let w : IsWrittenText (removal_shifts c.args.header c.args.end (first_at c.args.map.now c.args.header).size) c.args.map.now c.move_bytes.new.self c.args.header (c.args.header + (c.args.end - (c.args.header + c.taken.result))) (blocks_behind_first c.args.map.now c.args.header c.args.end) =
     closed_step c.args.map.now c.unmark.new.map c.move_bytes.new.self c.args.header c.args.end c.taken.result c.requires.text c.requires.room
-    (c.taken.ensures ∙ ap bytes_taken_by (c.from.ensures ∙ c.word-size.ensures)) c.unmark.ensures.bytes (c.move_bytes.ensures.layout ∙ c.unmark.ensures.layout) c.move_bytes.ensures.bytes in
+    (c.taken.ensures ∙ ap bytes_taken_by (c.from.ensures ∙ c.word-size.ensures)) c.unmark.ensures.kept.bytes (c.move_bytes.ensures.layout ∙ c.unmark.ensures.kept.layout) c.move_bytes.ensures.bytes in
     relaid_from (removal_shifts c.args.header c.args.end (first_at c.args.map.now c.args.header).size) c.args.map.now c.move_bytes.new.self c.settle.new.map c.args.header (c.args.header + (c.args.end - (c.args.header + c.taken.result)))
     (first_at c.args.map.now c.args.header ∷ blocks_behind_first c.args.map.now c.args.header c.args.end)
     (blocks_behind_first c.args.map.now c.args.header c.args.end)
     w.text
     (λ a. ap (λ (k : ℕ → Class). k a) c.move_bytes.ensures.marks
     ∙ unmarked c.args.map.now c.unmark.new.map c.args.header c.args.end (first_at c.args.map.now c.args.header ∷ blocks_behind_first c.args.map.now c.args.header c.args.end) c.requires.text c.unmark.ensures.marks a)
-    (c.settle.ensures.layout ∙ (c.move_bytes.ensures.layout ∙ c.unmark.ensures.layout))
+    (c.settle.ensures.layout ∙ (c.move_bytes.ensures.layout ∙ c.unmark.ensures.kept.layout))
     w.bytes
     (λ a. c.settle.ensures.bytes a ∙ ap (λ (l : List Shift). laid_out c.args.header (following l (blocks_in (byte_at c.move_bytes.new.self) c.args.header (c.args.header + (c.args.end - (c.args.header + c.taken.result))))) (byte_at c.move_bytes.new.self) a) shifts_is)
     (λ a. c.settle.ensures.marks a

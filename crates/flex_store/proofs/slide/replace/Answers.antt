@@ -51,7 +51,7 @@ respace-requires-clause-room c =
     let s = c.args.splice.now in
     let k : AreNumbers c.args.map.now c.args.header c.args.end s.at s.cut s.more = numbers c.args.map.now c.args.header c.args.end s.at s.cut s.more c.requires.text c.requires.splice.at c.requires.room in
     room_for c.args.map.now c.unmark.new.map c.args.header c.args.end c.word-size.result (size_after_splice s c.word-size.result) s.at s.cut s.more
-    c.unmark.ensures.layout c.word-size.ensures refl c.requires.text k c.requires.room
+    c.unmark.ensures.kept.layout c.word-size.ensures refl c.requires.text k c.requires.room
 
 pub overflow_add-new_next-2 : goal.overflow_add-new_next-2
 overflow_add-new_next-2 c =
@@ -69,7 +69,7 @@ settle-requires-clause-text c =
     replaced_step c.args.map.now c.unmark.new.map c.respace.new.map c.put_word.new.self c.args.header c.args.end c.word-size.result c.size_after-new_size.result
     c.taken.result c.taken-2.result c.args.splice.now.at c.args.splice.now.cut c.args.splice.now.more c.requires.text c.requires.splice.at c.requires.words c.requires.room
     c.word-size.ensures c.size_after-new_size.ensures (c.taken.ensures ∙ ap bytes_taken_by c.from.ensures) (c.taken-2.ensures ∙ ap bytes_taken_by c.from-2.ensures)
-    c.unmark.ensures.bytes (c.put_word.ensures.layout ∙ (c.respace.ensures.layout ∙ c.unmark.ensures.layout)) c.respace.ensures.bytes c.put_word.ensures.bytes in
+    c.unmark.ensures.kept.bytes (c.put_word.ensures.layout ∙ (c.respace.ensures.kept.layout ∙ c.unmark.ensures.kept.layout)) c.respace.ensures.bytes c.put_word.ensures.bytes in
     as_read (bytes_of c.put_word.new.self) c.args.header (c.args.header + c.taken-2.result + (c.args.end - (c.args.header + c.taken.result))) (block_holding (first_at c.args.map.now c.args.header) (bytes_after_splice (contents (first_at c.args.map.now c.args.header)) c.args.splice.now.at c.args.splice.now.cut c.args.splice.now.more) ∷ blocks_behind_first c.args.map.now c.args.header c.args.end) w.text
 
 pub settle-requires-clause-words : goal.settle-requires-clause-words
@@ -80,7 +80,7 @@ settle-requires-clause-words c =
     replaced_step c.args.map.now c.unmark.new.map c.respace.new.map c.put_word.new.self c.args.header c.args.end c.word-size.result c.size_after-new_size.result
     c.taken.result c.taken-2.result c.args.splice.now.at c.args.splice.now.cut c.args.splice.now.more c.requires.text c.requires.splice.at c.requires.words c.requires.room
     c.word-size.ensures c.size_after-new_size.ensures (c.taken.ensures ∙ ap bytes_taken_by c.from.ensures) (c.taken-2.ensures ∙ ap bytes_taken_by c.from-2.ensures)
-    c.unmark.ensures.bytes (c.put_word.ensures.layout ∙ (c.respace.ensures.layout ∙ c.unmark.ensures.layout)) c.respace.ensures.bytes c.put_word.ensures.bytes in
+    c.unmark.ensures.kept.bytes (c.put_word.ensures.layout ∙ (c.respace.ensures.kept.layout ∙ c.unmark.ensures.kept.layout)) c.respace.ensures.bytes c.put_word.ensures.bytes in
     subst (λ (l : List Shift). AreAnchorWords (is_mapped c.put_word.new.self) c.args.header (c.args.header + c.taken-2.result + (c.args.end - (c.args.header + c.taken.result)))
     (following l (blocks_in (byte_at c.put_word.new.self) c.args.header (c.args.header + c.taken-2.result + (c.args.end - (c.args.header + c.taken.result)))))) (sym shifts_is) w.words
 
@@ -111,7 +111,7 @@ respace-requires-clause-rest c =
     let s = c.args.splice.now in
     let k : AreNumbers c.args.map.now c.args.header c.args.end s.at s.cut s.more = numbers c.args.map.now c.args.header c.args.end s.at s.cut s.more c.requires.text c.requires.splice.at c.requires.room in
     rest_for c.args.map.now c.unmark.new.map c.args.header c.args.end c.word-size.result (size_after_splice s c.word-size.result) s.at s.cut s.more
-    c.unmark.ensures.layout c.word-size.ensures refl c.requires.text k c.requires.room
+    c.unmark.ensures.kept.layout c.word-size.ensures refl c.requires.text k c.requires.room
 
 pub returns : goal.returns
 returns c =
@@ -121,16 +121,16 @@ returns c =
     replaced_step c.args.map.now c.unmark.new.map c.respace.new.map c.put_word.new.self c.args.header c.args.end c.word-size.result c.size_after-new_size.result
     c.taken.result c.taken-2.result c.args.splice.now.at c.args.splice.now.cut c.args.splice.now.more c.requires.text c.requires.splice.at c.requires.words c.requires.room
     c.word-size.ensures c.size_after-new_size.ensures (c.taken.ensures ∙ ap bytes_taken_by c.from.ensures) (c.taken-2.ensures ∙ ap bytes_taken_by c.from-2.ensures)
-    c.unmark.ensures.bytes (c.put_word.ensures.layout ∙ (c.respace.ensures.layout ∙ c.unmark.ensures.layout)) c.respace.ensures.bytes c.put_word.ensures.bytes in
+    c.unmark.ensures.kept.bytes (c.put_word.ensures.layout ∙ (c.respace.ensures.kept.layout ∙ c.unmark.ensures.kept.layout)) c.respace.ensures.bytes c.put_word.ensures.bytes in
     subst (λ (l : List Block). Relaid c.args.map.now c.settle.new.map c.args.header (first_at c.args.map.now c.args.header ∷ blocks_behind_first c.args.map.now c.args.header c.args.end) l)
     (replaced_is c.args.map.now c.args.header c.args.end c.args.splice.now.at c.args.splice.now.cut c.args.splice.now.more c.requires.text c.requires.words)
     (relaid_from (splice_shifts c.args.header c.args.end (first_at c.args.map.now c.args.header).size c.args.splice.now.at c.args.splice.now.cut c.args.splice.now.more) c.args.map.now c.put_word.new.self c.settle.new.map c.args.header (c.args.header + c.taken-2.result + (c.args.end - (c.args.header + c.taken.result)))
     (first_at c.args.map.now c.args.header ∷ blocks_behind_first c.args.map.now c.args.header c.args.end)
     (block_holding (first_at c.args.map.now c.args.header) (bytes_after_splice (contents (first_at c.args.map.now c.args.header)) c.args.splice.now.at c.args.splice.now.cut c.args.splice.now.more) ∷ blocks_behind_first c.args.map.now c.args.header c.args.end)
     w.text
-    (λ a. ap (λ (k : ℕ → Class). k a) (c.put_word.ensures.marks ∙ c.respace.ensures.marks)
+    (λ a. ap (λ (k : ℕ → Class). k a) (c.put_word.ensures.marks ∙ c.respace.ensures.kept.marks)
     ∙ unmarked c.args.map.now c.unmark.new.map c.args.header c.args.end (first_at c.args.map.now c.args.header ∷ blocks_behind_first c.args.map.now c.args.header c.args.end) c.requires.text c.unmark.ensures.marks a)
-    (c.settle.ensures.layout ∙ (c.put_word.ensures.layout ∙ (c.respace.ensures.layout ∙ c.unmark.ensures.layout)))
+    (c.settle.ensures.layout ∙ (c.put_word.ensures.layout ∙ (c.respace.ensures.kept.layout ∙ c.unmark.ensures.kept.layout)))
     w.bytes
     (λ a. c.settle.ensures.bytes a ∙ ap (λ (l : List Shift). laid_out c.args.header (following l (blocks_in (byte_at c.put_word.new.self) c.args.header (c.args.header + c.taken-2.result + (c.args.end - (c.args.header + c.taken.result))))) (byte_at c.put_word.new.self) a) shifts_is)
     (λ a. c.settle.ensures.marks a

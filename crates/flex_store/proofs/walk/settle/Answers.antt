@@ -56,7 +56,7 @@ overflow_add-header-in-loop-header-2 c =
 pub put_word-requires-clause-mapped : goal.put_word-requires-clause-mapped
 put_word-requires-clause-mapped c =
     let a = ahead c.loop-header.map c.loop-header.header c.args.end c.loop-header.invariant.rest c.loop-header.invariant.text c.loop-header-test.true in
-    ap (λ (p : ℕ → Bool). p c.loop-header.header) (is_mapped-layout c.loop-header.map c.mark_block.new.map c.mark_block.ensures.layout) ∙ a.here
+    ap (λ (p : ℕ → Bool). p c.loop-header.header) (is_mapped-layout c.loop-header.map c.mark_block.new.map c.mark_block.ensures.kept.layout) ∙ a.here
 
 pub put_word-requires-in-loop-header-clause-aligned : goal.put_word-requires-in-loop-header-clause-aligned
 put_word-requires-in-loop-header-clause-aligned c = rw (c.gone_to-anchor.ensures ∙ ap (gone_to c.args.shifts.now) c.word.ensures) (gone_ahead c.args.shifts.now c.loop-header.map c.loop-header.header c.args.end c.loop-header.invariant.rest c.loop-header.invariant.text c.loop-header.invariant.words c.loop-header-test.true).aligned
@@ -65,7 +65,7 @@ pub put_word-requires-in-loop-header-clause-mapped : goal.put_word-requires-in-l
 put_word-requires-in-loop-header-clause-mapped c =
     let there : is_mapped c.loop-header.map c.gone_to-anchor.result ≡ true = rw (c.gone_to-anchor.ensures ∙ ap (gone_to c.args.shifts.now) c.word.ensures) (gone_ahead c.args.shifts.now c.loop-header.map c.loop-header.header c.args.end c.loop-header.invariant.rest c.loop-header.invariant.text c.loop-header.invariant.words c.loop-header-test.true).there in
     ap (λ (p : ℕ → Bool). p c.gone_to-anchor.result)
-    (is_mapped-layout c.loop-header.map c.put_word.new.self (c.put_word.ensures.layout ∙ c.mark_block.ensures.layout)) ∙ there
+    (is_mapped-layout c.loop-header.map c.put_word.new.self (c.put_word.ensures.layout ∙ c.mark_block.ensures.kept.layout)) ∙ there
 
 pub loop-header-preserved : goal.loop-header-preserved
 loop-header-preserved c =
@@ -74,10 +74,10 @@ loop-header-preserved c =
     let gone : c.gone_to-anchor.result ≡ gone_to c.args.shifts.now (word_at (byte_at m) to) = (c.gone_to-anchor.ensures ∙ ap (gone_to c.args.shifts.now) c.word.ensures) in
     let next : bytes_taken_by (word_at (byte_at m) (to + 4)) ≡ c.taken.result = sym (c.taken.ensures ∙ ap bytes_taken_by (c.from.ensures ∙ c.word-size.ensures)) in
     rw (← next) (settling_more c.args.shifts.now c.args.map.now c.args.at m c.put_word-in-loop-header.new.self to c.args.end c.loop-header-test.true c.loop-header.invariant
-    (c.put_word-in-loop-header.ensures.layout ∙ (c.put_word.ensures.layout ∙ c.mark_block.ensures.layout))
+    (c.put_word-in-loop-header.ensures.layout ∙ (c.put_word.ensures.layout ∙ c.mark_block.ensures.kept.layout))
     (λ a. c.put_word-in-loop-header.ensures.bytes a
     ∙ (ap (λ (f : ℕ → ℕ). with_word_at f c.gone_to-anchor.result (to + 8) a) (λ i x. c.put_word.ensures.bytes x i)
-    ∙ (ap (λ (f : ℕ → ℕ). with_word_at (with_word_at f to c.gone_to-anchor.result) c.gone_to-anchor.result (to + 8) a) c.mark_block.ensures.bytes
+    ∙ (ap (λ (f : ℕ → ℕ). with_word_at (with_word_at f to c.gone_to-anchor.result) c.gone_to-anchor.result (to + 8) a) c.mark_block.ensures.kept.bytes
     ∙ ap (λ (w : ℕ). with_word_at (with_word_at (byte_at m) to w) w (to + 8) a) gone)))
     (λ a. ap (λ (f : ℕ → Class). f a) (c.put_word-in-loop-header.ensures.marks ∙ c.put_word.ensures.marks) ∙ (c.mark_block.ensures.marks a
     ∙ ap (λ (w : ℕ). with_block_marks class.FlexHeader class.Anchor to w (class_of m) a) gone)))

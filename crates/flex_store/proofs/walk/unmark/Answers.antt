@@ -51,7 +51,7 @@ loop-header-preserved c =
     let n = c.clear_block.new.map in
     let next : bytes_taken_by (word_at (byte_at m) (c.loop-header.header + 4)) ≡ c.taken.result = sym (c.taken.ensures ∙ ap bytes_taken_by (c.from.ensures ∙ c.word-size.ensures)) in
     rw (← next) (marking_more class.Plain c.args.map.now c.args.at m n c.loop-header.header c.args.end c.loop-header-test.true c.loop-header.invariant
-    c.clear_block.ensures.layout c.clear_block.ensures.bytes
+    c.clear_block.ensures.kept.layout c.clear_block.ensures.kept.bytes
     (λ a. c.clear_block.ensures.marks a ∙ ap (λ (w : ℕ). with_block_marks class.Plain class.Plain c.loop-header.header w (class_of m) a) c.word-anchor.ensures))
 
 pub returns-clause-marks : goal.returns-clause-marks
