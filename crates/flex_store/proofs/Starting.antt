@@ -1,6 +1,6 @@
 -- The store as it begins.
-use Rattle.std.proofs.Common.{◌≡◌, ℕ, Bool, ◌+◌, ◌-◌, ◌%◌, ◌^◌, ◌<◌, ◌≤◌, ◌==◌, ◌&&◌, not, true, false, nat_eq, nat_lt, List, [], Some, is_some, arith, refl, sym, ◌∙◌, ap, subst, ◌↔◌}
-use Rattle.std.proofs.lemmas.Bool.{and_parts, eqb-true, eq-eqb, false≢true, ltb-true, lt-ltb, not-true}
+use Rattle.std.proofs.Common.{◌≡◌, ℕ, Bool, ◌+◌, ◌-◌, ◌%◌, ◌^◌, ◌<◌, ◌≤◌, ◌==◌, ◌&&◌, not, true, false, nat_eq, nat_lt, List, [], Option, Some, None, Ok, is_some, arith, refl, sym, ◌∙◌, ap, subst, ◌↔◌}
+use Rattle.std.proofs.lemmas.Bool.{and_parts, eqb-true, eq-eqb, false≢true, ltb-true, lt-ltb, not-true, true≢false}
 use Rattle.os_heap.proofs.RangeTests.{are_mapped_all, are_mapped_from, ranges_split, same_tests}
 use Rattle.os_heap.specs.Ranges.{are_bytes_mapped}
 use Rattle.os_heap.specs.Store.{store_of}
@@ -12,10 +12,12 @@ use Rattle.address_map.specs.Records.{meets_record}
 use Rattle.address_map.specs.declared.class.Class.{Class}
 use Rattle.address_map.specs.declared.map.AddressMap.{AddressMap}
 use Rattle.flex_store.specs.declared.flex.Extent.{Extent}
+use Rattle.flex_store.specs.declared.flex.Flex.{Flex}
+use Rattle.profile.specs.Outcome.{Gives}
 use Rattle.flex_store.specs.Blocks.{Block, bytes_taken_by_all}
-use Rattle.flex_store.specs.Calls.{is_flex_range}
+use Rattle.flex_store.specs.Calls.{FlexState, flex_after_init, flex_after_init_over, is_flex_range}
 use Rattle.flex_store.specs.Memory.{blocks_in}
-use Rattle.flex_store.specs.State.{IsFlexStore, IsNoFlex, IsStoreAt, blocks_of, held_in}
+use Rattle.flex_store.specs.State.{IsFlexAt, IsFlexStore, IsNoFlex, IsStoreAt, blocks_of, flex_in, held_in, state_of_flex}
 
 pub record IsGoodRange (mapped : ℕ → Bool) (start end : ℕ) : Type 0 where
   pub start_aligned : start % 4 ≡ 0
@@ -90,11 +92,28 @@ starts_empty m n start end none is same marks =
       used_is = ap bytes_taken_by_all empty;
     }
 
-pub begins_state : (m n : AddressMap) (start end : ℕ) → mapping n ≡ mapping m → byte_at n ≡ byte_at m
+begins_state : (m n : AddressMap) (start end : ℕ) → mapping n ≡ mapping m → byte_at n ≡ byte_at m
     → held_in n (empty_extent start end) ≡ record { bytes = bytes_of m; flex = Some (record { start = start; end = end; blocks = [] }) }
 begins_state m n start end same bytes =
     let empty : blocks_of n (empty_extent start end) ≡ [] = no_blocks (byte_at n) start in
     λ i. record { bytes = record { mapped = mapped_same m n same i; at = bytes i }; flex = Some (record { start = start; end = end; blocks = empty i }) }
+
+-- the store and its answer, where there was none and the range is a good one
+pub begins_gives : (m n : AddressMap) (f : Flex) (start end : ℕ) → is_some f.extent ≡ false → is_flex_range (store_of m) start end ≡ true
+    → mapping n ≡ mapping m → byte_at n ≡ byte_at m
+    → Gives {U = Unit {0}} (state_of_flex m f) (flex_after_init (store_of m) (state_of_flex m f) start end) (Ok tt)
+    (state_of_flex n (record { extent = Some (empty_extent start end) }))
+unfolding state_of_flex flex_after_init
+begins_gives m n f start end none range same bytes = by f.extent none where
+  by : (o : Option Extent) → is_some o ≡ false
+      → (let t : FlexState = record { bytes = bytes_of m; flex = flex_in m o } in
+      Gives {U = Unit {0}} t (flex_after_init_over (store_of m) t start end t.flex) (Ok tt) (held_in n (empty_extent start end)))
+  by None none = rw range (begins_state m n start end same bytes, refl)
+  by (Some e) none = absurd (true≢false none)
+
+pub no_flex : (m : AddressMap) (o : Option Extent) → is_some o ≡ false → IsFlexAt m o → IsNoFlex m
+no_flex m None none is = is
+no_flex m (Some e) none is = absurd (true≢false none)
 
 pub range_tested : (m : AddressMap) (start end : ℕ) (all met : Bool) → start % 4 ≡ 0 → end % 4 ≡ 0 → start < end
     → ((all ≡ true) ↔ AreMapped (is_mapped m) start (end - start)) → met ≡ meets_record (regions m) start (end - start)

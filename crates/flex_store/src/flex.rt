@@ -3,10 +3,10 @@
 ghost use Rattle.std.specs.Prelude.{◌≡◌, ◌<◌, ◌++◌, ◌∷◌, [], true, false, Some, None, MatchOption, MatchResult, length};
 ghost use Rattle.profile.specs.Outcome.{Gives};
 ghost use Rattle.os_heap.specs.Store.{store_of};
-ghost use Rattle.address_map.specs.Memory.{bytes_of, is_mapped, regions};
+ghost use Rattle.address_map.specs.Memory.{is_mapped, regions};
 ghost use Rattle.flex_store.specs.Calls.{flex_after_alloc, flex_after_init, flex_after_extend, flex_record, is_flex_range, mid_extended, flex_after_release, flex_block_size};
 ghost use Rattle.flex_store.specs.Kept.{IsFlexMap, KeepsLayoutAndHeaps, KeepsMarksAndHeaps};
-ghost use Rattle.flex_store.specs.State.{held_in, state_of_flex, IsFlex};
+ghost use Rattle.flex_store.specs.State.{state_of_flex, IsFlex};
 
 use crate::block::{alloc_block, block_size, extend_block, mid_extend_block, release_block};
 use address_map::{AddressMap, Kind};
@@ -90,7 +90,7 @@ impl Flex {
         if !is_flex_range(map, start, end) {
             return Err(ErrorNumber::FlexBadRange);
         }
-        record_store(map, start, end);
+        map.own(Kind::FlexStore, start, end - start);
         self.extent = Some(Extent {
             start,
             end,
@@ -239,22 +239,4 @@ fn is_flex_range(map: &AddressMap, start: u32, end: u32) -> bool
         return false;
     }
     !map.meets_record(start, len)
-}
-
-/// Records the range of the store.
-fn record_store(map: &mut AddressMap, start: u32, end: u32)
-    requires state { IsFlexMap map.old None }
-    requires range { is_flex_range (store_of map.old) start end ≡ true }
-    requires few { length (store_of map.old).others < 68 }
-    ensures state { held_in map.new (record { start = start; end = end; used = 0 })
-        ≡ record {
-          bytes = bytes_of map.old;
-          flex = Some
-              (record { start = start; end = end; blocks = [] });
-        } }
-    ensures regions { regions map.new ≡ regions map.old ++ flex_record start end ∷ [] }
-    ensures kept { KeepsMarksAndHeaps map.old map.new
-        (Some (record { start = start; end = end; used = 0 })) }
-{
-    map.own(Kind::FlexStore, start, end - start);
 }
