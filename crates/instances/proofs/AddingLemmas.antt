@@ -14,7 +14,7 @@ use Rattle.instances_table.specs.plans.Header.{Header}
 use Rattle.rma.specs.lists.Lists.{total_for}
 use Rattle.dynamic_areas.proofs.RangeTests.{are_mapped_all, clear_of_heaps}
 use Rattle.dynamic_areas.specs.Ranges.{are_bytes_mapped}
-use Rattle.dynamic_areas.specs.Store.{Store, has_image, is_image}
+use Rattle.dynamic_areas.specs.Store.{Store, has_image, is_image, store_of}
 use Rattle.dynamic_areas.specs.Ground.{AreaStore, IsAreaStore}
 use Rattle.rma.specs.Copies.{has_bare, may_be_copied}
 use Rattle.rma.specs.flex_frame.Keeping.{is_in_record}
@@ -26,7 +26,13 @@ use Rattle.instances.specs.module_state.Sound.{AreSolid, IsModuleState, range_of
 use Rattle.instances.specs.module_state.ModuleState.{ModuleState}
 use Rattle.instances.proofs.ModuleStateLemmas.AreaLemmas.{stays_outside}
 use Rattle.instances.proofs.ModuleStateLemmas.ModuleStates.{module_state_more}
-use Rattle.instances.specs.Adding.{good_header}
+use Rattle.instances.specs.Adding.{AddsInBlock, AddsInPlace, good_header}
+use Rattle.instances.specs.module_state.Kept.{IsModuleMap}
+use Rattle.instances_table.specs.Modules.{Module}
+use Rattle.rma.proofs.FlexFrameLemmas.Keeping.{keeps_same}
+use Rattle.address_map.specs.declared.map.AddressMap.{AddressMap}
+use Rattle.dynamic_areas.specs.Areas.{AreaTable}
+use Rattle.profile.specs.declared.error.ErrorNumber.{ErrorNumber}
 
 -- where no record lies no image begins, since none is empty
 pub no_image : (at : ℕ) (rs : List Region) → AreSolid rs → is_in_record rs at ≡ false → has_image at rs ≡ false
@@ -69,6 +75,26 @@ module_state_in_place v w at len module_state modules may some store area_store 
     module_state_more v w (placed_at at len) [] module_state modules
     (ap (λ (s : Store). s.others) store ∙ ap (λ (q : Region). v.area_store.store.others ++ q ∷ []) (sym range_is))
     (omega (arith, len_is, some)) is.aligned area_store
+
+-- A call that is refused at once keeps all.
+pub adds_none_in_place : (m : AddressMap) (l : AreaTable) (modules : List Module) (e : ErrorNumber) → IsModuleMap m l modules → AddsInPlace m m l modules (Err e)
+adds_none_in_place m l modules e state = record {
+  sound = tt;
+  classes = state.classes;
+  mapping = refl;
+  order = refl;
+  flex = keeps_same (store_of m);
+}
+
+pub adds_none_in_block : (m : AddressMap) (l : AreaTable) (modules : List Module) (e : ErrorNumber) → IsModuleMap m l modules → AddsInBlock m m l l modules (Err e)
+adds_none_in_block m l modules e state = record {
+  sound = tt;
+  classes = state.classes;
+  order = refl;
+  places = λ a is. refl;
+  flex = keeps_same (store_of m);
+  sizes = refl;
+}
 
 -- an image with a good header isn't empty
 pub header_long : (image : List ℕ) (header : Header) → header_of image ≡ Ok header → 28 ≤ length image

@@ -1,5 +1,4 @@
 -- The area store after a record of an image went, and what calls keep that leave what is mapped.
-use Rattle.profile.specs.MemoryMap.{module_area_start}
 use Rattle.std.proofs.Common.{◌≡◌, ℕ, sym, ap, subst, ◌∙◌}
 use Rattle.std.specs.Prelude.{is_some}
 use Rattle.address_map.specs.declared.map.AddressMap.{AddressMap}
@@ -10,10 +9,9 @@ use Rattle.dynamic_areas.specs.Store.{IsSound, Store, store_of}
 use Rattle.dynamic_areas.specs.Areas.{AreaTable}
 use Rattle.dynamic_areas.specs.Ground.{IsRecorded, area_store_of, system_pages_range}
 use Rattle.rma.specs.Calls.{with_store}
-use Rattle.rma.specs.Images.{image_dropped, image_freed}
+use Rattle.rma.specs.Images.{image_dropped}
 use Rattle.instances.specs.module_state.Sound.{HasSystemPages}
 use Rattle.instances.proofs.ModuleStateLemmas.Images.{system_less}
-use Rattle.instances.proofs.ModuleStateLemmas.Removals.{given_back_others}
 
 pub pages_stay : (m n : AddressMap) → (store_of n).others ≡ (store_of m).others → mapping n ≡ mapping m → IsSound (store_of n) → HasSystemPages m
     → HasSystemPages n
@@ -34,10 +32,6 @@ pages_less m n at others same sound pages = record {
 pub others_dropped : (s t : Store) (at : ℕ) → t ≡ image_dropped s at → t.others ≡ without_region s.others kind.Image at
 unfolding image_dropped
 others_dropped s t at same = ap (λ (x : Store). x.others) same
-
-pub others_freed : (s t : Store) (at : ℕ) → t ≡ image_freed s at → t.others ≡ without_region s.others kind.Image at
-unfolding image_freed image_dropped
-others_freed s t at same = ap (λ (x : Store). x.others) same ∙ given_back_others (image_dropped s at) module_area_start at
 
 pub area_store_with : (m n : AddressMap) (l : AreaTable) (s : Store) → store_of n ≡ s → mapping n ≡ mapping m → area_store_of n l ≡ with_store (area_store_of m l) s
 area_store_with m n l s store same =

@@ -33,7 +33,7 @@ pub(crate) fn private_words(map: &AddressMap, slots: &[u32]) -> ArrayVec<u32, MO
 }
 
 /// Gives each private word of some slots that names a block that moved the address where it went.
-#[tactic(auto, using(crate::proofs::ModuleStateLemmas::Keeping::keeps_same))]
+#[tactic(auto, using(crate::proofs::ModuleStateLemmas::Keeping::nothing_written))]
 pub(crate) fn move_words(map: &mut AddressMap, slots: &[u32], moves: &[BlockMove])
     requires below { EachIndex slots.now (λ k. slice_index slots.now k < 64) }
     requires system { HasSystemPages map.old }

@@ -8,20 +8,27 @@ use Rattle.instances.proofs.instances.Instances.insert_copy_found.Goals as goal
 
 pub copy_image-requires-clause-room : goal.copy_image-requires-clause-room
 copy_image-requires-clause-room c =
-    few_records (module_state_of c.args.map.now c.args.areas.now c.args.self.now) [] c.requires.sound c.slot_for.ensures.few (omega arith)
+    few_records (module_state_of c.args.map.now c.args.areas.now c.args.self.now) [] c.requires.state.sound c.slot_for.ensures.few (omega arith)
 
 pub copy_image-requires-clause-source : goal.copy_image-requires-clause-source
 unfolding store_of
 copy_image-requires-clause-source c =
     copied_mapped (area_store_of c.args.map.now c.args.areas.now) c.args.at c.args.len c.requires.may
 
-pub returns-clause-sound : goal.returns-clause-sound
-returns-clause-sound c =
-    rw c.adding_plan.ensures.pending
-    (module_state_with_block (module_state_of c.args.map.now c.args.areas.now c.args.self.now) (module_state_of c.copy_image.new.map c.copy_image.new.areas c.args.self.now)
-    c.in_ok-copy.copy c.args.len c.requires.sound refl c.in_ok-copy.ensures.whole c.in_ok-copy.ensures.inside c.in_ok-copy.ensures.alone c.in_ok-copy.ensures.others c.copy_image.ensures.area_store)
+pub copy_image-requires-clause-state : goal.copy_image-requires-clause-state
+copy_image-requires-clause-state c = record { area_store = c.requires.state.sound.area_store; classes = c.requires.state.classes }
 
-pub returns-clause-order : goal.returns-clause-order
-returns-clause-order c =
-    rw c.adding_plan.ensures.value
-    (c.in_ok-copy.ensures.order (no_image c.in_ok-copy.copy (store_of c.args.map.now).others c.requires.sound.solid c.in_ok-copy.ensures.alone))
+pub returns-clause-kept : goal.returns-clause-kept
+returns-clause-kept c =
+    let kept = c.copy_image.ensures.kept in
+    record {
+      sound = rw c.adding_plan.ensures.pending
+          (module_state_with_block (module_state_of c.args.map.now c.args.areas.now c.args.self.now) (module_state_of c.copy_image.new.map c.copy_image.new.areas c.args.self.now)
+          c.in_ok-copy.copy c.args.len c.requires.state.sound refl c.in_ok-copy.ensures.whole c.in_ok-copy.ensures.inside c.in_ok-copy.ensures.alone c.in_ok-copy.ensures.others kept.area_store);
+      classes = kept.classes;
+      order = rw c.adding_plan.ensures.value
+          (c.in_ok-copy.ensures.order (no_image c.in_ok-copy.copy (store_of c.args.map.now).others c.requires.state.sound.solid c.in_ok-copy.ensures.alone));
+      places = kept.places;
+      flex = kept.flex;
+      sizes = kept.sizes;
+    }

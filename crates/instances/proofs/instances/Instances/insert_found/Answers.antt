@@ -9,19 +9,11 @@ use Rattle.instances.proofs.instances.Instances.insert_found.Goals as goal
 
 pub record_in_place-requires-clause-room : goal.record_in_place-requires-clause-room
 record_in_place-requires-clause-room c =
-    few_records (module_state_of c.args.map.now c.args.areas.now c.args.self.now) [] c.requires.sound c.slot_for.ensures.few (omega arith)
+    few_records (module_state_of c.args.map.now c.args.areas.now c.args.self.now) [] c.requires.state.sound c.slot_for.ensures.few (omega arith)
 
 pub record_in_place-requires-clause-some : goal.record_in_place-requires-clause-some
 record_in_place-requires-clause-some c =
     header_some (store_of c.args.map.now).bytes.at c.args.at c.args.len c.args.header c.requires.header
-
-pub returns-clause-sound : goal.returns-clause-sound
-returns-clause-sound c =
-    let some = header_some (store_of c.args.map.now).bytes.at c.args.at c.args.len c.args.header c.requires.header in
-    rw c.adding_plan.ensures.pending
-    (module_state_in_place (module_state_of c.args.map.now c.args.areas.now c.args.self.now) (module_state_of c.record_in_place.new.map c.args.areas.now c.args.self.now)
-    c.args.at c.args.len c.requires.sound refl c.requires.may some
-    (ap (λ (e : AreaStore). e.store) (c.record_in_place.ensures.placed c.args.areas.now)) (c.record_in_place.ensures.area_store c.args.areas.now c.requires.sound.area_store))
 
 pub returns-clause-module_state : goal.returns-clause-module_state
 unfolding inserting
@@ -29,5 +21,17 @@ returns-clause-module_state c =
     rw (c.requires.may, c.requires.header, sym c.in_ok-slot.ensures.value)
     ((λ i. record { area_store = c.record_in_place.ensures.placed c.args.areas.now i; modules = c.args.self.now }), c.adding_plan.ensures.value)
 
-pub returns-clause-order : goal.returns-clause-order
-returns-clause-order c = rw c.adding_plan.ensures.value c.record_in_place.ensures.order
+pub returns-clause-kept : goal.returns-clause-kept
+returns-clause-kept c =
+    let some = header_some (store_of c.args.map.now).bytes.at c.args.at c.args.len c.args.header c.requires.header in
+    let kept = c.record_in_place.ensures.kept in
+    record {
+      sound = rw c.adding_plan.ensures.pending
+          (module_state_in_place (module_state_of c.args.map.now c.args.areas.now c.args.self.now) (module_state_of c.record_in_place.new.map c.args.areas.now c.args.self.now)
+          c.args.at c.args.len c.requires.state.sound refl c.requires.may some
+          (ap (λ (e : AreaStore). e.store) (c.record_in_place.ensures.placed c.args.areas.now)) (kept.area_store c.args.areas.now c.requires.state.sound.area_store));
+      classes = kept.classes c.requires.state.classes;
+      mapping = kept.mapping;
+      order = rw c.adding_plan.ensures.value c.record_in_place.ensures.order;
+      flex = kept.flex;
+    }

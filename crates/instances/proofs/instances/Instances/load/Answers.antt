@@ -7,15 +7,22 @@ use Rattle.instances.proofs.instances.Instances.load.Goals as goal
 
 pub make_image-requires-clause-room : goal.make_image-requires-clause-room
 make_image-requires-clause-room c =
-    few_records (module_state_of c.args.map.now c.args.areas.now c.args.self.now) [] c.requires.sound c.slot_for.ensures.few (omega arith)
+    few_records (module_state_of c.args.map.now c.args.areas.now c.args.self.now) [] c.requires.state.sound c.slot_for.ensures.few (omega arith)
 
-pub returns-clause-sound : goal.returns-clause-sound
-returns-clause-sound c =
-    rw c.adding_plan.ensures.pending
-    (module_state_with_block (module_state_of c.args.map.now c.args.areas.now c.args.self.now) (module_state_of c.make_image.new.map c.make_image.new.areas c.args.self.now)
-    c.in_ok-at.at (length c.args.image.now) c.requires.sound refl c.in_ok-at.ensures.whole c.in_ok-at.ensures.inside c.in_ok-at.ensures.alone c.in_ok-at.ensures.others c.make_image.ensures.area_store)
+pub make_image-requires-clause-state : goal.make_image-requires-clause-state
+make_image-requires-clause-state c = record { area_store = c.requires.state.sound.area_store; classes = c.requires.state.classes }
 
-pub returns-clause-order : goal.returns-clause-order
-returns-clause-order c =
-    rw c.adding_plan.ensures.value
-    (c.in_ok-at.ensures.order (no_image c.in_ok-at.at (store_of c.args.map.now).others c.requires.sound.solid c.in_ok-at.ensures.alone))
+pub returns-clause-kept : goal.returns-clause-kept
+returns-clause-kept c =
+    let kept = c.make_image.ensures.kept in
+    record {
+      sound = rw c.adding_plan.ensures.pending
+          (module_state_with_block (module_state_of c.args.map.now c.args.areas.now c.args.self.now) (module_state_of c.make_image.new.map c.make_image.new.areas c.args.self.now)
+          c.in_ok-at.at (length c.args.image.now) c.requires.state.sound refl c.in_ok-at.ensures.whole c.in_ok-at.ensures.inside c.in_ok-at.ensures.alone c.in_ok-at.ensures.others kept.area_store);
+      classes = kept.classes;
+      order = rw c.adding_plan.ensures.value
+          (c.in_ok-at.ensures.order (no_image c.in_ok-at.at (store_of c.args.map.now).others c.requires.state.sound.solid c.in_ok-at.ensures.alone));
+      places = kept.places;
+      flex = kept.flex;
+      sizes = kept.sizes;
+    }
