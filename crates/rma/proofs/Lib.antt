@@ -8,6 +8,7 @@ mod AreaStores
 mod ExtendLemmas
 mod FlexLemmas
 mod GrowthLemmas
+mod KeptLemmas
 pub mod ImageLemmas
 pub mod InPlaceLemmas
 pub mod NewImageLemmas

@@ -219,7 +219,7 @@ may_slide_here s heap h movable sound sound' free found =
       };
     }
 
-slide_keeps : (s t : Store) (heap : ℕ) (movable : List ℕ) (moves : List BlockMove) → IsSound s → IsSound t → MaySlide s heap movable
+pub slide_keeps : (s t : Store) (heap : ℕ) (movable : List ℕ) (moves : List BlockMove) → IsSound s → IsSound t → MaySlide s heap movable
     → IsHeapSlid s heap movable t moves → KeepsFlex s t
 slide_keeps s t heap movable moves sound sound' may is_slid = of_heap (find_heap heap s.heaps) refl may is_slid where
   of_heap : (o : Option HeapList) → find_heap heap s.heaps ≡ o

@@ -1,4 +1,4 @@
-use Rattle.std.proofs.Common.{◌-◌, length, sym, ap, subst, arith}
+use Rattle.std.proofs.Common.{◌-◌, length, sym, ap, subst, arith, ℕ}
 use Rattle.os_heap_words.specs.lists.Lists.{total_for}
 use Rattle.dynamic_areas.proofs.Frame.{classes_same}
 use Rattle.dynamic_areas.specs.Store.{Store, store_of}
@@ -9,7 +9,28 @@ use Rattle.rma.proofs.FlexFrameLemmas.Writes.{unanchored_written}
 use Rattle.address_map.specs.Bytes.{with_bytes}
 use Rattle.rma.proofs.FlexLemmas.{filled_keeps}
 use Rattle.rma.proofs.NewImageLemmas.{IsFilled, is_filled, payload_mapped}
+use Rattle.address_map.specs.declared.map.AddressMap.{AddressMap}
 use Rattle.rma.proofs.new_images.fill.Goals as goal
+
+pub returns-clause-kept : goal.returns-clause-kept
+returns-clause-kept c =
+    let m : AddressMap = c.args.map.now in
+    let n : AddressMap = c.put_bytes.new.self in
+    let s : Store = store_of m in
+    let total : ℕ = total_for (length c.args.bytes.now) in
+    let is : IsFilled m n (store_with_image_bytes s c.args.block c.args.bytes.now) =
+    is_filled m n c.args.block total c.args.bytes.now c.put_bytes.ensures.layout
+    c.put_bytes.ensures.marks c.requires.sound c.requires.live c.requires.unheaped (omega arith) c.put_bytes.ensures.bytes in
+    record {
+      sound = is.kept.sound;
+      area_store = λ l areas. areas_written m n l areas is.kept.sound c.put_bytes.ensures.layout;
+      classes = λ classes. classes_same m n (ap (λ (t : Store). t.heaps) is.store) (λ a i. c.put_bytes.ensures.marks i a) classes;
+      layout = c.put_bytes.ensures.layout;
+      flex = subst (λ (t : Store). KeepsFlex s t) (sym is.store)
+          (filled_keeps s c.args.block total c.args.bytes.now c.requires.sound c.requires.live c.requires.unanchored (omega arith));
+      unanchored = subst (λ (t : Store). RangeHasNoAnchor t c.args.block (total - 4)) (sym is.store)
+          (unanchored_written s (with_bytes s.bytes c.args.block c.args.bytes.now) c.args.block (total - 4) c.requires.unanchored);
+    }
 
 pub put_bytes-requires : goal.put_bytes-requires
 unfolding store_of
@@ -20,37 +41,3 @@ pub returns-clause-store : goal.returns-clause-store
 returns-clause-store c =
     (is_filled c.args.map.now c.put_bytes.new.self c.args.block (total_for (length c.args.bytes.now)) c.args.bytes.now c.put_bytes.ensures.layout
     c.put_bytes.ensures.marks c.requires.sound c.requires.live c.requires.unheaped (omega arith) c.put_bytes.ensures.bytes).store
-
-pub returns-clause-sound : goal.returns-clause-sound
-returns-clause-sound c =
-    (is_filled c.args.map.now c.put_bytes.new.self c.args.block (total_for (length c.args.bytes.now)) c.args.bytes.now c.put_bytes.ensures.layout
-    c.put_bytes.ensures.marks c.requires.sound c.requires.live c.requires.unheaped (omega arith) c.put_bytes.ensures.bytes).kept.sound
-
-pub returns-clause-area_store : goal.returns-clause-area_store
-returns-clause-area_store c l areas =
-    areas_written c.args.map.now c.put_bytes.new.self l areas
-    (is_filled c.args.map.now c.put_bytes.new.self c.args.block (total_for (length c.args.bytes.now)) c.args.bytes.now c.put_bytes.ensures.layout
-    c.put_bytes.ensures.marks c.requires.sound c.requires.live c.requires.unheaped (omega arith) c.put_bytes.ensures.bytes).kept.sound c.put_bytes.ensures.layout
-
-pub returns-clause-classes : goal.returns-clause-classes
-returns-clause-classes c classes =
-    let is : IsFilled c.args.map.now c.put_bytes.new.self (store_with_image_bytes (store_of c.args.map.now) c.args.block c.args.bytes.now) =
-    is_filled c.args.map.now c.put_bytes.new.self c.args.block (total_for (length c.args.bytes.now)) c.args.bytes.now c.put_bytes.ensures.layout
-    c.put_bytes.ensures.marks c.requires.sound c.requires.live c.requires.unheaped (omega arith) c.put_bytes.ensures.bytes in
-    classes_same c.args.map.now c.put_bytes.new.self (ap (λ (s : Store). s.heaps) is.store) (λ a i. c.put_bytes.ensures.marks i a) classes
-
-pub returns-clause-flex : goal.returns-clause-flex
-returns-clause-flex c =
-    let store = (is_filled c.args.map.now c.put_bytes.new.self c.args.block (total_for (length c.args.bytes.now)) c.args.bytes.now c.put_bytes.ensures.layout
-    c.put_bytes.ensures.marks c.requires.sound c.requires.live c.requires.unheaped (omega arith) c.put_bytes.ensures.bytes).store in
-    subst (λ (t : Store). KeepsFlex (store_of c.args.map.now) t) (sym store)
-    (filled_keeps (store_of c.args.map.now) c.args.block (total_for (length c.args.bytes.now)) c.args.bytes.now c.requires.sound c.requires.live
-    c.requires.unanchored (omega arith))
-
-pub returns-clause-unanchored : goal.returns-clause-unanchored
-returns-clause-unanchored c =
-    let store = (is_filled c.args.map.now c.put_bytes.new.self c.args.block (total_for (length c.args.bytes.now)) c.args.bytes.now c.put_bytes.ensures.layout
-    c.put_bytes.ensures.marks c.requires.sound c.requires.live c.requires.unheaped (omega arith) c.put_bytes.ensures.bytes).store in
-    subst (λ (t : Store). RangeHasNoAnchor t c.args.block (total_for (length c.args.bytes.now) - 4)) (sym store)
-    (unanchored_written (store_of c.args.map.now) (with_bytes (store_of c.args.map.now).bytes c.args.block c.args.bytes.now) c.args.block
-    (total_for (length c.args.bytes.now) - 4) c.requires.unanchored)

@@ -4,28 +4,45 @@ use Rattle.profile.specs.Outcome.{Gives}
 use Rattle.os_heap_words.specs.lists.Lists.{total_for}
 use Rattle.dynamic_areas.specs.Calls.{store_after_get}
 use Rattle.dynamic_areas.specs.Store.{Store, store_of}
-use Rattle.dynamic_areas.proofs.Frame.{layout-others}
-use Rattle.dynamic_areas.proofs.Order.{order_laid}
 use Rattle.dynamic_areas.specs.Ground.{AreaStore, area_store_of}
 use Rattle.dynamic_areas.proofs.HeapCalls.{areas_written}
-use Rattle.rma.proofs.FlexFrameLemmas.Heaps.{got_keeps, got_unanchored}
-use Rattle.rma.proofs.FlexFrameLemmas.Keeping.{keeps_then}
+use Rattle.rma.proofs.FlexFrameLemmas.Heaps.{got_unanchored}
 use Rattle.rma.specs.Calls.{in_grown_area, is_no_room, rma_base, rma_claimed}
 use Rattle.rma.proofs.AreaStores.{area_store_same, full_where, or_done, or_refused, store_kept}
 use Rattle.rma.proofs.NewImageLemmas.{block_made, live_inside}
 use Rattle.address_map.proofs.Stores.{layout-mapping}
+use Rattle.rma.proofs.KeptLemmas.{records_got, records_then, sound_map}
 use Rattle.rma.proofs.area.Rma.claim.Goals as goal
+
+pub get-requires : goal.get-requires
+get-requires c = sound_map c.args.map.now c.args.areas.now c.requires.state
+
+pub returns-in-Ok-clause-kept : goal.returns-in-Ok-clause-kept
+returns-in-Ok-clause-kept c =
+    records_got c.args.map.now c.get.new.map c.args.areas.now c.args.size c.get.result.answer c.requires.state c.get.ensures.kept c.get.ensures.store
+
+pub claim_grown-requires : goal.claim_grown-requires
+claim_grown-requires c = record {
+  area_store = areas_written c.args.map.now c.get.new.map c.args.areas.now c.requires.state.area_store c.get.ensures.kept.sound c.get.ensures.kept.layout;
+  classes = c.get.ensures.kept.classes;
+}
+
+pub returns-in-Err-clause-kept : goal.returns-in-Err-clause-kept
+returns-in-Err-clause-kept c =
+    records_then c.args.map.now c.get.new.map c.claim_grown.new.map c.args.areas.now c.args.areas.now c.claim_grown.new.areas
+    (records_got c.args.map.now c.get.new.map c.args.areas.now c.args.size c.get.result.answer c.requires.state c.get.ensures.kept c.get.ensures.store)
+    c.claim_grown.ensures.kept
+
+pub returns-in-Err-2-clause-kept : goal.returns-in-Err-2-clause-kept
+returns-in-Err-2-clause-kept c =
+    records_got c.args.map.now c.get.new.map c.args.areas.now c.args.size c.get.result.answer c.requires.state c.get.ensures.kept c.get.ensures.store
 
 pub returns-in-Ok-clause-claimed : goal.returns-in-Ok-clause-claimed
 unfolding rma_claimed
 returns-in-Ok-clause-claimed c =
     let s : Store = store_of c.args.map.now in
     or_done c.args.map.now c.get.new.map c.args.areas.now (rma_base s + total_for c.args.size) (λ t. store_after_get t module_area_start c.args.size)
-    (store_after_get s module_area_start c.args.size) c.in-Ok.block (layout-mapping c.args.map.now c.get.new.map c.get.ensures.layout) (let given = rw c.in-Ok.is at c.get.ensures.store in given)
-
-pub returns-in-Ok-clause-area_store : goal.returns-in-Ok-clause-area_store
-returns-in-Ok-clause-area_store c =
-    areas_written c.args.map.now c.get.new.map c.args.areas.now c.requires.area_store c.get.ensures.sound c.get.ensures.layout
+    (store_after_get s module_area_start c.args.size) c.in-Ok.block (layout-mapping c.args.map.now c.get.new.map c.get.ensures.kept.layout) (let given = rw c.in-Ok.is at c.get.ensures.store in given)
 
 pub returns-in-Err-clause-claimed : goal.returns-in-Err-clause-claimed
 unfolding rma_claimed
@@ -35,7 +52,7 @@ returns-in-Err-clause-claimed c =
     let full = full_where s (store_of c.get.new.map) (store_after_get s module_area_start c.args.size) c.in-Err.error (sym c.is_no_room.ensures ∙ c.if-is_no_room.true) given in
     let kept : store_of c.get.new.map ≡ s = store_kept s (store_of c.get.new.map) (store_after_get s module_area_start c.args.size) c.in-Err.error given in
     let same : area_store_of c.get.new.map c.args.areas.now ≡ area_store_of c.args.map.now c.args.areas.now =
-    area_store_same c.args.map.now c.get.new.map c.args.areas.now s (layout-mapping c.args.map.now c.get.new.map c.get.ensures.layout) kept in
+    area_store_same c.args.map.now c.get.new.map c.args.areas.now s (layout-mapping c.args.map.now c.get.new.map c.get.ensures.kept.layout) kept in
     rw full (subst (λ (x : AreaStore). Gives x (in_grown_area x (rma_base x.store + total_for c.args.size) (λ t. store_after_get t module_area_start c.args.size))
     c.claim_grown.result (area_store_of c.claim_grown.new.map c.claim_grown.new.areas)) same c.claim_grown.ensures.claimed)
 
@@ -47,61 +64,29 @@ returns-in-Err-2-clause-claimed c =
     let same : c.in-Err.error ≡ c.in-Err-2.error = cc in
     rw c.rma_error.ensures
     (or_refused c.args.map.now c.get.new.map c.args.areas.now (rma_base s + total_for c.args.size) (λ t. store_after_get t module_area_start c.args.size)
-    (store_after_get s module_area_start c.args.size) c.in-Err-2.error (layout-mapping c.args.map.now c.get.new.map c.get.ensures.layout) (ap is_no_room (sym same) ∙ sym c.is_no_room.ensures ∙ c.if-is_no_room.false)
+    (store_after_get s module_area_start c.args.size) c.in-Err-2.error (layout-mapping c.args.map.now c.get.new.map c.get.ensures.kept.layout) (ap is_no_room (sym same) ∙ sym c.is_no_room.ensures ∙ c.if-is_no_room.false)
     (let given = rw c.in-Err-2.is at c.get.ensures.store in given))
-
-pub returns-in-Ok-clause-others : goal.returns-in-Ok-clause-others
-returns-in-Ok-clause-others c = layout-others c.args.map.now c.get.new.map c.get.ensures.layout
-
-pub returns-in-Err-clause-others : goal.returns-in-Err-clause-others
-returns-in-Err-clause-others c = c.claim_grown.ensures.others ∙ layout-others c.args.map.now c.get.new.map c.get.ensures.layout
-
-pub returns-in-Err-2-clause-others : goal.returns-in-Err-2-clause-others
-returns-in-Err-2-clause-others c = layout-others c.args.map.now c.get.new.map c.get.ensures.layout
 
 pub returns-in-Ok-clause-live : goal.returns-in-Ok-clause-live
 returns-in-Ok-clause-live c =
-    (block_made (store_of c.args.map.now) (store_of c.get.new.map) c.args.size c.in-Ok.block c.get.result.answer c.requires.area_store.ground.sound c.in-Ok.is
+    (block_made (store_of c.args.map.now) (store_of c.get.new.map) c.args.size c.in-Ok.block c.get.result.answer c.requires.state.area_store.ground.sound c.in-Ok.is
     c.get.ensures.store).live
 
 pub returns-in-Ok-clause-unheaped : goal.returns-in-Ok-clause-unheaped
 returns-in-Ok-clause-unheaped c =
-    (block_made (store_of c.args.map.now) (store_of c.get.new.map) c.args.size c.in-Ok.block c.get.result.answer c.requires.area_store.ground.sound c.in-Ok.is
+    (block_made (store_of c.args.map.now) (store_of c.get.new.map) c.args.size c.in-Ok.block c.get.result.answer c.requires.state.area_store.ground.sound c.in-Ok.is
     c.get.ensures.store).unheaped
 
 pub returns-in-Ok-clause-alone : goal.returns-in-Ok-clause-alone
 returns-in-Ok-clause-alone c =
-    (block_made (store_of c.args.map.now) (store_of c.get.new.map) c.args.size c.in-Ok.block c.get.result.answer c.requires.area_store.ground.sound c.in-Ok.is
+    (block_made (store_of c.args.map.now) (store_of c.get.new.map) c.args.size c.in-Ok.block c.get.result.answer c.requires.state.area_store.ground.sound c.in-Ok.is
     c.get.ensures.store).alone
-
-pub returns-in-Ok-clause-flex : goal.returns-in-Ok-clause-flex
-returns-in-Ok-clause-flex c =
-    got_keeps (store_of c.args.map.now) (store_of c.get.new.map) module_area_start c.args.size c.get.result.answer c.requires.area_store.ground.sound c.get.ensures.sound c.get.ensures.store
-
-pub returns-in-Err-clause-flex : goal.returns-in-Err-clause-flex
-returns-in-Err-clause-flex c =
-    keeps_then (store_of c.args.map.now) (store_of c.get.new.map) (store_of c.claim_grown.new.map)
-    (got_keeps (store_of c.args.map.now) (store_of c.get.new.map) module_area_start c.args.size c.get.result.answer c.requires.area_store.ground.sound
-    c.get.ensures.sound c.get.ensures.store) c.claim_grown.ensures.flex
-
-pub returns-in-Err-2-clause-flex : goal.returns-in-Err-2-clause-flex
-returns-in-Err-2-clause-flex c =
-    got_keeps (store_of c.args.map.now) (store_of c.get.new.map) module_area_start c.args.size c.get.result.answer c.requires.area_store.ground.sound c.get.ensures.sound c.get.ensures.store
 
 pub returns-in-Ok-clause-unanchored : goal.returns-in-Ok-clause-unanchored
 returns-in-Ok-clause-unanchored c =
     let given = rw c.in-Ok.is at c.get.ensures.store in
-    got_unanchored (store_of c.args.map.now) (store_of c.get.new.map) module_area_start c.args.size (Ok c.in-Ok.block) c.requires.area_store.ground.sound given
-
-pub returns-in-Ok-clause-order : goal.returns-in-Ok-clause-order
-returns-in-Ok-clause-order c = order_laid c.args.map.now c.get.new.map c.get.ensures.layout
-
-pub returns-in-Err-clause-order : goal.returns-in-Err-clause-order
-returns-in-Err-clause-order c = c.claim_grown.ensures.order ∙ order_laid c.args.map.now c.get.new.map c.get.ensures.layout
-
-pub returns-in-Err-2-clause-order : goal.returns-in-Err-2-clause-order
-returns-in-Err-2-clause-order c = order_laid c.args.map.now c.get.new.map c.get.ensures.layout
+    got_unanchored (store_of c.args.map.now) (store_of c.get.new.map) module_area_start c.args.size (Ok c.in-Ok.block) c.requires.state.area_store.ground.sound given
 
 pub returns-in-Ok-clause-inside : goal.returns-in-Ok-clause-inside
 returns-in-Ok-clause-inside c =
-    live_inside (area_store_of c.get.new.map c.args.areas.now) c.in-Ok.block (total_for c.args.size) (returns-in-Ok-clause-area_store c) (returns-in-Ok-clause-live c)
+    live_inside (area_store_of c.get.new.map c.args.areas.now) c.in-Ok.block (total_for c.args.size) (returns-in-Ok-clause-kept c).area_store (returns-in-Ok-clause-live c)

@@ -1,38 +1,44 @@
-use Rattle.std.proofs.Common.{ap, ◌∙◌}
+use Rattle.std.proofs.Common.{ap, ◌∙◌, ◌-◌}
 use Rattle.os_heap_words.specs.lists.Lists.{total_for}
 use Rattle.dynamic_areas.specs.Store.{Store, store_of}
 use Rattle.dynamic_areas.specs.Ground.{area_store_of}
 use Rattle.rma.proofs.FlexLemmas.{made_keeps, sized_unheaped}
 use Rattle.rma.proofs.ImageLemmas.{area_kind}
 use Rattle.rma.proofs.NewImageLemmas.{live_whole, made_order, made_others}
+use Rattle.rma.proofs.KeptLemmas.{areas_made, areas_same}
 use Rattle.rma.proofs.area.Rma.copy_image.Goals as goal
+
+pub returns-clause-kept : goal.returns-clause-kept
+returns-clause-kept c =
+    areas_made c.args.map.now c.claim.new.map c.fill_from.new.map c.record_image.new.map c.args.areas.now c.claim.new.areas c.in_ok-block.block
+    (total_for c.args.len - 4) c.claim.ensures.kept c.fill_from.ensures.kept c.record_image.ensures.kept
+    (made_keeps (store_of c.args.map.now) (store_of c.claim.new.map) (store_of c.fill_from.new.map) (store_of c.record_image.new.map) c.in_ok-block.block
+    (total_for c.args.len) c.in_ok-block.ensures.live (ap (λ (s : Store). s.heaps) c.fill_from.ensures.store) c.fill_from.ensures.kept.unanchored
+    c.claim.ensures.kept.flex c.fill_from.ensures.kept.flex c.record_image.ensures.flex)
+
+pub returns-in_err-block-clause-kept : goal.returns-in_err-block-clause-kept
+returns-in_err-block-clause-kept c = areas_same c.args.map.now c.claim.new.map c.args.areas.now c.claim.new.areas c.claim.ensures.kept
 
 pub returns-clause-others : goal.returns-clause-others
 returns-clause-others c =
     made_others (store_of c.args.map.now) (store_of c.claim.new.map) (store_of c.fill_from.new.map) (store_of c.record_image.new.map) c.in_ok-block.block
-    (total_for c.args.len) c.in_ok-block.ensures.live c.claim.ensures.others (ap (λ (s : Store). s.heaps) c.fill_from.ensures.store)
+    (total_for c.args.len) c.in_ok-block.ensures.live c.claim.ensures.kept.others (ap (λ (s : Store). s.heaps) c.fill_from.ensures.store)
     (ap (λ (s : Store). s.others) c.fill_from.ensures.store) c.record_image.ensures.store
-
-pub returns-clause-flex : goal.returns-clause-flex
-returns-clause-flex c =
-    made_keeps (store_of c.args.map.now) (store_of c.claim.new.map) (store_of c.fill_from.new.map) (store_of c.record_image.new.map) c.in_ok-block.block
-    (total_for c.args.len) c.in_ok-block.ensures.live (ap (λ (s : Store). s.heaps) c.fill_from.ensures.store) c.fill_from.ensures.unanchored
-    c.claim.ensures.flex c.fill_from.ensures.flex c.record_image.ensures.flex
 
 pub returns-clause-whole : goal.returns-clause-whole
 returns-clause-whole c =
-    live_whole (store_of c.claim.new.map) c.in_ok-block.block (total_for c.args.len) c.claim.ensures.area_store.ground.sound c.in_ok-block.ensures.live
+    live_whole (store_of c.claim.new.map) c.in_ok-block.block (total_for c.args.len) c.claim.ensures.kept.area_store.ground.sound c.in_ok-block.ensures.live
 
 pub returns-clause-order : goal.returns-clause-order
 returns-clause-order c =
     made_order c.args.map.now c.claim.new.map c.fill_from.new.map c.record_image.new.map c.in_ok-block.block
-    (total_for c.args.len) c.in_ok-block.ensures.live c.claim.ensures.others (ap (λ (s : Store). s.heaps) c.fill_from.ensures.store)
-    (ap (λ (s : Store). s.others) c.fill_from.ensures.store) c.claim.ensures.order c.fill_from.ensures.layout c.record_image.ensures.order
+    (total_for c.args.len) c.in_ok-block.ensures.live c.claim.ensures.kept.others (ap (λ (s : Store). s.heaps) c.fill_from.ensures.store)
+    (ap (λ (s : Store). s.others) c.fill_from.ensures.store) c.claim.ensures.kept.order c.fill_from.ensures.kept.layout c.record_image.ensures.order
 
 pub record_image-requires-clause-may : goal.record_image-requires-clause-may
 record_image-requires-clause-may c = record {
-  area = area_kind (area_store_of c.fill_from.new.map c.claim.new.areas) (c.fill_from.ensures.area_store c.claim.new.areas c.claim.ensures.area_store);
-  room = rw (ap (λ (s : Store). s.others) c.fill_from.ensures.store ∙ c.claim.ensures.others) c.requires.room;
+  area = area_kind (area_store_of c.fill_from.new.map c.claim.new.areas) (c.fill_from.ensures.kept.area_store c.claim.new.areas c.claim.ensures.kept.area_store);
+  room = rw (ap (λ (s : Store). s.others) c.fill_from.ensures.store ∙ c.claim.ensures.kept.others) c.requires.room;
   empty = sized_unheaped (store_of c.claim.new.map) (store_of c.fill_from.new.map) c.in_ok-block.block (total_for c.args.len) c.in_ok-block.ensures.live
       (ap (λ (s : Store). s.heaps) c.fill_from.ensures.store) c.in_ok-block.ensures.unheaped;
 }

@@ -7,36 +7,26 @@ use Rattle.rma.specs.flex_frame.Keeping.{KeepsFlex}
 use Rattle.rma.proofs.FlexFrameLemmas.Writes.{dropped_keeps}
 use Rattle.rma.specs.Images.{image_dropped}
 use Rattle.rma.proofs.ImageLemmas.{areas_less, same_pool, sound_less, store_less}
+use Rattle.address_map.specs.declared.map.AddressMap.{AddressMap}
 use Rattle.rma.proofs.area.Rma.drop_image.Goals as goal
+
+pub returns-clause-kept : goal.returns-clause-kept
+returns-clause-kept c =
+    let m : AddressMap = c.args.map.now in
+    let n : AddressMap = c.disown.new.self in
+    let s : Store = store_of m in
+    let store = store_less m n c.args.at c.disown.ensures.regions (same_bytes_of m n c.disown.ensures.mapping c.disown.ensures.bytes) c.disown.ensures.marks in
+    let pool = same_pool m n c.disown.ensures.mapping in
+    record {
+      sound = subst IsSound (sym store) (sound_less s c.args.at c.requires);
+      area_store = λ l areas. rw (store, pool) (areas_less s (free_pages m) l c.args.at areas);
+      classes = λ classes. classes_same m n (ap (λ (t : Store). t.heaps) store) c.disown.ensures.marks classes;
+      mapping = c.disown.ensures.mapping;
+      flex = subst (λ (t : Store). KeepsFlex s t) (sym store) (dropped_keeps s c.args.at);
+    }
 
 pub returns-clause-store : goal.returns-clause-store
 unfolding image_dropped
 returns-clause-store c =
     store_less c.args.map.now c.disown.new.self c.args.at c.disown.ensures.regions
     (same_bytes_of c.args.map.now c.disown.new.self c.disown.ensures.mapping c.disown.ensures.bytes) c.disown.ensures.marks
-
-pub returns-clause-sound : goal.returns-clause-sound
-returns-clause-sound c =
-    let store = store_less c.args.map.now c.disown.new.self c.args.at c.disown.ensures.regions
-    (same_bytes_of c.args.map.now c.disown.new.self c.disown.ensures.mapping c.disown.ensures.bytes) c.disown.ensures.marks in
-    subst IsSound (sym store) (sound_less (store_of c.args.map.now) c.args.at c.requires)
-
-pub returns-clause-area_store : goal.returns-clause-area_store
-returns-clause-area_store c l areas =
-    let store = store_less c.args.map.now c.disown.new.self c.args.at c.disown.ensures.regions
-    (same_bytes_of c.args.map.now c.disown.new.self c.disown.ensures.mapping c.disown.ensures.bytes) c.disown.ensures.marks in
-    let pool = same_pool c.args.map.now c.disown.new.self c.disown.ensures.mapping in
-    rw (store, pool) (areas_less (store_of c.args.map.now) (free_pages c.args.map.now) l c.args.at areas)
-
-pub returns-clause-classes : goal.returns-clause-classes
-returns-clause-classes c classes =
-    let store = store_less c.args.map.now c.disown.new.self c.args.at c.disown.ensures.regions
-    (same_bytes_of c.args.map.now c.disown.new.self c.disown.ensures.mapping c.disown.ensures.bytes) c.disown.ensures.marks in
-    classes_same c.args.map.now c.disown.new.self (ap (λ (t : Store). t.heaps) store) c.disown.ensures.marks classes
-
-pub returns-clause-flex : goal.returns-clause-flex
-returns-clause-flex c =
-    let s : Store = store_of c.args.map.now in
-    let store = store_less c.args.map.now c.disown.new.self c.args.at c.disown.ensures.regions
-    (same_bytes_of c.args.map.now c.disown.new.self c.disown.ensures.mapping c.disown.ensures.bytes) c.disown.ensures.marks in
-    subst (λ (t : Store). KeepsFlex s t) (sym store) (dropped_keeps s c.args.at)

@@ -16,7 +16,28 @@ use Rattle.rma.proofs.FlexFrameLemmas.Writes.{recorded_keeps}
 use Rattle.rma.specs.Images.{image_recorded}
 use Rattle.rma.proofs.ExtendLemmas.{lies_below}
 use Rattle.rma.proofs.ImageLemmas.{areas_recorded, is_recorded, same_pool}
+use Rattle.address_map.specs.declared.map.AddressMap.{AddressMap}
 use Rattle.rma.proofs.area.Rma.record_image.Goals as goal
+
+pub returns-in-Ok-clause-kept : goal.returns-in-Ok-clause-kept
+returns-in-Ok-clause-kept c =
+    let m : AddressMap = c.args.map.now in
+    let n : AddressMap = c.own.new.self in
+    let s : Store = store_of m in
+    let sized : block_sized s module_area_start c.args.at ≡ Ok c.in-Ok.len = sym c.block_size.ensures.answer ∙ c.in-Ok.is in
+    let r : Region = record { kind = kind.Image; at = c.args.at; len = c.in-Ok.len } in
+    let store = store_recorded m n r refl c.own.ensures.regions (same_bytes_of m n c.own.ensures.mapping c.own.ensures.bytes) c.own.ensures.marks in
+    let pool = same_pool m n c.own.ensures.mapping in
+    let recorded = is_recorded s c.args.at c.in-Ok.len c.requires.sound c.requires.may sized in
+    record {
+      sound = subst IsSound (sym store) recorded.sound;
+      area_store = λ l areas. rw (store, pool) (areas_recorded s (free_pages m) l r areas recorded);
+      classes = λ classes. classes_same m n (ap (λ (t : Store). t.heaps) store) c.own.ensures.marks classes;
+      mapping = c.own.ensures.mapping;
+    }
+
+pub returns-in-Err-clause-kept : goal.returns-in-Err-clause-kept
+returns-in-Err-clause-kept c = record { sound = c.requires.sound; area_store = λ l areas. areas; classes = λ classes. classes; mapping = refl }
 
 pub own-requires-clause-region : goal.own-requires-clause-region
 own-requires-clause-region c =
@@ -37,32 +58,6 @@ returns-in-Ok-clause-store c =
     let r : Region = record { kind = kind.Image; at = c.args.at; len = c.in-Ok.len } in
     rw sized (store_recorded c.args.map.now c.own.new.self r refl c.own.ensures.regions
     (same_bytes_of c.args.map.now c.own.new.self c.own.ensures.mapping c.own.ensures.bytes) c.own.ensures.marks)
-
-pub returns-in-Ok-clause-sound : goal.returns-in-Ok-clause-sound
-returns-in-Ok-clause-sound c =
-    let s : Store = store_of c.args.map.now in
-    let sized : block_sized s module_area_start c.args.at ≡ Ok c.in-Ok.len = sym c.block_size.ensures.answer ∙ c.in-Ok.is in
-    let r : Region = record { kind = kind.Image; at = c.args.at; len = c.in-Ok.len } in
-    let store = store_recorded c.args.map.now c.own.new.self r refl c.own.ensures.regions
-    (same_bytes_of c.args.map.now c.own.new.self c.own.ensures.mapping c.own.ensures.bytes) c.own.ensures.marks in
-    subst IsSound (sym store) (is_recorded s c.args.at c.in-Ok.len c.requires.sound c.requires.may sized).sound
-
-pub returns-in-Ok-clause-area_store : goal.returns-in-Ok-clause-area_store
-returns-in-Ok-clause-area_store c l areas =
-    let s : Store = store_of c.args.map.now in
-    let sized : block_sized s module_area_start c.args.at ≡ Ok c.in-Ok.len = sym c.block_size.ensures.answer ∙ c.in-Ok.is in
-    let r : Region = record { kind = kind.Image; at = c.args.at; len = c.in-Ok.len } in
-    let store = store_recorded c.args.map.now c.own.new.self r refl c.own.ensures.regions
-    (same_bytes_of c.args.map.now c.own.new.self c.own.ensures.mapping c.own.ensures.bytes) c.own.ensures.marks in
-    let pool = same_pool c.args.map.now c.own.new.self c.own.ensures.mapping in
-    rw (store, pool) (areas_recorded s (free_pages c.args.map.now) l r areas (is_recorded s c.args.at c.in-Ok.len c.requires.sound c.requires.may sized))
-
-pub returns-in-Ok-clause-classes : goal.returns-in-Ok-clause-classes
-returns-in-Ok-clause-classes c classes =
-    let r : Region = record { kind = kind.Image; at = c.args.at; len = c.in-Ok.len } in
-    let store = store_recorded c.args.map.now c.own.new.self r refl c.own.ensures.regions
-    (same_bytes_of c.args.map.now c.own.new.self c.own.ensures.mapping c.own.ensures.bytes) c.own.ensures.marks in
-    classes_same c.args.map.now c.own.new.self (ap (λ (t : Store). t.heaps) store) c.own.ensures.marks classes
 
 pub returns-in-Err-clause-store : goal.returns-in-Err-clause-store
 unfolding image_recorded

@@ -26,7 +26,7 @@ pub loop-cursor-preserved-then-cursor : goal.loop-cursor-preserved-then-cursor
 loop-cursor-preserved-then-cursor c =
     let here = at_free _ _ _ _ _ _ _ _ _ _ c.loop-cursor.invariant c.requires.heap (omega (arith, c.loop-cursor-test.true, c.word.ensures)) c.if-cursor.true in
     free_went _ _ _ _ _ _ _ _ _ _ _ _ _ _ _ c.loop-cursor.invariant here c.pass_free-cursor.ensures.from c.pass_free-cursor.ensures.top c.pass_free-cursor.ensures.at
-    c.pass_free-cursor.ensures.free c.pass_free-cursor.ensures.bytes c.pass_free-cursor.ensures.layout c.pass_free-cursor.ensures.marks
+    c.pass_free-cursor.ensures.free c.pass_free-cursor.ensures.kept.bytes c.pass_free-cursor.ensures.kept.layout c.pass_free-cursor.ensures.marks
 
 pub word-total-requires-clause-aligned : goal.word-total-requires-clause-aligned
 word-total-requires-clause-aligned c =
