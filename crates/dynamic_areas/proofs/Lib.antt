@@ -26,6 +26,7 @@ pub mod ClassLemmas
 pub mod GroundLemmas
 pub mod HeapBase
 pub mod HeapCalls
+pub mod KeptLemmas
 pub mod AreaTableLemmas
 pub mod LooseLemmas
 pub mod Loosened

@@ -9,7 +9,7 @@ unfolding change_answer
 extend-requires-clause-room c a found =
     let grows : is_growth c.args.amount ≡ true = sym c.is_growth.ensures ∙ c.if-is_growth.true in
     let answer = rw (found, grows) at c.measure-answer.ensures in
-    omega (arith, ap (λ (x : Changed). x.bytes) answer, (found_room c.args.number c.args.self.now.areas a c.requires.areas.ground.table.rooms found).within)
+    omega (arith, ap (λ (x : Changed). x.bytes) answer, (found_room c.args.number c.args.self.now.areas a c.requires.state.area_store.ground.table.rooms found).within)
 
 pub extend-requires-clause-pool : goal.extend-requires-clause-pool
 unfolding change_answer

@@ -12,21 +12,24 @@ use Rattle.dynamic_areas.proofs.areas.Areas.create.Goals as goal
 pub put_area-requires : goal.put_area-requires
 put_area-requires c =
     let e = rw c.free_pages.ensures at c.in_ok-area.ensures in
-    (wanted_area c.args.self.now (free_pages c.args.map.now) c.args.wanted.now c.args.name.now c.in_ok-area.area c.requires.areas.ground.table.rooms (sym e)).few
+    (wanted_area c.args.self.now (free_pages c.args.map.now) c.args.wanted.now c.args.name.now c.in_ok-area.area c.requires.state.area_store.ground.table.rooms (sym e)).few
 
-pub grow-requires-clause-ground : goal.grow-requires-clause-ground
-grow-requires-clause-ground c =
+pub grow-requires-clause-state : goal.grow-requires-clause-state
+grow-requires-clause-state c =
     let e = rw c.free_pages.ensures at c.in_ok-area.ensures in
     let w : IsWanted c.args.self.now (free_pages c.args.map.now) c.args.wanted.now c.in_ok-area.area =
-    wanted_area c.args.self.now (free_pages c.args.map.now) c.args.wanted.now c.args.name.now c.in_ok-area.area c.requires.areas.ground.table.rooms (sym e) in
-    rw c.put_area.ensures (ground_put (store_of c.args.map.now) (free_pages c.args.map.now) c.args.self.now (area_with_pages 0 c.in_ok-area.area)
-    c.requires.areas.ground w.room refl w.other w.new w.clear)
+    wanted_area c.args.self.now (free_pages c.args.map.now) c.args.wanted.now c.args.name.now c.in_ok-area.area c.requires.state.area_store.ground.table.rooms (sym e) in
+    record {
+      ground = rw c.put_area.ensures (ground_put (store_of c.args.map.now) (free_pages c.args.map.now) c.args.self.now (area_with_pages 0 c.in_ok-area.area)
+          c.requires.state.area_store.ground w.room refl w.other w.new w.clear);
+      classes = c.requires.state.classes;
+    }
 
 pub grow-requires-clause-room : goal.grow-requires-clause-room
 grow-requires-clause-room c b found =
     let e = rw c.free_pages.ensures at c.in_ok-area.ensures in
     let w : IsWanted c.args.self.now (free_pages c.args.map.now) c.args.wanted.now c.in_ok-area.area =
-    wanted_area c.args.self.now (free_pages c.args.map.now) c.args.wanted.now c.args.name.now c.in_ok-area.area c.requires.areas.ground.table.rooms (sym e) in
+    wanted_area c.args.self.now (free_pages c.args.map.now) c.args.wanted.now c.args.name.now c.in_ok-area.area c.requires.state.area_store.ground.table.rooms (sym e) in
     let found' = rw c.put_area.ensures at found in
     let both : Some (area_with_pages 0 c.in_ok-area.area) ≡ Some b = sym (find_with (area_with_pages 0 c.in_ok-area.area) c.args.self.now.areas w.new) ∙ found' in
     let same : area_with_pages 0 c.in_ok-area.area ≡ b = cc in
@@ -35,14 +38,14 @@ grow-requires-clause-room c b found =
 pub grow-requires-clause-pool : goal.grow-requires-clause-pool
 grow-requires-clause-pool c =
     let e = rw c.free_pages.ensures at c.in_ok-area.ensures in
-    (wanted_area c.args.self.now (free_pages c.args.map.now) c.args.wanted.now c.args.name.now c.in_ok-area.area c.requires.areas.ground.table.rooms (sym e)).pool
+    (wanted_area c.args.self.now (free_pages c.args.map.now) c.args.wanted.now c.args.name.now c.in_ok-area.area c.requires.state.area_store.ground.table.rooms (sym e)).pool
 
 pub returns-clause-store : goal.returns-clause-store
 returns-clause-store c =
     let e = rw c.free_pages.ensures at c.in_ok-area.ensures in
     let a = c.in_ok-area.area in
     let w : IsWanted c.args.self.now (free_pages c.args.map.now) c.args.wanted.now a =
-    wanted_area c.args.self.now (free_pages c.args.map.now) c.args.wanted.now c.args.name.now a c.requires.areas.ground.table.rooms (sym e) in
+    wanted_area c.args.self.now (free_pages c.args.map.now) c.args.wanted.now c.args.name.now a c.requires.state.area_store.ground.table.rooms (sym e) in
     let find : find_area a.number (with_area (area_with_pages 0 a) c.args.self.now.areas) ≡ Some (area_with_pages 0 a) = find_with (area_with_pages 0 a) c.args.self.now.areas w.new in
     let base : a.base + 4096 * 0 ≡ a.base = omega arith in
     let store = rw (c.put_area.ensures, find, base, w.pages) at c.grow.ensures.store in
@@ -54,7 +57,7 @@ returns-clause-area_table c =
     let e = rw c.free_pages.ensures at c.in_ok-area.ensures in
     let a = c.in_ok-area.area in
     let w : IsWanted c.args.self.now (free_pages c.args.map.now) c.args.wanted.now a =
-    wanted_area c.args.self.now (free_pages c.args.map.now) c.args.wanted.now c.args.name.now a c.requires.areas.ground.table.rooms (sym e) in
+    wanted_area c.args.self.now (free_pages c.args.map.now) c.args.wanted.now c.args.name.now a c.requires.state.area_store.ground.table.rooms (sym e) in
     let find : find_area a.number (with_area (area_with_pages 0 a) c.args.self.now.areas) ≡ Some (area_with_pages 0 a) = find_with (area_with_pages 0 a) c.args.self.now.areas w.new in
     let area_table = rw (c.put_area.ensures, find) at c.grow.ensures.area_table in
     rw (← e) (
@@ -63,12 +66,12 @@ returns-clause-area_table c =
       refl,
     )
 
-pub returns-clause-areas : goal.returns-clause-areas
-returns-clause-areas c =
+pub returns-clause-kept : goal.returns-clause-kept
+returns-clause-kept c =
     let e = rw c.free_pages.ensures at c.in_ok-area.ensures in
     let a = c.in_ok-area.area in
     let w : IsWanted c.args.self.now (free_pages c.args.map.now) c.args.wanted.now a =
-    wanted_area c.args.self.now (free_pages c.args.map.now) c.args.wanted.now c.args.name.now a c.requires.areas.ground.table.rooms (sym e) in
+    wanted_area c.args.self.now (free_pages c.args.map.now) c.args.wanted.now c.args.name.now a c.requires.state.area_store.ground.table.rooms (sym e) in
     let find : find_area a.number (with_area (area_with_pages 0 a) c.args.self.now.areas) ≡ Some (area_with_pages 0 a) = find_with (area_with_pages 0 a) c.args.self.now.areas w.new in
     let area_table = rw (c.put_area.ensures, find) at c.grow.ensures.area_table in
     let after : c.grow.new.self ≡ with_areas c.args.self.now (with_area a c.args.self.now.areas) =
@@ -76,8 +79,14 @@ returns-clause-areas c =
     ∙ ap (λ (n : ℕ). with_area (area_with_pages n a) c.args.self.now.areas) (zero-add a.pages)) in
     let heaps : (store_of c.grow.new.map).heaps ≡ (store_of c.args.map.now).heaps = ap (λ (s : Store). s.heaps) (returns-clause-store c) in
     record {
-      ground = c.grow.ensures.ground;
-      heap = rw (heaps, after, find_with_other a 1 c.args.self.now.areas w.other) c.requires.areas.heap;
+      area_store = record {
+        ground = c.grow.ensures.kept.ground;
+        heap = rw (heaps, after, find_with_other a 1 c.args.self.now.areas w.other) c.requires.state.area_store.heap;
+      };
+      classes = c.grow.ensures.kept.classes;
+      regions = c.grow.ensures.kept.regions;
+      stays = c.grow.ensures.kept.stays;
+      sizes = rw after refl;
     }
 
 pub returns-in_err-area-clause-area_table : goal.returns-in_err-area-clause-area_table

@@ -1,4 +1,4 @@
-use Rattle.std.proofs.Common.{◌≡◌, ◌+◌, ◌-◌, ◌*◌, sym, ap, arith}
+use Rattle.std.proofs.Common.{◌≡◌, ◌+◌, ◌-◌, ◌*◌, refl, sym, ap, arith}
 use Rattle.address_map.specs.Memory.{free_pages}
 use Rattle.os_heap.specs.Store.{Store, store_of}
 use Rattle.os_heap.proofs.Frame.{classes_same}
@@ -18,14 +18,14 @@ pub overflow_mul-pages : goal.overflow_mul-pages
 overflow_mul-pages c =
     let e = rw c.list.ensures.value at c.in-Some.ensures in
     let a = c.in-Some.area.now in
-    let room : IsAreaRoom a = found_room c.args.number c.args.self.now.areas a c.requires.ground.table.rooms (sym e) in
+    let room : IsAreaRoom a = found_room c.args.number c.args.self.now.areas a c.requires.state.ground.table.rooms (sym e) in
     omega (arith, room.within, room_small a room)
 
 pub overflow_add-area : goal.overflow_add-area
 overflow_add-area c =
     let e = rw c.list.ensures.value at c.in-Some.ensures in
     let a = c.in-Some.area.now in
-    let room : IsAreaRoom a = found_room c.args.number c.args.self.now.areas a c.requires.ground.table.rooms (sym e) in
+    let room : IsAreaRoom a = found_room c.args.number c.args.self.now.areas a c.requires.state.ground.table.rooms (sym e) in
     let fits : FitsWindow a a.pages c.args.count = fits_window a a.pages c.args.count room (c.requires.room a (sym e)) in
     omega (arith, fits.below)
 
@@ -33,7 +33,7 @@ pub overflow_add-pages : goal.overflow_add-pages
 overflow_add-pages c =
     let e = rw c.list.ensures.value at c.in-Some.ensures in
     let a = c.in-Some.area.now in
-    let room : IsAreaRoom a = found_room c.args.number c.args.self.now.areas a c.requires.ground.table.rooms (sym e) in
+    let room : IsAreaRoom a = found_room c.args.number c.args.self.now.areas a c.requires.state.ground.table.rooms (sym e) in
     let fits : FitsWindow a a.pages c.args.count = fits_window a a.pages c.args.count room (c.requires.room a (sym e)) in
     omega (arith, fits.sum)
 
@@ -41,7 +41,7 @@ pub map_pages-requires-clause-aligned : goal.map_pages-requires-clause-aligned
 map_pages-requires-clause-aligned c =
     let e = rw c.list.ensures.value at c.in-Some.ensures in
     let a = c.in-Some.area.now in
-    let room : IsAreaRoom a = found_room c.args.number c.args.self.now.areas a c.requires.ground.table.rooms (sym e) in
+    let room : IsAreaRoom a = found_room c.args.number c.args.self.now.areas a c.requires.state.ground.table.rooms (sym e) in
     let fits : FitsWindow a a.pages c.args.count = fits_window a a.pages c.args.count room (c.requires.room a (sym e)) in
     fits.aligned
 
@@ -49,7 +49,7 @@ pub map_pages-requires-clause-below : goal.map_pages-requires-clause-below
 map_pages-requires-clause-below c =
     let e = rw c.list.ensures.value at c.in-Some.ensures in
     let a = c.in-Some.area.now in
-    let room : IsAreaRoom a = found_room c.args.number c.args.self.now.areas a c.requires.ground.table.rooms (sym e) in
+    let room : IsAreaRoom a = found_room c.args.number c.args.self.now.areas a c.requires.state.ground.table.rooms (sym e) in
     let fits : FitsWindow a a.pages c.args.count = fits_window a a.pages c.args.count room (c.requires.room a (sym e)) in
     omega (arith, fits.below)
 
@@ -58,7 +58,7 @@ unfolding store_of
 map_pages-requires-clause-unmapped c =
     let e = rw c.list.ensures.value at c.in-Some.ensures in
     let a = c.in-Some.area.now in
-    unmapped_above (store_of c.args.map.now) (free_pages c.args.map.now) c.args.self.now c.args.number a c.args.count c.requires.ground (sym e)
+    unmapped_above (store_of c.args.map.now) (free_pages c.args.map.now) c.args.self.now c.args.number a c.args.count c.requires.state.ground (sym e)
     (c.requires.room a (sym e))
 
 pub returns-clause-store : goal.returns-clause-store
@@ -66,25 +66,23 @@ unfolding store_of
 returns-clause-store c =
     let e = rw c.list.ensures.value at c.in-Some.ensures in
     let a = c.in-Some.area.now in
-    rw (← e) (store_grown c.args.map.now c.map_pages.new.self (a.base + 4096 * a.pages) (4096 * c.args.count) c.requires.ground.sound
-    (unmapped_above (store_of c.args.map.now) (free_pages c.args.map.now) c.args.self.now c.args.number a c.args.count c.requires.ground (sym e)
+    rw (← e) (store_grown c.args.map.now c.map_pages.new.self (a.base + 4096 * a.pages) (4096 * c.args.count) c.requires.state.ground.sound
+    (unmapped_above (store_of c.args.map.now) (free_pages c.args.map.now) c.args.self.now c.args.number a c.args.count c.requires.state.ground (sym e)
     (c.requires.room a (sym e))) c.map_pages.ensures.mapping c.map_pages.ensures.bytes c.map_pages.ensures.regions c.map_pages.ensures.marks)
 
-pub returns-clause-ground : goal.returns-clause-ground
-returns-clause-ground c =
+pub returns-clause-kept : goal.returns-clause-kept
+returns-clause-kept c =
     let e = rw c.list.ensures.value at c.in-Some.ensures in
     let a = c.in-Some.area.now in
     let pool : free_pages c.map_pages.new.self ≡ free_pages c.args.map.now - c.args.count = omega (arith, c.map_pages.ensures.pages) in
     let after : store_of c.map_pages.new.self ≡ with_pages_at (store_of c.args.map.now) (a.base + 4096 * a.pages) (4096 * c.args.count) =
     (let store = returns-clause-store c in rw (← e) at store) in
-    rw (after, pool, c.set_pages.ensures)
-    (ground_grown (store_of c.args.map.now) (free_pages c.args.map.now) c.args.self.now c.args.number a c.args.count c.requires.ground (sym e)
-    (c.requires.room a (sym e)) c.requires.pool)
-
-pub returns-clause-classes : goal.returns-clause-classes
-returns-clause-classes c =
-    let e = rw c.list.ensures.value at c.in-Some.ensures in
-    let a = c.in-Some.area.now in
-    let after : store_of c.map_pages.new.self ≡ with_pages_at (store_of c.args.map.now) (a.base + 4096 * a.pages) (4096 * c.args.count) =
-    (let store = returns-clause-store c in rw (← e) at store) in
-    classes_same c.args.map.now c.map_pages.new.self (ap (λ (s : Store). s.heaps) after) (λ x i. c.map_pages.ensures.marks i x) c.requires.classes
+    record {
+      ground = rw (after, pool, c.set_pages.ensures)
+          (ground_grown (store_of c.args.map.now) (free_pages c.args.map.now) c.args.self.now c.args.number a c.args.count c.requires.state.ground (sym e)
+          (c.requires.room a (sym e)) c.requires.pool);
+      classes = classes_same c.args.map.now c.map_pages.new.self (ap (λ (s : Store). s.heaps) after) (λ x i. c.map_pages.ensures.marks i x) c.requires.state.classes;
+      regions = c.map_pages.ensures.regions;
+      stays = c.map_pages.ensures.stays;
+      sizes = rw c.set_pages.ensures refl;
+    }

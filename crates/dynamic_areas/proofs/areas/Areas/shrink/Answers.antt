@@ -1,4 +1,4 @@
-use Rattle.std.proofs.Common.{◌≡◌, ◌+◌, ◌-◌, ◌*◌, ◌≤◌, sym, ap, arith}
+use Rattle.std.proofs.Common.{◌≡◌, ◌+◌, ◌-◌, ◌*◌, ◌≤◌, refl, sym, ap, arith}
 use Rattle.address_map.specs.Memory.{bytes_of, regions, free_pages}
 use Rattle.os_heap.specs.Store.{Store, store_of}
 use Rattle.dynamic_areas.specs.Changing.{AreLoose}
@@ -25,14 +25,14 @@ pub overflow_mul-pages : goal.overflow_mul-pages
 overflow_mul-pages c =
     let e = rw c.list.ensures.value at c.in-Some.ensures in
     let a = c.in-Some.area.now in
-    let room : IsAreaRoom a = found_room c.args.number c.args.self.now.areas a c.requires.ground.table.rooms (sym e) in
+    let room : IsAreaRoom a = found_room c.args.number c.args.self.now.areas a c.requires.state.ground.table.rooms (sym e) in
     omega (arith, room.within, room_small a room)
 
 pub overflow_add-area : goal.overflow_add-area
 overflow_add-area c =
     let e = rw c.list.ensures.value at c.in-Some.ensures in
     let a = c.in-Some.area.now in
-    let room : IsAreaRoom a = found_room c.args.number c.args.self.now.areas a c.requires.ground.table.rooms (sym e) in
+    let room : IsAreaRoom a = found_room c.args.number c.args.self.now.areas a c.requires.state.ground.table.rooms (sym e) in
     let fits : FitsWindow a a.pages 0 = fits_window a a.pages 0 room (omega (arith, room.within)) in
     omega (arith, fits.below)
 
@@ -40,7 +40,7 @@ pub unmap_pages-requires-clause-aligned : goal.unmap_pages-requires-clause-align
 unmap_pages-requires-clause-aligned c =
     let e = rw c.list.ensures.value at c.in-Some.ensures in
     let a = c.in-Some.area.now in
-    let room : IsAreaRoom a = found_room c.args.number c.args.self.now.areas a c.requires.ground.table.rooms (sym e) in
+    let room : IsAreaRoom a = found_room c.args.number c.args.self.now.areas a c.requires.state.ground.table.rooms (sym e) in
     let fits : FitsWindow a (a.pages - c.args.count) 0 = fits_window a (a.pages - c.args.count) 0 room (omega (arith, room.within)) in
     fits.aligned
 
@@ -50,7 +50,7 @@ unmap_pages-requires-clause-mapped c =
     let e = rw c.list.ensures.value at c.in-Some.ensures in
     let a = c.in-Some.area.now in
     let fits : c.args.count ≤ a.pages = (c.requires.loose a (sym e)).fits in
-    λ x low high. mapped_held (store_of c.args.map.now) (free_pages c.args.map.now) c.args.self.now c.args.number a c.requires.ground (sym e) x
+    λ x low high. mapped_held (store_of c.args.map.now) (free_pages c.args.map.now) c.args.self.now c.args.number a c.requires.state.ground (sym e) x
     (omega arith) (omega arith)
 
 pub unmap_pages-requires-clause-unrecorded : goal.unmap_pages-requires-clause-unrecorded
@@ -71,27 +71,23 @@ returns-clause-store c =
     let a = c.in-Some.area.now in
     let loose : AreLoose (store_of c.args.map.now) a c.args.count = c.requires.loose a (sym e) in
     rw (← e) (store_shrunk c.args.map.now c.unmap_pages.new.self (a.base + 4096 * (a.pages - c.args.count)) (4096 * c.args.count)
-    c.requires.ground.sound loose.heaps loose.ranges loose.anchors c.unmap_pages.ensures.mapping c.unmap_pages.ensures.bytes c.unmap_pages.ensures.regions c.unmap_pages.ensures.marks)
+    c.requires.state.ground.sound loose.heaps loose.ranges loose.anchors c.unmap_pages.ensures.mapping c.unmap_pages.ensures.bytes c.unmap_pages.ensures.regions c.unmap_pages.ensures.marks)
 
-pub returns-clause-ground : goal.returns-clause-ground
-returns-clause-ground c =
+pub returns-clause-kept : goal.returns-clause-kept
+returns-clause-kept c =
     let e = rw c.list.ensures.value at c.in-Some.ensures in
     let a = c.in-Some.area.now in
     let loose : AreLoose (store_of c.args.map.now) a c.args.count = c.requires.loose a (sym e) in
     let after : store_of c.unmap_pages.new.self
     ≡ without_pages_at (store_of c.args.map.now) (a.base + 4096 * (a.pages - c.args.count)) (4096 * c.args.count) =
     (let store = returns-clause-store c in rw (← e) at store) in
-    rw (after, c.unmap_pages.ensures.pages, c.set_pages.ensures)
-    (ground_shrunk (store_of c.args.map.now) (free_pages c.args.map.now) c.args.self.now c.args.number a c.args.count c.requires.ground (sym e)
-    loose.fits loose.heaps loose.ranges loose.anchors)
-
-pub returns-clause-classes : goal.returns-clause-classes
-returns-clause-classes c =
-    let e = rw c.list.ensures.value at c.in-Some.ensures in
-    let a = c.in-Some.area.now in
-    let loose : AreLoose (store_of c.args.map.now) a c.args.count = c.requires.loose a (sym e) in
-    let after : store_of c.unmap_pages.new.self
-    ≡ without_pages_at (store_of c.args.map.now) (a.base + 4096 * (a.pages - c.args.count)) (4096 * c.args.count) =
-    (let store = returns-clause-store c in rw (← e) at store) in
-    classes_unmapped c.args.map.now c.unmap_pages.new.self (a.base + 4096 * (a.pages - c.args.count)) (4096 * c.args.count)
-    c.requires.ground.sound loose.heaps (ap (λ (s : Store). s.heaps) after) c.unmap_pages.ensures.marks c.requires.classes
+    record {
+      ground = rw (after, c.unmap_pages.ensures.pages, c.set_pages.ensures)
+          (ground_shrunk (store_of c.args.map.now) (free_pages c.args.map.now) c.args.self.now c.args.number a c.args.count c.requires.state.ground (sym e)
+          loose.fits loose.heaps loose.ranges loose.anchors);
+      classes = classes_unmapped c.args.map.now c.unmap_pages.new.self (a.base + 4096 * (a.pages - c.args.count)) (4096 * c.args.count)
+          c.requires.state.ground.sound loose.heaps (ap (λ (s : Store). s.heaps) after) c.unmap_pages.ensures.marks c.requires.state.classes;
+      regions = c.unmap_pages.ensures.regions;
+      stays = c.unmap_pages.ensures.stays;
+      sizes = rw c.set_pages.ensures refl;
+    }
