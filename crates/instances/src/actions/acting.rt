@@ -19,7 +19,6 @@ use instances_table::plans::{Given, PlanAction};
 
 /// Does an action's own part, before its code runs; a slide is done elsewhere. The image of a new
 /// module is pending until an insertion adds it, or it is given up.
-#[tactic(auto, using(crate::proofs::ModuleStateLemmas::Keeping::nothing_dropped))]
 pub fn act(map: &mut AddressMap, table: &mut InstanceTable, given: &Given, action: PlanAction)
     requires can { CanAct given.now table.old action }
     requires state { IsSystemMap map.old }

@@ -1,7 +1,10 @@
-use Rattle.std.proofs.Common.{◌≡◌, true, false, absurd}
+use Rattle.std.proofs.Common.{◌≡◌, true, false}
 use Rattle.instances.proofs.ModuleStateLemmas.Keeping.{nothing_dropped, pages_dropped}
 use Rattle.instances.proofs.ModuleStateLemmas.Records.{loses_heaps}
 use Rattle.instances.proofs.actions.acting.act.Goals as goal
+
+pub returns-in-Finalise-clause-kept : goal.returns-in-Finalise-clause-kept
+returns-in-Finalise-clause-kept c = nothing_dropped c.args.map.now c.requires.state (λ l pending none module_state. module_state)
 
 pub returns-in-Remove-clause-kept : goal.returns-in-Remove-clause-kept
 returns-in-Remove-clause-kept c =
