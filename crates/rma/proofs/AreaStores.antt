@@ -1,7 +1,7 @@
 -- The area store after calls on the module area's heap alone.
 use Rattle.std.proofs.Common.{◌≡◌, ℕ, true, false, sym, ap, subst, ◌∙◌, Ok, Err}
 use Rattle.std.specs.Prelude.{Result, is_ok}
-use Rattle.profile.specs.Outcome.{Gives}
+use Rattle.profile.specs.Outcome.{Gives, bind}
 use Rattle.profile.specs.declared.error.ErrorNumber.{ErrorNumber}
 use Rattle.address_map.specs.Memory.{Mapping, mapping, free_pages}
 use Rattle.address_map.specs.declared.map.AddressMap.{AddressMap}
@@ -73,3 +73,15 @@ kept_by s t (Ok r) (Ok u) given = given.0
 kept_by s t (Ok r) (Err e) given = absurd given
 kept_by s t (Err f) (Ok u) given = absurd given
 kept_by s t (Err f) (Err e) given = given.1
+
+-- a claim, and what is done in the block that it made
+pub made_given : (e : AreaStore) (n p : AddressMap) (k : AreaTable) (make : Store → ℕ → Store) (r : Result (AreaStore × ℕ) ErrorNumber) (block : ℕ)
+    → mapping p ≡ mapping n → store_of p ≡ make (store_of n) block → Gives e r (let done : Result ℕ ErrorNumber = Ok block in done) (area_store_of n k)
+    → Gives e (bind r (λ c. Ok (with_store c.0 (make c.0.store c.1), c.1))) (let done : Result ℕ ErrorNumber = Ok block in done) (area_store_of p k)
+made_given e n p k make (Ok c) block same store given = (
+  area_store_same n p k (make (store_of n) block) same store
+      ∙ ap (λ (x : AreaStore). with_store x (make x.store block)) given.0
+      ∙ ap (λ (b : ℕ). with_store c.0 (make c.0.store b)) given.1,
+  given.1,
+)
+made_given e n p k make (Err f) block same store given = absurd given

@@ -5,7 +5,8 @@ use Rattle.std.specs.List.{filter}
 use Rattle.std.specs.Prelude.{Option, Result, is_some}
 use Rattle.profile.specs.Outcome.{Gives}
 use Rattle.profile.specs.declared.error.ErrorNumber.{ErrorNumber}
-use Rattle.address_map.specs.Memory.{Layout, Mapping, layout, mapping, place, regions}
+use Rattle.address_map.specs.Bytes.{AreMapped}
+use Rattle.address_map.specs.Memory.{Layout, Mapping, is_mapped, layout, mapping, place, regions}
 use Rattle.address_map.specs.declared.map.AddressMap.{AddressMap}
 use Rattle.address_map.specs.declared.region.Kind.{Kind}
 use Rattle.dynamic_areas.specs.Areas.{AreaTable}
@@ -39,6 +40,11 @@ places_then : (m n p : AddressMap) → KeepsPlaces m n → KeepsPlaces n p → K
 places_then m n p first second a there =
     let same : place n a ≡ place m a = first a there in
     second a (ap (λ (x : Option ℕ). is_some x) same ∙ there) ∙ same
+
+pub still_mapped : (m n : AddressMap) (at len : ℕ) → KeepsPlaces m n → AreMapped (is_mapped m) at len → AreMapped (is_mapped n) at len
+still_mapped m n at len places were a low high =
+    let there : is_mapped m a ≡ true = were a low high in
+    ap (λ (x : Option ℕ). is_some x) (places a there) ∙ there
 
 -- no record comes or goes: where nothing is done, where the heap makes a block, where it doesn't
 -- change one, and in one call after another

@@ -14,7 +14,7 @@ use Rattle.rma.proofs.KeptLemmas.{records_got, records_then}
 use Rattle.rma.proofs.claim.claim_grown.Goals as goal
 
 pub get-requires : goal.get-requires
-get-requires c = record { sound = c.grow_to.ensures.kept.area_store.ground.sound; classes = c.grow_to.ensures.kept.classes }
+get-requires c = record { state = record { sound = c.grow_to.ensures.kept.area_store.ground.sound; classes = c.grow_to.ensures.kept.classes } }
 
 pub returns-in-Ok-clause-kept : goal.returns-in-Ok-clause-kept
 returns-in-Ok-clause-kept c =

@@ -13,7 +13,7 @@ use Rattle.rma.proofs.KeptLemmas.{heaps_resized, heaps_same, heaps_then}
 use Rattle.rma.proofs.extend.move_grown.Goals as goal
 
 pub resize-requires : goal.resize-requires
-resize-requires c = record { sound = c.grow_to.ensures.kept.area_store.ground.sound; classes = c.grow_to.ensures.kept.classes }
+resize-requires c = record { state = record { sound = c.grow_to.ensures.kept.area_store.ground.sound; classes = c.grow_to.ensures.kept.classes } }
 
 pub returns-then-holds_heap-clause-kept : goal.returns-then-holds_heap-clause-kept
 returns-then-holds_heap-clause-kept c = heaps_same c.args.map.now c.args.areas.now c.requires.state

@@ -15,7 +15,7 @@ use Rattle.rma.proofs.KeptLemmas.{records_got, records_then, sound_map}
 use Rattle.rma.proofs.area.Rma.claim.Goals as goal
 
 pub get-requires : goal.get-requires
-get-requires c = sound_map c.args.map.now c.args.areas.now c.requires.state
+get-requires c = record { state = sound_map c.args.map.now c.args.areas.now c.requires.state }
 
 pub returns-in-Ok-clause-kept : goal.returns-in-Ok-clause-kept
 returns-in-Ok-clause-kept c =
@@ -23,8 +23,10 @@ returns-in-Ok-clause-kept c =
 
 pub claim_grown-requires : goal.claim_grown-requires
 claim_grown-requires c = record {
-  area_store = areas_written c.args.map.now c.get.new.map c.args.areas.now c.requires.state.area_store c.get.ensures.kept.sound c.get.ensures.kept.layout;
-  classes = c.get.ensures.kept.classes;
+  state = record {
+    area_store = areas_written c.args.map.now c.get.new.map c.args.areas.now c.requires.state.area_store c.get.ensures.kept.sound c.get.ensures.kept.layout;
+    classes = c.get.ensures.kept.classes;
+  };
 }
 
 pub returns-in-Err-clause-kept : goal.returns-in-Err-clause-kept

@@ -13,7 +13,7 @@ use Rattle.rma.proofs.KeptLemmas.{heaps_resized, heaps_then, records_then, recor
 use Rattle.rma.proofs.area.Rma.extend.Goals as goal
 
 pub resize-requires : goal.resize-requires
-resize-requires c = record { sound = c.grow_in_place.ensures.kept.area_store.ground.sound; classes = c.grow_in_place.ensures.kept.classes }
+resize-requires c = record { state = record { sound = c.grow_in_place.ensures.kept.area_store.ground.sound; classes = c.grow_in_place.ensures.kept.classes } }
 
 pub move_grown-requires-clause-state : goal.move_grown-requires-clause-state
 move_grown-requires-clause-state c = record {

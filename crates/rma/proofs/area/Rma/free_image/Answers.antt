@@ -12,6 +12,14 @@ use Rattle.rma.proofs.KeptLemmas.{room_freed}
 use Rattle.address_map.specs.declared.map.AddressMap.{AddressMap}
 use Rattle.rma.proofs.area.Rma.free_image.Goals as goal
 
+pub free-requires : goal.free-requires
+free-requires c = record {
+  state = record {
+    sound = c.drop_image.ensures.kept.sound;
+    classes = c.drop_image.ensures.kept.classes c.requires.state.classes;
+  };
+}
+
 pub returns-clause-kept : goal.returns-clause-kept
 unfolding image_dropped
 returns-clause-kept c =

@@ -1,13 +1,32 @@
-use Rattle.std.proofs.Common.{length, refl, ap, arith, ◌∙◌, ◌-◌}
+use Rattle.std.proofs.Common.{ℕ, length, refl, ap, arith, ◌∙◌, ◌-◌}
 use Rattle.os_heap_words.specs.lists.Lists.{total_for}
 use Rattle.dynamic_areas.specs.Store.{Store, store_of}
-use Rattle.dynamic_areas.specs.Ground.{area_store_of}
-use Rattle.rma.specs.NewImages.{image_made}
+use Rattle.dynamic_areas.specs.Ground.{AreaStore, area_store_of}
+use Rattle.rma.specs.NewImages.{image_made, store_with_image_bytes}
 use Rattle.rma.proofs.FlexLemmas.{made_keeps, sized_unheaped}
 use Rattle.rma.proofs.ImageLemmas.{area_kind}
 use Rattle.rma.proofs.NewImageLemmas.{claim_refused, live_whole, made_order, made_others}
 use Rattle.rma.proofs.KeptLemmas.{areas_made, areas_same, records_same}
+use Rattle.address_map.proofs.Stores.{layout-mapping}
+use Rattle.rma.specs.Calls.{rma_claimed}
+use Rattle.rma.specs.Images.{image_recorded}
+use Rattle.rma.proofs.AreaStores.{made_given}
 use Rattle.rma.proofs.area.Rma.make_image.Goals as goal
+
+pub fill-requires-clause-sound : goal.fill-requires-clause-sound
+fill-requires-clause-sound c = c.claim.ensures.kept.area_store.ground.sound
+
+pub record_image-requires-clause-sound : goal.record_image-requires-clause-sound
+record_image-requires-clause-sound c = c.fill.ensures.kept.sound
+
+pub returns-clause-made : goal.returns-clause-made
+unfolding image_made
+returns-clause-made c =
+    let e : AreaStore = area_store_of c.args.map.now c.args.areas.now in
+    let make : Store → ℕ → Store = λ s b. image_recorded (store_with_image_bytes s b c.args.image.now) b in
+    made_given e c.claim.new.map c.record_image.new.map c.claim.new.areas make (rma_claimed e (length c.args.image.now)) c.in_ok-block.block
+    (c.record_image.ensures.kept.mapping ∙ layout-mapping c.claim.new.map c.fill.new.map c.fill.ensures.kept.layout)
+    (c.record_image.ensures.store ∙ ap (λ (s : Store). image_recorded s c.in_ok-block.block) c.fill.ensures.store) c.in_ok-block.ensures.claimed
 
 pub returns-clause-kept : goal.returns-clause-kept
 returns-clause-kept c =
