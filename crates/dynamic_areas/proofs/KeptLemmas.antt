@@ -1,4 +1,5 @@
--- What is mapped stays in place where a step before or after moves no page; and where areas stand, the module area's heap is there.
+-- What is mapped stays in place where a step before or after moves no page; and where areas stand,
+-- the module area's heap is there.
 use Rattle.std.proofs.Common.{◌≡◌, ◌∙◌, ℕ, Option, Some, None, is_some, true, ap, refl, sym}
 use Rattle.address_map.specs.Memory.{Mapping, StaysInPlace, mapping, place}
 use Rattle.address_map.specs.declared.map.AddressMap.{AddressMap}
