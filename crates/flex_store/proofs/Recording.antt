@@ -1,6 +1,6 @@
 -- The record of a flex store: it shares no byte with a heap or a range that is recorded already,
 -- and keeps all heaps.
-use Rattle.std.proofs.Common.{◌≡◌, ℕ, ◌+◌, ◌-◌, ◌<◌, ◌++◌, true, false, List, [], ◌∷◌, length, refl, sym, ap, subst, ◌∙◌, inl, inr}
+use Rattle.std.proofs.Common.{◌≡◌, ℕ, ◌-◌, ◌<◌, ◌++◌, true, false, List, [], ◌∷◌, length, refl, sym, ap, subst, ◌∙◌, inl, inr}
 use Rattle.std.proofs.lemmas.Bool.{cases_Bool, eq-eqb, or_parts, or_right, true≢false}
 use Rattle.address_map.specs.Bytes.{Bytes, in_range, shares_address}
 use Rattle.address_map.specs.Memory.{byte_at, bytes_of, class_of, is_mapped, mapping, regions}
