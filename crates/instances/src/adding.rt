@@ -34,7 +34,7 @@ impl Instances {
     /// has no room for the image, and can't grow by as much.
     ///
     /// RISC OS 3 Programmer's Reference Manual, "OS_Module", reason 1.
-    #[tactic(auto, unfolding(crate::specs::Adding::loading), using(crate::proofs::AddingLemmas::adds_none_in_block))]
+    #[tactic(auto, unfolding(crate::specs::Adding::loading))]
     pub fn load(
         &self,
         map: &mut AddressMap,

@@ -33,7 +33,7 @@ impl Instances {
     /// and can't grow by as much.
     ///
     /// RISC OS 3 Programmer's Reference Manual, "OS_Module", reason 11.
-    #[tactic(auto, unfolding(crate::specs::Adding::copying), using(crate::proofs::AddingLemmas::adds_none_in_block))]
+    #[tactic(auto, unfolding(crate::specs::Adding::copying))]
     pub fn insert_copy(
         &self,
         map: &mut AddressMap,
@@ -64,7 +64,7 @@ impl Instances {
     /// The first of these, and nothing is changed then: `InstanceTableFull` where there are 64
     /// instances, and none of a module of the title; `RmaNoRoom` where the module area has no room
     /// for the image, and can't grow by as much.
-    #[tactic(auto, unfolding(crate::specs::Adding::copying), using(crate::proofs::AddingLemmas::adds_none_in_block))]
+    #[tactic(auto, unfolding(crate::specs::Adding::copying))]
     pub fn insert_copy_found(
         &self,
         map: &mut AddressMap,

@@ -31,7 +31,7 @@ impl Instances {
     /// instances, and none of a module of the title.
     ///
     /// RISC OS 3 Programmer's Reference Manual, "OS_Module", reason 10.
-    #[tactic(auto, unfolding(crate::specs::Adding::inserting), using(crate::proofs::AddingLemmas::adds_none_in_place))]
+    #[tactic(auto, unfolding(crate::specs::Adding::inserting))]
     pub fn insert_in_place(
         &self,
         map: &mut AddressMap,
@@ -61,7 +61,7 @@ impl Instances {
     ///
     /// `InstanceTableFull` where there are 64 instances, and none of a module of the title; nothing
     /// is changed then.
-    #[tactic(auto, unfolding(crate::specs::Adding::inserting), using(crate::proofs::AddingLemmas::adds_none_in_place))]
+    #[tactic(auto, unfolding(crate::specs::Adding::inserting))]
     pub fn insert_found(
         &self,
         map: &mut AddressMap,

@@ -2,9 +2,7 @@
 use Rattle.std.proofs.Common.{refl, ◌∙◌}
 use Rattle.address_map.specs.declared.map.AddressMap.{AddressMap}
 use Rattle.dynamic_areas.specs.Store.{store_of}
--- for the crates above
-pub use Rattle.rma.proofs.FlexFrameLemmas.Keeping.{keeps_same}
-use Rattle.rma.proofs.FlexFrameLemmas.Keeping.{keeps_then}
+use Rattle.rma.proofs.FlexFrameLemmas.Keeping.{keeps_same, keeps_then}
 use Rattle.instances.specs.module_state.Kept.{DropsRecords, IsSystemMap, KeepsPages, StaysSound}
 use Rattle.instances.specs.module_state.Sound.{HasSystemPages}
 use Rattle.instances.proofs.ModuleStateLemmas.Records.{layout-mapping, loses_laid}

@@ -8,7 +8,7 @@ use Rattle.instances_table.specs.Modules.{AreModules, Module}
 use Rattle.instances.specs.module_state.Records.{MayTurnRecords}
 use Rattle.instances.specs.module_state.ModuleState.{module_state_of}
 use Rattle.instances.specs.actions.Codes.{code_among}
-use Rattle.instances.proofs.ModuleStateLemmas.Keeping.{keeps_same}
+use Rattle.rma.proofs.FlexFrameLemmas.Keeping.{keeps_same}
 use Rattle.instances.proofs.Turning.{goes_into_code, goes_on, going_back, turn_ends, turn_enters, turn_goes_on}
 use Rattle.instances.proofs.instances.Instances.advance.Goals as goal
 
