@@ -94,7 +94,8 @@ AddsImage m n at = AddsRecord m n kind.Image at
 
 -- What such a call keeps where the image stays where it stands: the module state is sound, with the
 -- image pending, all that is mapped stays where it is, and no record but the image's comes or goes.
-pub record AddsInPlace (old new : AddressMap) (l : AreaTable) (modules : List Module) (result : Result Plan ErrorNumber) : Type 0 where
+pub record AddsInPlace (old new : AddressMap) (l : AreaTable) (modules : List Module)
+    (result : Result Plan ErrorNumber) : Type 0 where
   pub sound : IfOk result (λ plan. IsModuleState (module_state_of new l modules) (pending_of plan))
   pub classes : AreClasses new
   pub mapping : mapping new ≡ mapping old
@@ -103,7 +104,8 @@ pub record AddsInPlace (old new : AddressMap) (l : AreaTable) (modules : List Mo
 
 -- The same where the image gets a block: the module area may grow, and what was mapped before lies
 -- where it lay.
-pub record AddsInBlock (old new : AddressMap) (before after : AreaTable) (modules : List Module) (result : Result Plan ErrorNumber) : Type 0 where
+pub record AddsInBlock (old new : AddressMap) (before after : AreaTable) (modules : List Module)
+    (result : Result Plan ErrorNumber) : Type 0 where
   pub sound : IfOk result (λ plan. IsModuleState (module_state_of new after modules) (pending_of plan))
   pub classes : AreClasses new
   pub order : MatchResult result (λ plan. AddsImage old new plan.given.image) (λ _. KeepsOrder old new)

@@ -47,7 +47,8 @@ pub record IsMapUnderWay (m : AddressMap) (l : AreaTable) (modules : List Module
   pub classes : AreClasses m
 
 -- It is so still, and the records have become what the actions that were done make of them.
-pub record KeepsUnderWay (old new : AddressMap) (l : AreaTable) (modules : List Module) (p : Plan) (Records : List Region → List Region → Type 0) : Type 0 where
+pub record KeepsUnderWay (old new : AddressMap) (l : AreaTable) (modules : List Module) (p : Plan)
+    (Records : List Region → List Region → Type 0) : Type 0 where
   pub going : IsUnderWay (module_state_of new l modules) p
   pub classes : AreClasses new
   pub mapping : mapping new ≡ mapping old

@@ -70,7 +70,8 @@ pub record DropsHeaps (old new : AddressMap) : Type 0 where
 
 -- What an action keeps, whose image is pending or settled: the module state is sound, and the
 -- records have become what the action makes of them.
-pub record KeepsState (old new : AddressMap) (l : AreaTable) (modules : List Module) (pending : List Image) (Records : List Region → List Region → Type 0) : Type 0 where
+pub record KeepsState (old new : AddressMap) (l : AreaTable) (modules : List Module) (pending : List Image)
+    (Records : List Region → List Region → Type 0) : Type 0 where
   pub sound : IsModuleState (module_state_of new l modules) pending
   pub classes : AreClasses new
   pub mapping : mapping new ≡ mapping old
