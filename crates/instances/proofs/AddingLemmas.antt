@@ -2,7 +2,6 @@
 -- is pending.
 use Rattle.std.proofs.Common.{◌≡◌, ◌%◌, ◌∙◌, ℕ, ◌+◌, ◌-◌, ◌==◌, sym, ap, ◌&&◌, ◌<◌, ◌≤◌, true, false, List, [], ◌∷◌, ◌++◌, length, refl, Ok, Err, inl, inr, arith}
 use Rattle.std.specs.Prelude.{IfOk, Result, nat_lt, not}
-use Rattle.std.specs.Result.{IsErrAnd}
 use Rattle.std.proofs.lemmas.Bool.{and_parts, both_ways, cases_Bool, eqb-true, false_from_ne_true, le-leb, lt-ltb, ltb-false, or_from, or_parts}
 use Rattle.address_map.specs.Bytes.{AreMapped, bytes_between, in_range}
 use Rattle.address_map.proofs.Viewing.{bytes_counted}
@@ -30,7 +29,6 @@ use Rattle.instances.proofs.ModuleStateLemmas.ModuleStates.{module_state_more}
 use Rattle.instances.specs.Adding.{AddsInBlock, AddsInPlace, good_header}
 use Rattle.instances.specs.module_state.Kept.{IsModuleMap}
 use Rattle.instances_table.specs.Modules.{Module}
-use Rattle.instances_table.specs.plans.Plans.{Plan}
 use Rattle.rma.proofs.FlexFrameLemmas.Keeping.{keeps_same}
 use Rattle.address_map.specs.declared.map.AddressMap.{AddressMap}
 use Rattle.dynamic_areas.specs.Areas.{AreaTable}
@@ -88,11 +86,6 @@ none_in_place m l modules e state = record {
   flex = keeps_same (store_of m);
 }
 
-pub refused_in_place : {P : ErrorNumber → Type 0} (m : AddressMap) (l : AreaTable) (modules : List Module) (r : Result Plan ErrorNumber) → IsErrAnd r P → IsModuleMap m l modules
-    → AddsInPlace m m l modules r
-refused_in_place m l modules (Ok plan) is state = absurd is
-refused_in_place m l modules (Err e) is state = none_in_place m l modules e state
-
 pub none_in_block : (m : AddressMap) (l : AreaTable) (modules : List Module) (e : ErrorNumber) → IsModuleMap m l modules → AddsInBlock m m l l modules (Err e)
 none_in_block m l modules e state = record {
   sound = tt;
@@ -102,11 +95,6 @@ none_in_block m l modules e state = record {
   flex = keeps_same (store_of m);
   sizes = refl;
 }
-
-pub refused_in_block : {P : ErrorNumber → Type 0} (m : AddressMap) (l : AreaTable) (modules : List Module) (r : Result Plan ErrorNumber) → IsErrAnd r P → IsModuleMap m l modules
-    → AddsInBlock m m l l modules r
-refused_in_block m l modules (Ok plan) is state = absurd is
-refused_in_block m l modules (Err e) is state = none_in_block m l modules e state
 
 -- an image with a good header isn't empty
 pub header_long : (image : List ℕ) (header : Header) → header_of image ≡ Ok header → 28 ≤ length image

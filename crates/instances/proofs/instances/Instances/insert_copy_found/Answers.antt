@@ -3,7 +3,8 @@ use Rattle.dynamic_areas.specs.Store.{store_of}
 use Rattle.dynamic_areas.specs.Ground.{area_store_of}
 use Rattle.instances.specs.module_state.ModuleState.{module_state_of}
 use Rattle.instances.proofs.ModuleStateLemmas.ModuleStates.{few_records}
-use Rattle.instances.proofs.AddingLemmas.{copied_mapped, module_state_with_block, no_image, refused_in_block}
+use Rattle.std.proofs.lemmas.Result.{err_from_is_err_and}
+use Rattle.instances.proofs.AddingLemmas.{copied_mapped, module_state_with_block, no_image, none_in_block}
 use Rattle.instances.proofs.instances.Instances.insert_copy_found.Goals as goal
 
 pub copy_image-requires-clause-room : goal.copy_image-requires-clause-room
@@ -34,4 +35,6 @@ returns-clause-kept c =
     }
 
 pub returns-in_err-slot-clause-kept : goal.returns-in_err-slot-clause-kept
-returns-in_err-slot-clause-kept c = refused_in_block c.args.map.now c.args.areas.now c.args.self.now c.from_residual.result c.from_residual.ensures.1 c.requires.state
+returns-in_err-slot-clause-kept c =
+    let p = err_from_is_err_and c.from_residual.result c.from_residual.ensures.1 in
+    rw p.1 (none_in_block c.args.map.now c.args.areas.now c.args.self.now _ c.requires.state)

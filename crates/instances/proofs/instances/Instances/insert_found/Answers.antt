@@ -4,7 +4,8 @@ use Rattle.dynamic_areas.specs.Ground.{AreaStore}
 use Rattle.instances.specs.module_state.ModuleState.{module_state_of}
 use Rattle.instances.proofs.ModuleStateLemmas.ModuleStates.{few_records}
 use Rattle.instances.specs.Adding.{inserting}
-use Rattle.instances.proofs.AddingLemmas.{header_some, module_state_in_place, refused_in_place}
+use Rattle.std.proofs.lemmas.Result.{err_from_is_err_and}
+use Rattle.instances.proofs.AddingLemmas.{header_some, module_state_in_place, none_in_place}
 use Rattle.instances.proofs.instances.Instances.insert_found.Goals as goal
 
 pub record_in_place-requires-clause-room : goal.record_in_place-requires-clause-room
@@ -37,4 +38,6 @@ returns-clause-kept c =
     }
 
 pub returns-in_err-slot-clause-kept : goal.returns-in_err-slot-clause-kept
-returns-in_err-slot-clause-kept c = refused_in_place c.args.map.now c.args.areas.now c.args.self.now c.from_residual.result c.from_residual.ensures.1 c.requires.state
+returns-in_err-slot-clause-kept c =
+    let p = err_from_is_err_and c.from_residual.result c.from_residual.ensures.1 in
+    rw p.1 (none_in_place c.args.map.now c.args.areas.now c.args.self.now _ c.requires.state)

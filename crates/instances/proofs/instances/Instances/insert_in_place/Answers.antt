@@ -3,7 +3,8 @@ use Rattle.std.proofs.Common.{◌≡◌, true, sym, ◌∙◌}
 use Rattle.dynamic_areas.specs.Store.{store_of}
 use Rattle.rma.specs.NewImages.{may_be_in_place}
 use Rattle.rma.proofs.InPlaceLemmas.{may_be}
-use Rattle.instances.proofs.AddingLemmas.{none_in_place, refused_in_place}
+use Rattle.std.proofs.lemmas.Result.{err_from_is_err_and}
+use Rattle.instances.proofs.AddingLemmas.{none_in_place}
 use Rattle.instances.proofs.instances.Instances.insert_in_place.Goals as goal
 
 pub header_at-requires : goal.header_at-requires
@@ -16,4 +17,6 @@ pub returns-then-not-may_be_in_place-clause-kept : goal.returns-then-not-may_be_
 returns-then-not-may_be_in_place-clause-kept c = none_in_place c.args.map.now c.args.areas.now c.args.self.now BadPointer c.requires.state
 
 pub returns-in_err-header-clause-kept : goal.returns-in_err-header-clause-kept
-returns-in_err-header-clause-kept c = refused_in_place c.args.map.now c.args.areas.now c.args.self.now c.from_residual.result c.from_residual.ensures.1 c.requires.state
+returns-in_err-header-clause-kept c =
+    let p = err_from_is_err_and c.from_residual.result c.from_residual.ensures.1 in
+    rw p.1 (none_in_place c.args.map.now c.args.areas.now c.args.self.now _ c.requires.state)

@@ -3,7 +3,8 @@ use Rattle.std.proofs.Common.{[], length, refl, arith}
 use Rattle.dynamic_areas.specs.Store.{store_of}
 use Rattle.instances.specs.module_state.ModuleState.{module_state_of}
 use Rattle.instances.proofs.ModuleStateLemmas.ModuleStates.{few_records}
-use Rattle.instances.proofs.AddingLemmas.{module_state_with_block, no_image, none_in_block, refused_in_block}
+use Rattle.std.proofs.lemmas.Result.{err_from_is_err_and}
+use Rattle.instances.proofs.AddingLemmas.{module_state_with_block, no_image, none_in_block}
 use Rattle.instances.proofs.instances.Instances.load.Goals as goal
 
 pub make_image-requires-clause-room : goal.make_image-requires-clause-room
@@ -32,7 +33,11 @@ pub returns-then-is_too_long-clause-kept : goal.returns-then-is_too_long-clause-
 returns-then-is_too_long-clause-kept c = none_in_block c.args.map.now c.args.areas.now c.args.self.now BadString c.requires.state
 
 pub returns-in_err-header-clause-kept : goal.returns-in_err-header-clause-kept
-returns-in_err-header-clause-kept c = refused_in_block c.args.map.now c.args.areas.now c.args.self.now c.from_residual.result c.from_residual.ensures.1 c.requires.state
+returns-in_err-header-clause-kept c =
+    let p = err_from_is_err_and c.from_residual.result c.from_residual.ensures.1 in
+    rw p.1 (none_in_block c.args.map.now c.args.areas.now c.args.self.now _ c.requires.state)
 
 pub returns-in_err-slot-clause-kept : goal.returns-in_err-slot-clause-kept
-returns-in_err-slot-clause-kept c = refused_in_block c.args.map.now c.args.areas.now c.args.self.now c.from_residual-in_err-slot.result c.from_residual-in_err-slot.ensures.1 c.requires.state
+returns-in_err-slot-clause-kept c =
+    let p = err_from_is_err_and c.from_residual-in_err-slot.result c.from_residual-in_err-slot.ensures.1 in
+    rw p.1 (none_in_block c.args.map.now c.args.areas.now c.args.self.now _ c.requires.state)
