@@ -1,6 +1,7 @@
 //! OS_Module 7: a block is given back.
 
 ghost use Rattle.profile.specs.Outcome.{Gives};
+ghost use Rattle.address_map.specs.Memory.{regions};
 ghost use Rattle.dynamic_areas.specs.Store.{store_of};
 ghost use Rattle.dynamic_areas.specs.Areas.{AreaTable};
 ghost use Rattle.dynamic_areas.specs.Ground.{area_store_of};
