@@ -14,7 +14,6 @@ use crate::answers::{print_error, print_ok, print_stop};
 use crate::session::Session;
 use profile::images::Images;
 use profile::{Sink, Stop, WriteFault, push_all};
-use swi_dispatch_guest::Machine;
 
 /// A call that a script makes from outside the machine.
 #[derive(Clone, Copy, Debug)]
@@ -23,23 +22,6 @@ pub enum OutsideCall<'a> {
     Swi(u32),
     /// LOAD: a module is loaded, by the name of an image and a text.
     Load(&'a [u8]),
-}
-
-impl OutsideCall<'_> {
-    ghost use Rattle.swi_dispatch_guest.specs.Value.{IsAfterStep};
-    ghost use Rattle.command_shell.specs.Calls.{outside_called};
-
-    // Takes the first step.
-    fn begin(self, machine: &mut Machine, images: &Images) -> Option<Stop>
-        ensures after { IsAfterStep machine.old machine.new
-            (outside_called images.now (state_of machine.old.guest) self.entry) }
-        ensures stop { result ≡ option_map stop_of (state_of machine.new.guest).halt }
-    {
-        match self {
-            OutsideCall::Swi(number) => machine.store_call(images, number),
-            OutsideCall::Load(text) => machine.load_module(images, text),
-        }
-    }
 }
 
 /// Why such a call goes no further.
@@ -54,7 +36,7 @@ pub enum CallEnd {
 impl Session {
     ghost use Rattle.profile.specs.images.Entries.{Entry};
     ghost use Rattle.swi_dispatch_guest.specs.Step.{machine_step};
-    ghost use Rattle.command_shell.specs.Calls.{call_made, call_done, call_end, call_text, end_answer, answer_after_steps};
+    ghost use Rattle.command_shell.specs.Calls.{call_made, call_end, call_text, end_answer, answer_after_steps};
     ghost use Rattle.command_shell.specs.Calls.{first_step, step_made, stop_answer, stop_before_step};
     ghost use Rattle.command_shell.specs.Session.{script_state};
     ghost use Rattle.command_shell.specs.State.{IsAnswered};
@@ -77,7 +59,11 @@ impl Session {
     {
         match self.stop_before_step() {
             Some(stop) => self.stopped(sink, stop),
-            None => self.complete(images, sink, call),
+            None => {
+                let frames = self.machine.frames();
+                self.begin_call(images, sink, call)?;
+                self.finish(images, sink, frames)
+            }
         }
     }
 
@@ -104,26 +90,6 @@ impl Session {
         print_stop(sink, stop, self.machine.cpu().pc())
     }
 
-    // A call where a step can be taken.
-    fn complete<W: Sink>(
-        &mut self,
-        images: &Images,
-        sink: &mut W,
-        call: OutsideCall,
-    ) -> Result<(), WriteFault>
-        requires { 0 < self.old.left }
-        ensures reported { OnOk result (IsAnswered (W.contents sink.old) (W.contents sink.new)
-            (script_state self.new images.now)
-            (call_done (script_state self.old images.now)
-            (first_step (script_state self.old images.now) call.entry))) }
-        ensures flag { OnErr result (W.has_failed sink.new ≡ true) }
-        ensures same_flag { OnOk result (W.has_failed sink.new ≡ W.has_failed sink.old) }
-    {
-        let frames = self.machine.frames();
-        self.begin_call(images, sink, call)?;
-        self.finish(images, sink, frames)
-    }
-
     /// Takes the first step of a call, writes what it prints, and answers why the machine is
     /// halted, if it is.
     ///
@@ -147,7 +113,10 @@ impl Session {
         ensures flag { OnErr result (W.has_failed sink.new ≡ true) }
         ensures same_flag { OnOk result (W.has_failed sink.new ≡ W.has_failed sink.old) }
     {
-        let halt = call.begin(&mut self.machine, images);
+        let halt = match call {
+            OutsideCall::Swi(number) => self.machine.store_call(images, number),
+            OutsideCall::Load(text) => self.machine.load_module(images, text),
+        };
         self.count_step(sink, halt)?;
         Ok(halt)
     }

@@ -37,23 +37,7 @@ impl Session {
         ensures flag { OnErr result (W.has_failed sink.new ≡ true) }
         ensures same_flag { OnOk result (W.has_failed sink.new ≡ W.has_failed sink.old) }
     {
-        self.run_within(images, sink, count.min(self.left))
-    }
-
-    // Takes so many steps of those that are left.
-    fn run_within<W: Sink>(
-        &mut self,
-        images: &Images,
-        sink: &mut W,
-        most: u64,
-    ) -> Result<Ran, WriteFault>
-        requires { most ≤ self.old.left }
-        ensures ran { IfOk result (λ ran. IsAfterRun (script_state self.old images.now) most
-            (script_state self.new images.now)
-            (W.contents sink.old) (W.contents sink.new) ran.taken ran.stop) }
-        ensures flag { OnErr result (W.has_failed sink.new ≡ true) }
-        ensures same_flag { OnOk result (W.has_failed sink.new ≡ W.has_failed sink.old) }
-    {
+        let most = count.min(self.left);
         let ran = self.machine.run(images, &self.breaks, sink, most)?;
         self.left -= ran.taken;
         self.last = Some(ran.stop);
@@ -87,7 +71,9 @@ impl Session {
         ensures flag { OnErr result (W.has_failed sink.new ≡ true) }
         ensures same_flag { OnOk result (W.has_failed sink.new ≡ W.has_failed sink.old) }
     {
-        let ran = self.run_within(images, sink, self.left)?;
+        let ran = self.machine.run(images, &self.breaks, sink, self.left)?;
+        self.left -= ran.taken;
+        self.last = Some(ran.stop);
         print_stop(sink, ran.stop, self.machine.cpu().pc())
     }
 

@@ -2,8 +2,7 @@
 
 ghost use Rattle.std.specs.Prelude.{◌≡◌, ◌<◌, false, true, length, Err, IfErr, IfOk, IfSome, IsErr, OnErr, OnOk};
 ghost use Rattle.profile.specs.Devices.{device_failed, device_inner};
-ghost use Rattle.command_shell.specs.Whole.{AnswersWhole};
-ghost use Rattle.rosm_settings.specs.Answering.{AnswersScript, EndsWithin, RefusesFiles, ShowsOfFile, answers_to, is_of_run};
+ghost use Rattle.rosm_settings.specs.Answering.{AnswersScript, EndsWithin, RefusesFiles, ShowsOfFile, is_of_run};
 ghost use Rattle.rosm_settings.specs.Endings.{refusal_status};
 
 use crate::command_line::Settings;
@@ -11,8 +10,7 @@ use crate::image_files::add_files;
 use crate::refusal::SettingsRefusal;
 use command_shell::{RunError, run_script};
 use profile::images::Images;
-use profile::{Device, Sink, Source, Stop};
-use std::alloc::Global;
+use profile::{Device, Source, Stop};
 use std::fs;
 use std::io::{BufWriter, Write};
 
@@ -22,7 +20,7 @@ use std::io::{BufWriter, Write};
 /// # Errors
 ///
 /// The first file that gives no image, before anything is read or written; else as
-/// [`answer_script`], and `WriteFault` too where the last of the answers can't be handed on.
+/// [`run_script`], and `WriteFault` too where the last of the answers can't be handed on.
 pub fn run<'a, F, R, W>(
     files: &F,
     settings: &'a Settings,
@@ -58,7 +56,16 @@ where
 {
     let mut images = Images::new();
     add_files(files, &settings.files, &mut images)?;
-    let last = answer_script(files.alloc(), settings, &mut images, reader, writer)?;
+    let alloc = files.alloc();
+    let ran = run_script(
+        alloc,
+        reader,
+        &mut images,
+        writer,
+        settings.config,
+        settings.budget,
+    );
+    let last = ran?.last;
     match writer.flush() {
         Ok(()) => Ok(last),
         Err(_) => Err(SettingsRefusal::Script(RunError::WriteFault)),
@@ -100,34 +107,4 @@ where
         Ok(stream) => Ok((last, stream)),
         Err(_) => Err(SettingsRefusal::Script(RunError::WriteFault)),
     }
-}
-
-/// Runs the script of `reader` on a fresh machine of the settings' sizes and budget, writes its
-/// answers, and gives the last stop.
-///
-/// # Errors
-///
-/// As [`run_script`].
-pub fn answer_script<R: Source, W: Sink>(
-    alloc: Global,
-    settings: &Settings,
-    images: &mut Images,
-    reader: &mut R,
-    writer: &mut W,
-) -> Result<Option<Stop>, RunError>
-    ensures answers { AnswersWhole R.remaining R.has_failed R.pulls W.contents W.has_failed
-        reader.old reader.new writer.old writer.new images.old images.new result
-        (answers_to settings.now images.old) }
-    ensures last { IfOk result (λ last. IfSome (R.remaining reader.old) (λ script.
-        last ≡ (answers_to settings.now images.old script).state.last)) }
-{
-    let summary = run_script(
-        alloc,
-        reader,
-        images,
-        writer,
-        settings.config,
-        settings.budget,
-    )?;
-    Ok(summary.last)
 }

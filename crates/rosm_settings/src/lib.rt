@@ -14,7 +14,7 @@ pub mod saved_files;
 pub mod watched;
 
 pub use crate::command_line::{Files, Settings, SettingsError, settings};
-pub use answering::{answer_script, run, run_to_stream};
+pub use answering::{run, run_to_stream};
 pub use command_shell::RunError;
 pub use process::{exit_code, read_settings, run_on_standard_streams};
 pub use refusal::SettingsRefusal;

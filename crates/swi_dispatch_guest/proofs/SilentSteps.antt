@@ -4,7 +4,7 @@ use Rattle.profile.specs.declared.stop.Stop.{Stop}
 use Rattle.profile.specs.declared.stop.Stop.TheVariants as stop
 use Rattle.address_map.specs.declared.map.AddressMap.{AddressMap}
 use Rattle.address_map.specs.Bytes.{Bytes}
-use Rattle.address_map.specs.Memory.{bytes_of, layout, class_of}
+use Rattle.address_map.specs.Memory.{bytes_of, is_owned, layout, class_of}
 use Rattle.arm_core.specs.declared.turn.StepEnd.{StepEnd}
 use Rattle.arm_core.specs.declared.turn.StepEnd.TheVariants as turn
 use Rattle.arm_core.specs.State.{State}
@@ -14,13 +14,14 @@ use Rattle.arm_step.specs.Step.{result_of_step}
 use Rattle.arm_step.specs.Turns.{Turns}
 use Rattle.arm_step.proofs.Framing.{step_keeps}
 use Rattle.os_heap.specs.Store.{store_of, owned_in, IsSound}
+use Rattle.os_heap.proofs.Owned.{owned_marks}
 use Rattle.swi_dispatch_plans.specs.Entries.{Entry}
 use Rattle.swi_dispatch_guest.specs.declared.halt.Halt.{Halt}
 use Rattle.swi_dispatch_guest.specs.MachineState.{MachineState, Tables}
 use Rattle.swi_dispatch_guest.specs.Step.{Turned, moved_on}
-use Rattle.swi_dispatch_guest.specs.GuestState.{AreCoreSteps, TakesTurn}
+use Rattle.swi_dispatch_guest.specs.GuestState.{AreCoreSteps, GuestState, IsWellFormed, TakesTurn, state_of}
 use Rattle.swi_dispatch_guest.specs.Run.{is_among, ran, silent_run, silent_stop}
-use Rattle.swi_dispatch_guest.proofs.Kept.{IsStored, keeps_stored, kept_memory, same_pool, with_core, over}
+use Rattle.swi_dispatch_guest.proofs.Kept.{IsStored, by_words, flex_after, keeps_stored, kept_memory, same_pool, well_kept, with_core, over}
 use Rattle.swi_dispatch_guest.proofs.Silent.{silent_start, silent_more, ends_by}
 
 -- the machine with another core and other bytes
@@ -118,3 +119,36 @@ unfolding AreDone
 core_steps breaks s zero old new h = none_yet (moved s old) (moved s new) (ap (moved s) h)
 core_steps breaks s (suc n) old new h =
     one_more n (moved s old) (moved s h.0) (moved s new) (core_steps breaks s n old h.0 h.1.0) (taken s h.0 new h.1.1.step)
+
+-- So many steps that the core takes of a guest, and why they end: they are a run that prints
+-- nothing, and the guest is well-formed after them.
+pub record IsStretch (breaks : List ℕ) (k : ℕ) (r : Result StepEnd Stop) (p q : GuestState) : Type 0 where
+  pub runs : (images : List Entry) → ran images breaks k (state_of p) ≡ silent_run (state_of q) k (silent_stop r)
+  pub steps : AreCoreSteps k (state_of p) (state_of q)
+  pub next : IfOk r (λ (turn : StepEnd). TakesTurn (state_of q) turn (state_of q))
+  pub well : IsWellFormed q
+
+pub stretch : (p : GuestState) (n : AddressMap) (cpu' : State) (breaks : List ℕ) (k : ℕ) (r : Result StepEnd Stop) → IsWellFormed p → p.halt ≡ None
+    → AreDone (is_owned p.map) breaks k (p.cpu, bytes_of p.map) (cpu', bytes_of n) → StopsBy breaks k cpu'.pc r
+    → IfOk r (λ (turn : StepEnd). Turns (cpu', bytes_of n) (result_of_step (is_owned p.map) cpu' (bytes_of n)) turn (cpu', bytes_of n))
+    → layout n ≡ layout p.map → class_of n ≡ class_of p.map → IsStretch breaks k r p (record p { cpu = cpu'; map = n })
+stretch p n cpu' breaks k r well unhalted done ends next same marks =
+    let m = p.map in
+    let marked = owned_marks m well.classes in
+    let steps = subst (λ (owned : ℕ → Bool). AreDone owned breaks k (p.cpu, bytes_of m) (cpu', bytes_of n)) marked done in
+    let kept = settled m n p.cpu cpu' p.tables p.halt same marks well.areas.ground.sound (steps_keep _ _ _ _ _ (by_words (store_of m)) steps) in
+    let start = settled m m p.cpu p.cpu p.tables p.halt refl refl well.areas.ground.sound (record { mapped = refl; bytes = λ a o. refl }) in
+    let s = over m p.cpu p.tables p.halt in
+    record {
+      runs = λ images. ap (λ (x : MachineState). ran images breaks k x) start.1
+          ∙ ran_by images breaks s k (p.cpu, bytes_of m) (cpu', bytes_of n) r unhalted steps ends
+          ∙ ap (λ (x : MachineState). silent_run x k (silent_stop r)) (sym kept.1);
+      steps = subst (λ (x : MachineState). AreCoreSteps k s x) (sym kept.1)
+          (subst (λ (x : MachineState). AreCoreSteps k x (moved s (cpu', bytes_of n))) (sym start.1)
+          (core_steps breaks s k (p.cpu, bytes_of m) (cpu', bytes_of n) steps));
+      next = next_by r _ _ (λ t h. subst (λ (x : MachineState). TakesTurn x t x) (sym kept.1)
+          (turn_taken s t (cpu', bytes_of n) (cpu', bytes_of n)
+          (subst (λ (owned : ℕ → Bool). Turns (cpu', bytes_of n) (result_of_step owned cpu' (bytes_of n)) t (cpu', bytes_of n)) marked h)))
+          next;
+      well = well_kept p (record p { cpu = cpu'; map = n }) well kept.0.kept same marks refl (flex_after _ _ _ well.flex same marks kept.0) refl;
+    }

@@ -1,6 +1,9 @@
 //! Store calls: what each does and prints, and how a guest comes back from one.
 
 ghost use Rattle.std.specs.Prelude.{ℕ, ◌≡◌, ◌<◌, ◌≤◌, ◌^◌, false, [], None, Some, OnErr};
+ghost use Rattle.profile.specs.ErrorNames.{error_code};
+ghost use Rattle.profile.specs.declared.error.ErrorNumber.{ErrorNumber};
+ghost use Rattle.profile.specs.declared.fault.Fault.TheVariants.{ErrorStop};
 ghost use Rattle.swi_dispatch_answers.specs.declared.frames.call.Call.{Call};
 ghost use Rattle.swi_dispatch_guest.specs.Step.{call_of, is_exit, os_module_called, outcome_of_answer, outcome_of_call};
 
@@ -14,6 +17,9 @@ use swi_dispatch_answers::returns::return_to;
 use swi_dispatch_answers::strings::{next_word, text_at};
 use swi_dispatch_answers::{Refusal, TextEnd};
 use swi_dispatch_plans::Images;
+use swi_dispatch_plans::flex::call_flex;
+use swi_dispatch_plans::modules::call_module;
+use swi_dispatch_plans::store::{call_area, call_heap, change_area, change_error, read_area};
 
 /// The most bytes that a step can print.
 pub const MOST_PRINTED: usize = 4096;
@@ -27,7 +33,7 @@ impl Guest {
     ghost use Rattle.arm_core.specs.State.{register_of};
     ghost use Rattle.swi_dispatch_guest.specs.MachineState.{outcome_with};
     ghost use Rattle.swi_dispatch_guest.specs.GuestState.{Answers, state_of};
-    ghost use Rattle.swi_dispatch_guest.specs.Returns.{gone_back};
+    ghost use Rattle.swi_dispatch_guest.specs.Returns.{gone_back, outcome_of_halt};
 
     /// A store call as the guest makes it in its present status. `is_x` says whether an error goes
     /// back to the guest, and `next` where the guest goes on.
@@ -158,16 +164,55 @@ impl Guest {
                 output.push(13);
             }
             Some(SwiName::EnterOs) => self.enter_supervisor(),
-            Some(SwiName::Heap) => return self.call_heap(),
-            Some(SwiName::Module) => return self.call_module_reason(),
-            Some(SwiName::ChangeDynamicArea) => return self.change_area(),
-            Some(SwiName::ReadDynamicArea) => return self.read_area(),
-            Some(SwiName::DynamicArea) => return self.call_area(),
+            Some(SwiName::Heap) => return call_heap(&mut self.cpu, &mut self.memory),
+            Some(SwiName::Module) => return call_module(
+                &mut self.cpu,
+                &mut self.memory,
+                &mut self.areas,
+                &mut self.instances,
+            ),
+            // Pages move even where not all can.
+            Some(SwiName::ChangeDynamicArea) => {
+                let error = change_area(&mut self.cpu, &mut self.memory, &mut self.areas);
+                return match error {
+                    None => Ok(()),
+                    Some(error) => Err(Refusal::System(error)),
+                };
+            }
+            Some(SwiName::ReadDynamicArea) => return read_area(
+                &mut self.cpu,
+                &self.memory,
+                &self.areas,
+            ),
+            Some(SwiName::DynamicArea) => return call_area(
+                &mut self.cpu,
+                &mut self.memory,
+                &mut self.areas,
+            ),
             Some(SwiName::GenerateError) => return Err(self.own_error()),
             Some(SwiName::WriteI) => output.push((number % 256) as u8),
-            _ => return self.call_flex(name),
+            _ => {
+                self.instances.count();
+                return call_flex(&mut self.cpu, &mut self.memory, &mut self.flex, name);
+            }
         }
         Ok(())
+    }
+
+    // The error with which a call would end after it changed something. Without the X bit it is a
+    // fault instead, and nothing is changed.
+    #[tactic(auto, using(crate::proofs::AreaAnswers::moving_stop))]
+    fn moving_error(&self, name: Option<SwiName>) -> Option<ErrorNumber>
+        ensures value { result ≡ moving_error (state_of self.now) name }
+        ensures stop { (e : ErrorNumber) → result ≡ Some e → (next number : ℕ)
+            → outcome_of_answer (state_of self.now) false (call_answer (state_of self.now) next number name)
+            ≡ outcome_of_halt (state_of self.now) (Halt.Fault (ErrorStop (error_code e))) }
+    {
+        self.cpu.known();
+        match name {
+            Some(SwiName::ChangeDynamicArea) => change_error(&self.cpu, &self.memory, &self.areas),
+            _ => None,
+        }
     }
 
     // OS_WriteS: the text stands after the instruction, and the guest goes on after it.

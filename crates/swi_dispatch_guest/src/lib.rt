@@ -22,7 +22,6 @@ pub mod module_calls;
 pub mod module_steps;
 pub mod outside;
 pub mod running;
-pub mod store_calls;
 
 pub use arm_run::{BreakError, Breaks};
 pub use arm_step::{Mode, Psr};

@@ -1,22 +1,17 @@
 //! The machine: how it is made and booted, one step of it, and calls from outside.
 
-ghost use Rattle.std.specs.Prelude.{◌≡◌, ◌&&◌, ◌==◌, ◌<◌, ◌≤◌, false, true, None, [], List, IfOk, IsSome, OnErr, OnOk, is_err};
-ghost use Rattle.profile.specs.images.Entries.{Entry};
+ghost use Rattle.std.specs.Prelude.{◌≡◌, ◌&&◌, false, true, [], IfOk, IsSome, is_err};
 ghost use Rattle.std.specs.Option.{option_map};
 ghost use Rattle.profile.specs.Outcome.{Leaves};
-ghost use Rattle.swi_dispatch_guest.specs.Ending.{Ends, StandsAfter};
-ghost use Rattle.swi_dispatch_guest.specs.Run.{last_or, silent_last, silent_run, ran};
 ghost use Rattle.swi_dispatch_guest.specs.Step.{machine_step, module_loaded, store_called};
 
 use crate::boot_error::BootError;
 use crate::calls::Output;
 use crate::guest::{Guest, without_x_bit};
-use crate::running::Ran;
-use arm_core::breaks::Breaks;
 use arrayvec::ArrayVec;
 use profile::images::Images;
 use profile::memory_map::PAGE_SIZE;
-use profile::{Config, Sink, Stop, WriteFault};
+use profile::{Config, Stop};
 use std::alloc::{AllocError, Global};
 use std::marker::Model;
 
@@ -49,8 +44,8 @@ impl Model for Machine {
 
 impl Machine {
     ghost use Rattle.swi_dispatch_guest.specs.Boot.{machine_after_boot};
-    ghost use Rattle.swi_dispatch_guest.specs.Value.{HasRun, IsAfterStep, IsBesides, IsMachine};
-    ghost use Rattle.swi_dispatch_guest.specs.GuestState.{AreCoreSteps, AwaitsOtherTurn, state_of};
+    ghost use Rattle.swi_dispatch_guest.specs.Value.{IsAfterStep, IsBesides, IsMachine};
+    ghost use Rattle.swi_dispatch_guest.specs.GuestState.{state_of};
     ghost use Rattle.swi_dispatch_guest.specs.MachineState.{machine_start, silent, stop_of};
 
     /// A machine of these sizes at its start: user mode at &8000, each register 0 but the stack
@@ -165,68 +160,6 @@ impl Machine {
         }
         self.guest.load_here(images, text);
         self.known_stop()
-    }
-
-    /// Takes steps and writes what each prints, until the machine is halted, or the new program
-    /// counter is among the breaks, or `budget` steps are taken, tested in that order after each
-    /// step. A start on a break isn't tested. A halted machine takes no step.
-    ///
-    /// # Errors
-    ///
-    /// `WriteFault` where the sink failed; the machine then stands after the step whose output
-    /// failed.
-    pub fn run<W: Sink>(
-        &mut self,
-        images: &Images,
-        breaks: &Breaks,
-        sink: &mut W,
-        budget: u64,
-    ) -> Result<Ran, WriteFault>
-        ensures ends { IfOk result (λ r. Ends (ran images.now breaks.now budget (state_of self.old.guest))
-            (state_of self.new.guest) self.old.printed self.new.printed
-            (W.contents sink.old) (W.contents sink.new) r.taken r.stop) }
-        ensures count { IfOk result (λ r. r.taken ≤ budget) }
-        ensures rest { HasRun self.old self.new (budget == 0) }
-        ensures kept { IsMachine self.new }
-        ensures stands { OnErr result (StandsAfter images.now breaks.now budget (state_of self.old.guest)
-            (state_of self.new.guest) self.new.printed (W.contents sink.old) (W.contents sink.new)) }
-        ensures flag { OnErr result (W.has_failed sink.new ≡ true) }
-        ensures same_flag { OnOk result (W.has_failed sink.new ≡ W.has_failed sink.old) }
-    {
-        self.is_fresh &= budget == 0;
-        let ran = self
-            .guest
-            .run(images, breaks, &mut self.printed, sink, budget);
-        self.known();
-        ran
-    }
-
-    /// Takes up to so many steps of a machine that isn't halted, as long as each is an instruction
-    /// that neither prints nor halts it, and no further than to a break. A start on a break isn't
-    /// tested. The stop is `Budget` where another step may come next: after fewer steps than were
-    /// asked for, one that is no such instruction.
-    pub fn run_silently(&mut self, breaks: &Breaks, most: u64) -> Ran
-        requires some { 0 < most }
-        requires unhalted { (state_of self.old.guest).halt ≡ None }
-        ensures ran { (images : List Entry) → ran images breaks.now result.taken (state_of self.old.guest)
-            ≡ silent_run (state_of self.new.guest) result.taken result.stop }
-        ensures steps { AreCoreSteps result.taken (state_of self.old.guest) (state_of self.new.guest) }
-        ensures unhalted { (state_of self.new.guest).halt ≡ None }
-        ensures count { result.taken ≤ most }
-        ensures further { result.stop ≡ Stop.Budget → result.taken < most
-            → AwaitsOtherTurn (state_of self.new.guest) }
-        ensures rest { HasRun self.old self.new (result.taken == 0) }
-        ensures printed { self.new.printed ≡ last_or self.old.printed (silent_last result.taken) }
-        ensures kept { IsMachine self.new }
-    {
-        let (taken, next) = self.guest.run_silently(breaks, &mut self.printed, most);
-        self.is_fresh &= taken == 0;
-        self.known();
-        let stop = match next {
-            Ok(_) => Stop::Budget,
-            Err(stop) => stop,
-        };
-        Ran { stop, taken }
     }
 
     /// What holds of every machine, whatever its guest does. The call does nothing but say so.

@@ -30,29 +30,16 @@ impl Guest {
     {
         match planned {
             Ok(plan) => {
-                let ended = self.carry_first(call, plan);
+                let mut plan = plan;
+                let code = self
+                    .instances
+                    .carry(&mut self.memory, &self.areas, &mut plan, Outcome::Well);
+                let (kept, ended) = open_code(&mut self.cpu, &mut self.frames, call, plan, code);
+                self.plan = kept;
                 self.finish(call, ended);
             }
             Err(error) => self.refuse_call(call, error),
         }
-    }
-
-    // What the plan of a new call does first. Answers the plan if it has ended; else it is kept,
-    // and its code runs.
-    fn carry_first(&mut self, call: Call, plan: Plan) -> Option<Plan>
-        requires begins { CanBegin (setting_of (state_of self.old)) plan }
-        ensures state { state_of self.new ≡ state_with_code_entered (state_of self.old) call
-            (module_state_carried (machine_module_state (state_of self.old)) plan) }
-        ensures ended { result ≡ ended_of (module_state_carried (machine_module_state (state_of self.old))
-            plan) }
-    {
-        let mut plan = plan;
-        let code = self
-            .instances
-            .carry(&mut self.memory, &self.areas, &mut plan, Outcome::Well);
-        let (kept, ended) = open_code(&mut self.cpu, &mut self.frames, call, plan, code);
-        self.plan = kept;
-        ended
     }
 
     /// A call goes back if its plan has ended: nothing of it is left then.
