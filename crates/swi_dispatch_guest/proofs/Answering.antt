@@ -1,9 +1,11 @@
 -- A call's answer, and then what the machine does with it, are the written call.
-use Rattle.std.proofs.Common.{◌≡◌, ℕ, Bool, true, false, List, [], Ok, Err, refl, sym, ◌∙◌, ap}
+use Rattle.std.proofs.Common.{◌≡◌, ℕ, Bool, true, false, List, [], Result, Ok, Err, Some, refl, sym, ◌∙◌, ap}
+use Rattle.std.specs.Prelude.{OnErr}
+use Rattle.profile.specs.Outcome.{Leaves}
 use Rattle.swi_dispatch_answers.specs.declared.refusal.Refusal.{Refusal}
 use Rattle.swi_dispatch_answers.specs.declared.frames.call.Call.{Call}
 use Rattle.swi_dispatch_guest.specs.MachineState.{MachineState, StepOutcome, outcome_with, silent}
-use Rattle.swi_dispatch_guest.specs.Answers.{Answer}
+use Rattle.swi_dispatch_guest.specs.Answers.{Answer, went_on}
 use Rattle.swi_dispatch_guest.specs.GuestState.{Answers}
 use Rattle.swi_dispatch_guest.specs.Step.{call_of, outcome_of_answer, outcome_of_end}
 use Rattle.swi_dispatch_guest.specs.Returns.{gone_back, error_answered, outcome_of_error}
@@ -37,3 +39,23 @@ ended_error s mid new printed a call after e given same made unmoved unprinted e
     ∙ (λ i. outcome_of_error mid ((same i).is_x) (error_answered (psr i) (left i) (given.next i) e))
     ∙ erred_same s mid call.is_x (error_answered s.cpu.psr a.left a.next e) unmoved
     ∙ sym (ap (outcome_of_end s call.is_x a) given.error)
+
+-- a call that goes on with what it leaves, or leaves all as it was and errs
+went_by : (s t : MachineState) (next : ℕ) (r : Result MachineState Refusal) (x : Result (Unit {0}) Refusal)
+    → Leaves {U = Unit {0}} s r x t → Answers (went_on s next r) next x (silent t)
+went_by s t next (Ok u) (Ok v) left = record { left = ap silent left; next = refl; error = refl }
+went_by s t next (Err f) (Err e) left = record { left = ap silent left.1; next = refl; error = ap Some (sym left.0) }
+went_by s t next (Ok u) (Err e) left = absurd left
+went_by s t next (Err f) (Ok v) left = absurd left
+
+pub went_answers : (s t : MachineState) (next : ℕ) (a : Answer) (r : Result MachineState Refusal) (x : Result (Unit {0}) Refusal) (printed : List ℕ)
+    → a ≡ went_on s next r → printed ≡ [] → Leaves {U = Unit {0}} s r x t → Answers a next x (outcome_with t printed)
+went_answers s t next a r x printed is unprinted left = rw (is, unprinted) (went_by s t next r x left)
+
+-- what errs leaves all as it was
+pub went_unmoved : (s t : MachineState) (r : Result MachineState Refusal) (x : Result (Unit {0}) Refusal) (P : Type 0)
+    → Leaves {U = Unit {0}} s r x t → OnErr x (P → t ≡ s)
+went_unmoved s t (Ok u) (Ok v) P left = tt
+went_unmoved s t (Err f) (Err e) P left = λ p. left.1
+went_unmoved s t (Ok u) (Err e) P left = absurd left
+went_unmoved s t (Err f) (Ok v) P left = absurd left

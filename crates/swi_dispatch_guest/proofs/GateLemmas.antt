@@ -26,7 +26,7 @@ use Rattle.swi_dispatch_answers.specs.declared.frames.call.Call.{Call}
 use Rattle.swi_dispatch_answers.specs.declared.frames.frame.Frame.{Frame}
 use Rattle.profile.specs.declared.fault.Fault.TheVariants.{ErrorStop}
 use Rattle.swi_dispatch_guest.specs.declared.halt.Halt.TheVariants as halt
-use Rattle.swi_dispatch_guest.specs.Gates.{Resumes, come_back, ended_of, fault_kept, state_after_plan, kept_by, state_with_code_entered, outcome_left, plan_left, with_code}
+use Rattle.swi_dispatch_guest.specs.Gates.{Resumes, carried_on, come_back, ended_of, fault_kept, state_after_plan, kept_by, state_with_code_entered, outcome_left, plan_left, with_code}
 use Rattle.swi_dispatch_plans.specs.Trials.{module_state_carried}
 use Rattle.swi_dispatch_guest.specs.MachineState.{MachineState, StepOutcome, machine_module_state, silent, with_module_state}
 use Rattle.swi_dispatch_guest.specs.Additions.{Starts, planned_of}
@@ -34,6 +34,7 @@ use Rattle.swi_dispatch_guest.specs.Carried.{CodeUnderWay, IsCarriedNext}
 use Rattle.swi_dispatch_guest.specs.OpenFrames.{AreFrames}
 use Rattle.swi_dispatch_guest.specs.GuestState.{IsWellFormed, GuestState, parts_module_state}
 use Rattle.swi_dispatch_guest.specs.Returns.{outcome_of_halt}
+use Rattle.swi_dispatch_guest.specs.Step.{begun_alone, call_of, outcome_of_planned}
 use Rattle.swi_dispatch_plans.specs.flex.Ground.{HasFlex}
 use Rattle.instances.specs.flex_frame.Keeping.{KeepsFlex}
 use Rattle.swi_dispatch_guest.proofs.CarriedFrames.{AreBeneath, opened_frames}
@@ -151,6 +152,15 @@ pub ended_carried : (m n : AddressMap) (area_table : AreaTable) (old new : List 
     → carry_of_plan module_doing (module_state_of m area_table old) (plan_after_code p o) ≡ c → plans.1 ≡ ended_of c
 ended_carried m n area_table old new before after call p o plans c next is =
     ap (λ (r : Option Plan × Option Plan). r.1) next.plans ∙ ap ended_of (sym next.carried ∙ is)
+
+-- a call that begins with its plan made
+pub begun_by : (s mid new : MachineState) (call : Call) (p : Plan) (ended : Option Plan) → call ≡ call_of s call.is_x call.next false
+    → mid ≡ state_with_code_entered s call (module_state_carried (machine_module_state s) p)
+    → ended ≡ ended_of (module_state_carried (machine_module_state s) p) → new ≡ state_after_plan mid call ended
+    → silent new ≡ begun_alone s call.is_x call.next (Ok p)
+unfolding outcome_of_planned
+begun_by s mid new call p ended made opened last after =
+    ap silent (after ∙ (λ i. state_after_plan (opened i) call (last i))) ∙ ap (λ (d : Call). silent (carried_on s d p)) made
 
 pub resumes_by : (s t : MachineState) (f : Frame) (o : CodeOutcome) (kept ended : Option Plan) (p : Plan)
     → kept ≡ Some p → (let c = module_state_carried (machine_module_state s) (plan_after_code p o) in

@@ -2,6 +2,7 @@ pub use Rattle.os_heap.proofs.Found
 pub mod Answering
 pub mod AreaAnswers
 pub mod Beginning
+pub mod CallAnswers
 pub mod CarriedFrames
 pub mod ErrorNumbers
 pub mod FlexCalls

@@ -137,7 +137,7 @@ impl Guest {
     }
 
     // What the call itself does; it may move the place where the guest goes on.
-    #[tactic(auto, using(crate::proofs::AreaAnswers::errs_moving), unfolding(crate::specs::Calls::call_answer))]
+    #[tactic(auto, unfolding(crate::specs::Calls::call_answer))]
     fn perform(
         &mut self,
         output: &mut Output,

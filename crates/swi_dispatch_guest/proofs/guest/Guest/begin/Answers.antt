@@ -5,9 +5,9 @@ use Rattle.swi_dispatch_guest.specs.MachineState.{MachineState, setting_of}
 use Rattle.swi_dispatch_guest.specs.GuestState.{GuestState, state_of}
 use Rattle.swi_dispatch_guest.proofs.NextEntry.{carried_next}
 use Rattle.swi_dispatch_guest.proofs.Kept.{over}
-use Rattle.swi_dispatch_guest.proofs.GateLemmas.{carried_well, ended_carried, first_carried, state_opened}
+use Rattle.swi_dispatch_guest.proofs.GateLemmas.{begun_by, carried_well, ended_carried, first_carried, state_opened}
 use Rattle.swi_dispatch_guest.proofs.CarriedFrames.{begun_beneath}
-use Rattle.swi_dispatch_guest.proofs.guest.Guest.carry_first.Goals as goal
+use Rattle.swi_dispatch_guest.proofs.guest.Guest.begin.Goals as goal
 
 pub invariant_of-self : goal.invariant_of-self
 invariant_of-self c =
@@ -24,12 +24,13 @@ invariant_of-self c =
       flex = c.self.inside.flex;
     })
     c.self.inside.halt in
-    let begins = subst (λ (p : GuestState). CanBegin (setting_of (state_of p)) c.args.plan) (sym c.self.view_is) c.requires.begins in
+    let may = rw c.in-Ok.is at c.requires.begins in
+    let begins = subst (λ (p : GuestState). CanBegin (setting_of (state_of p)) c.in-Ok.plan) (sym c.self.view_is) may in
     carried_well _ _ _ _ _ _ _ _ _ _ next refl (begun_beneath before _ begins) c.self.invariant (keeps_same _) refl
     c.self.invariant.sized
 
-pub returns-clause-state : goal.returns-clause-state
-returns-clause-state c =
+pub returns-in-Ok : goal.returns-in-Ok
+returns-in-Ok c =
     let carries = c.carry-code.ensures in
     let opens = c.open_code-kept.ensures in
     let next = carried_next _ _ _ _ _ _ _ _ _ c.args.call _ _ _ _ _ carries.carried carries.ended carries.going carries.others carries.classes carries.flex
@@ -43,12 +44,8 @@ returns-clause-state c =
       flex = c.self.inside.flex;
     })
     c.self.inside.halt in
-    rw (← c.self.view_is) (state_opened before _ _ _ _ _ _ _ _ _ _ _ next (first_carried _ _ c.requires.begins.rests))
-
-pub returns-clause-ended : goal.returns-clause-ended
-returns-clause-ended c =
-    let carries = c.carry-code.ensures in
-    let opens = c.open_code-kept.ensures in
-    let next = carried_next _ _ _ _ _ _ _ _ _ c.args.call _ _ _ _ _ carries.carried carries.ended carries.going carries.others carries.classes carries.flex
-    opens.core opens.frames opens.plans in
-    rw (← c.self.view_is) (ended_carried _ _ _ _ _ _ _ _ _ _ _ _ next (first_carried _ _ c.requires.begins.rests))
+    let may = rw c.in-Ok.is at c.requires.begins in
+    let first = first_carried _ _ may.rests in
+    let made = rw (← c.self.view_is) at c.requires.made in
+    rw (c.in-Ok.is, ← c.self.view_is) (begun_by before _ _ c.args.call c.in-Ok.plan _ c.requires.made
+    (state_opened before _ _ _ _ _ _ _ _ _ _ _ next first) (ended_carried _ _ _ _ _ _ _ _ _ _ _ _ next first) c.finish.ensures)
