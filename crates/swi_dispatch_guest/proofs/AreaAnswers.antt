@@ -1,4 +1,5 @@
--- OS_ChangeDynamicArea that errs is a fault without the X bit, before anything moves.
+-- OS_ChangeDynamicArea: what it answers, and that without the X bit it is a fault before anything
+-- moves.
 use Rattle.profile.specs.MemoryMap.{error_block_start}
 use Rattle.std.proofs.Common.{◌≡◌, ℕ, true, false, length, List, [], Option, Some, None, Result, Ok, Err, refl, sym, ◌∙◌, ap}
 use Rattle.std.proofs.lemmas.List.{length-set}
@@ -24,6 +25,25 @@ use Rattle.swi_dispatch_guest.specs.GuestState.{Answers, IsWellFormed, GuestStat
 use Rattle.swi_dispatch_guest.specs.Step.{outcome_of_answer, outcome_of_end}
 use Rattle.swi_dispatch_guest.specs.Returns.{outcome_of_halt}
 use Rattle.swi_dispatch_guest.proofs.ErrorNumbers.{block_read}
+
+-- what it answers, wherever the guest goes on
+abbrev Changes : MachineState → MachineState → Result (Unit {0}) Refusal → Type 0
+Changes s t r = (next : ℕ) → Answers (area_changing s next) next r (silent t)
+
+pub change_answers : (s t : MachineState) (next number : ℕ) (name : Option SwiName) (r : Result (Unit {0}) Refusal) (printed : List ℕ)
+    → name ≡ Some swi.ChangeDynamicArea → Changes s t r → printed ≡ []
+    → Answers (call_answer s next number name) next r (outcome_with t printed)
+unfolding call_answer
+change_answers s t next number name r printed is done unprinted = rw (is, unprinted) (done next)
+
+-- where it errs something may have moved
+pub errs_moving : (s t : MachineState) (name : Option SwiName) (r : Result (Unit {0}) Refusal) → name ≡ Some swi.ChangeDynamicArea
+    → Changes s t r → OnErr r (moving_error s name ≡ None → t ≡ s)
+errs_moving s t name (Ok u) is done = tt
+errs_moving s t name (Err e) is done = λ still.
+    let none : (change_asked s.cpu (machine_area_store s)).error ≡ None = sym (ap (moving_error s) is) ∙ still in
+    let some : None ≡ Some e = sym (ap (option_map refusal.System) none) ∙ (done 0).error in
+    absurd (let never = some in cc)
 
 size_set : (s : State) (n v : ℕ) → length (with_register s n v).file ≡ length s.file
 size_set s n v = length-set s.file (slot_of s.psr.mode n) v

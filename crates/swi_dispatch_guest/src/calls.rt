@@ -2,9 +2,12 @@
 
 ghost use Rattle.std.specs.Prelude.{ℕ, ◌≡◌, ◌<◌, ◌≤◌, ◌^◌, false, [], None, Some, OnErr};
 ghost use Rattle.profile.specs.ErrorNames.{error_code};
+ghost use Rattle.profile.specs.Outcome.{Leaves};
 ghost use Rattle.profile.specs.declared.error.ErrorNumber.{ErrorNumber};
 ghost use Rattle.profile.specs.declared.fault.Fault.TheVariants.{ErrorStop};
 ghost use Rattle.swi_dispatch_answers.specs.declared.frames.call.Call.{Call};
+ghost use Rattle.swi_dispatch_plans.specs.flex.Calls.{flex_called};
+ghost use Rattle.swi_dispatch_plans.specs.store.Areas.{area_changed, change_asked};
 ghost use Rattle.swi_dispatch_guest.specs.Step.{call_of, is_exit, os_module_called, outcome_of_answer, outcome_of_call};
 
 use crate::guest::Guest;
@@ -29,9 +32,10 @@ pub type Output = ArrayVec<u8, MOST_PRINTED>;
 
 impl Guest {
     ghost use Rattle.swi_dispatch_guest.specs.Answers.{with_answer};
-    ghost use Rattle.swi_dispatch_guest.specs.Calls.{call_answer, machine_in_supervisor, moving_error, printable_at, wrote_text_after, wrote_text_at};
+    ghost use Rattle.swi_dispatch_guest.specs.Calls.{area_changing, call_answer, machine_flex, machine_in_supervisor, moving_error, on_flex};
+    ghost use Rattle.swi_dispatch_guest.specs.Calls.{printable_at, with_guest, wrote_text_after, wrote_text_at};
     ghost use Rattle.arm_core.specs.State.{register_of};
-    ghost use Rattle.swi_dispatch_guest.specs.MachineState.{outcome_with};
+    ghost use Rattle.swi_dispatch_guest.specs.MachineState.{machine_area_store, outcome_with, silent};
     ghost use Rattle.swi_dispatch_guest.specs.GuestState.{Answers, state_of};
     ghost use Rattle.swi_dispatch_guest.specs.Returns.{gone_back, outcome_of_halt};
 
@@ -137,7 +141,7 @@ impl Guest {
     }
 
     // What the call itself does; it may move the place where the guest goes on.
-    #[tactic(auto, unfolding(crate::specs::Calls::call_answer))]
+    #[tactic(auto, using(crate::proofs::AreaAnswers::errs_moving), unfolding(crate::specs::Calls::call_answer))]
     fn perform(
         &mut self,
         output: &mut Output,
@@ -171,14 +175,7 @@ impl Guest {
                 &mut self.areas,
                 &mut self.instances,
             ),
-            // Pages move even where not all can.
-            Some(SwiName::ChangeDynamicArea) => {
-                let error = change_area(&mut self.cpu, &mut self.memory, &mut self.areas);
-                return match error {
-                    None => Ok(()),
-                    Some(error) => Err(Refusal::System(error)),
-                };
-            }
+            Some(SwiName::ChangeDynamicArea) => return self.change_area(),
             Some(SwiName::ReadDynamicArea) => return read_area(
                 &mut self.cpu,
                 &self.memory,
@@ -191,12 +188,38 @@ impl Guest {
             ),
             Some(SwiName::GenerateError) => return Err(self.own_error()),
             Some(SwiName::WriteI) => output.push((number % 256) as u8),
-            _ => {
-                self.instances.count();
-                return call_flex(&mut self.cpu, &mut self.memory, &mut self.flex, name);
-            }
+            _ => return self.call_flex(name),
         }
         Ok(())
+    }
+
+    // OS_ChangeDynamicArea. Pages move even where not all can.
+    fn change_area(&mut self) -> Result<(), Refusal>
+        ensures { (next : ℕ) → Answers (area_changing (state_of self.old) next) next result
+            (silent (state_of self.new)) }
+    {
+        match self.resize_area() {
+            None => Ok(()),
+            Some(error) => Err(Refusal::System(error)),
+        }
+    }
+
+    fn resize_area(&mut self) -> Option<ErrorNumber>
+        ensures error { let s = state_of self.old in result ≡
+            (change_asked s.cpu (machine_area_store s)).error }
+        ensures state { let s = state_of self.old in
+            (state_of self.new) ≡ with_guest s (area_changed s.cpu (machine_area_store s)) }
+    {
+        change_area(&mut self.cpu, &mut self.memory, &mut self.areas)
+    }
+
+    // A flex call by its name; any other is unknown.
+    fn call_flex(&mut self, name: Option<SwiName>) -> Result<(), Refusal>
+        ensures { let s = state_of self.old in
+            Leaves s (on_flex s (flex_called s.cpu (machine_flex s) name)) result (state_of self.new) }
+    {
+        self.instances.count();
+        call_flex(&mut self.cpu, &mut self.memory, &mut self.flex, name)
     }
 
     // The error with which a call would end after it changed something. Without the X bit it is a

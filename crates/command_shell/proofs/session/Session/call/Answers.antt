@@ -22,8 +22,8 @@ returns-in-Some-clause-reported g c =
     (stop_answer w end) (call_made w first)
     (call_refused w first end (sym (c.stop_before_step.ensures images) ∙ c.in-Some.is)) (c.stopped.ensures.reported images)
 
-pub returns-in-None-clause-reported : goal.returns-in-None-clause-reported
-returns-in-None-clause-reported g c =
+pub returns-in_ok-begin_call-in-None-clause-reported : goal.returns-in_ok-begin_call-in-None-clause-reported
+returns-in_ok-begin_call-in-None-clause-reported g c =
     let images = c.args.images.now in
     let w = script_state c.args.self.now images in
     let first = first_step w c.args.call in
