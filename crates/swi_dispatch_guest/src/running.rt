@@ -1,9 +1,10 @@
 //! One step of a guest; and the machine's runs of steps, within a budget and up to a break, of all
 //! kinds or only of instructions that the core does by itself, and what they print.
 
-ghost use Rattle.std.specs.Prelude.{◌≡◌, ◌<◌, ◌==◌, ◌≤◌, ◌↔◌, None, Some, List, [], true, IsTrue, IfOk, OnOk, OnErr};
+ghost use Rattle.std.specs.Prelude.{◌≡◌, ◌≢◌, ◌<◌, ◌==◌, ◌≤◌, ◌↔◌, None, Some, Err, List, [], true, IsTrue, IfOk, OnOk, OnErr};
+ghost use Rattle.arm_core.specs.declared.turn.StepEnd.TheVariants.{Done};
 ghost use Rattle.swi_dispatch_guest.specs.GuestState.{AreCoreSteps, AwaitsOtherTurn, IsGuest, TakesTurn, state_of};
-ghost use Rattle.swi_dispatch_guest.specs.Run.{ran, stop_after, count_after, last_or, silent_run, silent_last};
+ghost use Rattle.swi_dispatch_guest.specs.Run.{ran, stop_after, count_after, last_or, silent_run, silent_last, silent_stop};
 ghost use Rattle.swi_dispatch_guest.specs.MachineState.{outcome_with};
 ghost use Rattle.swi_dispatch_guest.specs.Step.{machine_step};
 ghost use Rattle.std.specs.Io.KnownBytes.{Appends};
@@ -116,15 +117,7 @@ impl Machine {
         ensures printed { self.new.printed ≡ last_or self.old.printed (silent_last result.taken) }
         ensures kept { IsMachine self.new }
     {
-        let guest = &mut self.guest;
-        let (taken, next) = run(
-            &mut guest.cpu,
-            &mut guest.memory,
-            &mut guest.ready,
-            breaks,
-            most,
-        );
-        clear_after(&mut self.printed, taken);
+        let (taken, next) = self.guest.run_silently(breaks, &mut self.printed, most);
         self.is_fresh &= taken == 0;
         self.known();
         let stop = match next {
@@ -136,6 +129,8 @@ impl Machine {
 }
 
 impl Guest {
+    ghost use Rattle.swi_dispatch_plans.specs.Entries.{Entry};
+
     /// Takes one step of a guest that isn't halted: an instruction or a store call.
     pub(crate) fn step(&mut self, images: &Images, output: &mut Output)
         requires unhalted { (state_of self.old).halt ≡ None }
@@ -143,17 +138,44 @@ impl Guest {
         ensures { outcome_with (state_of self.new) output.new.items
             ≡ machine_step images.now (state_of self.old) }
     {
-        let (_, next) = run(
-            &mut self.cpu,
-            &mut self.memory,
-            &mut self.ready,
-            &Breaks::new(),
-            1,
-        );
+        let (_, next) = self.run_silently(&Breaks::new(), output, 1);
         match next {
             Ok(turn) => self.after_turn(images, output, turn),
             Err(_) => {}
         }
+    }
+
+    /// Takes up to so many steps, as long as each is an instruction that the core does by itself,
+    /// which prints nothing and halts nothing, and no further than to a break. Answers how many,
+    /// and the turn that comes next where that is another, or why a run of these steps ends.
+    pub(crate) fn run_silently(
+        &mut self,
+        breaks: &Breaks,
+        output: &mut Output,
+        most: u64,
+    ) -> (u64, Result<StepEnd, Stop>)
+        requires some { 0 < most }
+        requires unhalted { (state_of self.old).halt ≡ None }
+        ensures ran { (images : List Entry) → ran images breaks.now result.0 (state_of self.old)
+            ≡ silent_run (state_of self.new) result.0 (silent_stop result.1) }
+        ensures steps { AreCoreSteps result.0 (state_of self.old) (state_of self.new) }
+        ensures output { output.new.items ≡ last_or output.old.items (silent_last result.0) }
+        ensures next { IfOk result.1 (λ turn. TakesTurn (state_of self.new) turn (state_of self.new)) }
+        ensures other { IfOk result.1 (λ turn. turn ≢ Done) }
+        ensures fewer { OnOk result.1 (result.0 < most) }
+        ensures all { result.1 ≡ Err Stop.Budget → result.0 ≡ most }
+        ensures unhalted { (state_of self.new).halt ≡ None }
+        ensures most { result.0 ≤ most }
+    {
+        let silent = run(
+            &mut self.cpu,
+            &mut self.memory,
+            &mut self.ready,
+            breaks,
+            most,
+        );
+        clear_after(output, silent.0);
+        silent
     }
 
     // A run of one step of a guest that isn't halted, by the turn that comes next.
