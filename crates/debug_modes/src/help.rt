@@ -26,6 +26,7 @@ lines of a debugging script:
   LAST STEPS n                               the last n steps, as TRACE shows them
   FORGET name, REPEAT n line                 an image goes; a line, n times
   INCLUDE file                               the lines of a file, in its place
+  SAVE name file, SAVE a n file              an image, or bytes of memory, to a file
   TRACE line, TRACE n, TRACE ON, TRACE OFF   steps shown one by one; TRACE LIMIT n of a line
   STEP                                       STEP 1
   TRACE LAST n                               RUN, of which the last n steps are shown

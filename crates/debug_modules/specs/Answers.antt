@@ -25,7 +25,7 @@ use Rattle.debug_modules.specs.Describing.{module_described, module_meant}
 use Rattle.debug_modules.specs.Entering.{module_code_entered}
 use Rattle.debug_modules.specs.Listing.{commands_text}
 use Rattle.debug_modules.specs.Plans.{command_plan, tail_address, tail_bytes}
-use Rattle.debug_modules.specs.Requests.{Command, Commands, Compare, Description, Explain, Form, Listing, ModuleAsked, ModuleView, Needs, Service, module_request}
+use Rattle.debug_modules.specs.Requests.{Command, Commands, Compare, Description, Explain, Form, Listing, ModuleAsked, ModuleView, Service, module_request}
 use Rattle.debug_modules.specs.Services.{is_served, service_called}
 use Rattle.debug_modules.specs.Taking.{LineSteps}
 use Rattle.debug_modules.specs.declared.answering.ModuleAnswer.{ModuleAnswer}
@@ -118,7 +118,6 @@ mode_shown s p a = only_shown a.modes s p a.text
 
 -- what is only shown
 abbrev pub view_shown : DebugModes → List ImageLabels → List Entry → ScriptState → ModuleView → List ℕ
-view_shown m labels sources s (Needs text) = text ++ codes "\n"
 view_shown m labels sources s Commands = commands_text s.machine
 view_shown m labels sources s (Listing name) =
     listing_text m.counts (bytes_of_image s.images name) (bytes_of_image sources name)

@@ -9,10 +9,9 @@ use Rattle.instances_table.specs.declared.parts.ModuleInfo.{ModuleInfo}
 use Rattle.debug_modules.specs.declared.requests.ModuleRequest.{ModuleRequest}
 use Rattle.debug_modules.specs.declared.requests.ModuleRequest.TheVariants as line
 
--- what is only shown: what a line needs, the commands of all modules, the listing of an image, where the images of
--- two names differ, or what a module says of itself
+-- what is only shown: the commands of all modules, the listing of an image, where the images of two names differ, or
+-- what a module says of itself
 pub data ModuleView : Type 0 where
-  Needs : List ℕ → ModuleView
   Commands : ModuleView
   Listing : List ℕ → ModuleView
   Compare : List ℕ → List ℕ → ModuleView
@@ -36,7 +35,6 @@ module_request_of line.Commands = Form Commands
 module_request_of (line.Explain is_on) = Explain is_on
 module_request_of (line.Listing name) = Form (Listing name.now)
 module_request_of (line.Compare one other) = Form (Compare one.now other.now)
-module_request_of (line.Form text) = Form (Needs text.now)
 
 -- the word before the first space (32), and what stands behind that
 abbrev pub behind_place : Option ℕ → List ℕ → List ℕ
@@ -64,23 +62,13 @@ compare_request text = let other = text_behind_word text in
     if length other == 0 || is_some (position (λ b. b == 32) other) then None
     else Some (Form (Compare (word_in_front text) other))
 
--- `COMMANDS`, `WHY ON`, `WHY OFF`, `HELP COMMANDS`, `HELP LISTING`, `HELP COMMAND`, `HELP SERVICE`,
--- `HELP COMPARE`
+-- `COMMANDS`, `WHY ON`, `WHY OFF`
 abbrev pub whole_request : List ℕ → Option ModuleAsked
 whole_request line =
     if is_same_word line (codes "COMMANDS") then Some (Form Commands) else (
     if is_same_word line (codes "WHY ON") then Some (Explain true) else (
-    if is_same_word line (codes "WHY OFF") then Some (Explain false) else (
-    if is_same_word line (codes "HELP COMMANDS") then Some (Form (Needs (codes "COMMANDS stands alone"))) else (
-    if is_same_word line (codes "HELP LISTING") then Some (Form (Needs
-    (codes "LISTING wants the name of an image, as LISTING main"))) else (
-    if is_same_word line (codes "HELP COMMAND") then Some (Form (Needs
-    (codes "COMMAND wants a module's command, with what stands behind it, as COMMAND PotSet 1 5"))) else (
-    if is_same_word line (codes "HELP SERVICE") then Some (Form (Needs
-    (codes "SERVICE wants a number, and may have a module's title, as SERVICE &27 Pots"))) else (
-    if is_same_word line (codes "HELP COMPARE") then Some (Form (Needs
-    (codes "COMPARE wants the names of two images, as COMPARE mine original"))) else
-    None)))))))
+    if is_same_word line (codes "WHY OFF") then Some (Explain false) else
+    None))
 
 -- what a tidy line asks for, if it has to do with the code of modules or with the errors of calls
 abbrev pub compare_asked : List ℕ → Option (List ℕ) → Option ModuleAsked

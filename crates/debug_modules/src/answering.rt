@@ -18,7 +18,7 @@ use debug_labels::LabelTable;
 use debug_labels::place_views::names_on;
 use debug_lines::DebugView;
 use debug_listing::listing_text;
-use debug_modes::{DebugModes, form_line, refused_line, view_text};
+use debug_modes::{DebugModes, refused_line, view_text};
 use debug_runs::LineAnswer;
 use debug_tables::byte_writes::put_bytes;
 use debug_tables::run_meter::Session;
@@ -92,9 +92,6 @@ pub fn answer_module_line(
         }
         Some(ModuleRequest::Compare(one, other)) => {
             Ok(Some(ModuleAnswer::Shown(images_compared(alloc, images, one, other)?)))
-        }
-        Some(ModuleRequest::Form(text)) => {
-            Ok(Some(ModuleAnswer::Shown(form_line(alloc, text)?)))
         }
         None => match module_meant(session.machine(), line) {
             Some(info) => {

@@ -24,8 +24,6 @@ pub enum ModuleRequest<'a> {
     Listing(&'a [u8]),
     /// `COMPARE name other`: where the images of two names differ.
     Compare(&'a [u8], &'a [u8]),
-    /// `HELP COMMAND`, `HELP SERVICE`: what such a line needs.
-    Form(&'a [u8]),
 }
 
 /// What a tidy line asks for, if it has to do with the code of modules or with the errors of calls.
@@ -57,22 +55,6 @@ fn whole_request(line: &[u8]) -> Option<ModuleRequest<'static>>
         Some(ModuleRequest::Explain(true))
     } else if line.eq_ignore_ascii_case(b"WHY OFF") {
         Some(ModuleRequest::Explain(false))
-    } else if line.eq_ignore_ascii_case(b"HELP COMMANDS") {
-        Some(ModuleRequest::Form(b"COMMANDS stands alone"))
-    } else if line.eq_ignore_ascii_case(b"HELP LISTING") {
-        Some(ModuleRequest::Form(b"LISTING wants the name of an image, as LISTING main"))
-    } else if line.eq_ignore_ascii_case(b"HELP COMMAND") {
-        Some(ModuleRequest::Form(
-            b"COMMAND wants a module's command, with what stands behind it, as COMMAND PotSet 1 5",
-        ))
-    } else if line.eq_ignore_ascii_case(b"HELP SERVICE") {
-        Some(ModuleRequest::Form(
-            b"SERVICE wants a number, and may have a module's title, as SERVICE &27 Pots",
-        ))
-    } else if line.eq_ignore_ascii_case(b"HELP COMPARE") {
-        Some(ModuleRequest::Form(
-            b"COMPARE wants the names of two images, as COMPARE mine original",
-        ))
     } else {
         None
     }

@@ -41,6 +41,9 @@ FRAMES stands alone
 BACKTRACE stands alone
 BT stands alone
 LABELS stands alone
+COMMANDS stands alone
+LISTING wants the name of an image, as LISTING main
+COMPARE wants the names of two images, as COMPARE mine original
 WHY stands alone, or with ON or OFF
 RESET stands alone
 BACK stands alone, or with a number from 1 on, TO and a step or UNTIL and an address, as BACK UNTIL loop
@@ -49,9 +52,13 @@ WHEN stands alone
 LAST wants CHANGE, CLAIM or FREE and an address, CHANGE and BLOCK a, R0 or FLAGS, or STEPS and 1 to 1000
 FORGET wants the name of an image, as FORGET main
 REPEAT wants a number from 1 on and a line that opens no block, as REPEAT 3 STEP 1
+INCLUDE wants one file, as INCLUDE lib/heap.script; rosm_debug alone reads it
+SAVE wants an image, or an address and a number, and a file, as SAVE &9000 64 table; rosm_debug alone reads it
 TRACE wants a line that opens no block, or a number, ON, OFF, LIMIT n or LAST 1 to 64, as TRACE RUN
 FINISH stands alone
 GOSUB wants an address, as GOSUB &8010 or GOSUB routine
+COMMAND wants a module's command, with what stands behind it, as COMMAND PotSet 1 5
+SERVICE wants a number, and may have a module's title, as SERVICE &27 Pots
 PUT wants the name of an image and an address, as PUT table &9000
 STUB wants a SWI's number, registers, flags and words with values, or AT and an address, as STUB 6 R0 5 C=1
 UNSTUB wants a SWI's number, as UNSTUB 6
