@@ -47,11 +47,13 @@ is_extension other = false
 abbrev pub extends : Bool → GdbRequest → Bool
 extends was_extended asked = was_extended || is_extension asked
 
--- `D`
-abbrev pub is_leave : GdbRequest → Bool
-is_leave request.Detach = true
-is_leave other = false
+-- What a request asks for of another side that stays there: `D` ends the program alone, and `k`, which has no reply,
+-- begins it anew.
+abbrev pub staying : GdbRequest → GdbRequest
+staying request.Detach = request.KillProgram
+staying request.Kill = request.Restart
+staying other = other
 
--- In extended mode the other side stays there when the debugger goes: the program alone ends.
+-- In extended mode the other side stays there.
 abbrev pub meant_in : Bool → GdbRequest → GdbRequest
-meant_in is_extended asked = if is_extended && is_leave asked then request.KillProgram else asked
+meant_in is_extended asked = if is_extended then staying asked else asked

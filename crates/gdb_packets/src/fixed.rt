@@ -3,7 +3,7 @@
 
 ghost use Rattle.std.specs.Prelude.{◌≡◌, option_map};
 ghost use Rattle.gdb_packets.specs.Requests.{gdb_request, packet_request};
-ghost use Rattle.gdb_packets.specs.Fixed.{extends, fixed_reply as fixed_shown, is_leave, is_taken_so, keeps_acks, meant_in, threads_text};
+ghost use Rattle.gdb_packets.specs.Fixed.{extends, fixed_reply as fixed_shown, is_taken_so, keeps_acks, meant_in, staying, threads_text};
 ghost use Rattle.gdb_packets.specs.Ahead.{is_run_request};
 
 use crate::requests::{Request, request_of};
@@ -57,22 +57,26 @@ pub fn extends(was_extended: bool, request: &Request<'_>) -> bool
     was_extended || matches!(request, Request::Extended)
 }
 
-/// Reads a packet in a mode: where it is extended the debugger that goes ends the program alone.
+/// Reads a packet in a mode: where it is extended none ends the other side.
 pub fn request_in(is_extended: bool, packet: &[u8]) -> Request<'_>
     ensures { gdb_request result ≡ meant_in is_extended (packet_request packet.now) }
 {
     let request = request_of(packet);
-    if is_extended && is_leave(&request) {
-        Request::KillProgram
+    if is_extended {
+        staying(request)
     } else {
         request
     }
 }
 
-fn is_leave(request: &Request<'_>) -> bool
-    ensures { result ≡ is_leave (gdb_request request.now) }
+fn staying(request: Request<'_>) -> Request<'_>
+    ensures { gdb_request result ≡ staying (gdb_request request.entry) }
 {
-    matches!(request, Request::Detach)
+    match request {
+        Request::Detach => Request::KillProgram,
+        Request::Kill => Request::Restart,
+        _ => request,
+    }
 }
 
 /// Whether a request is a `run`, before which the files are read anew.

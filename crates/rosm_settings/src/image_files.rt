@@ -1,6 +1,7 @@
 //! Files taken in as images, and why one gives none.
 
-ghost use Rattle.std.specs.Prelude.{◌≡◌, ◌≤◌, [], ◌∷◌, ◌++◌, false, length, IfErr, IfOk, IfSome, IsErr, OnErr, OnOk, Ok, Some};
+ghost use Rattle.std.specs.Prelude.{◌≡◌, ◌<◌, ◌≤◌, [], ◌∷◌, ◌++◌, false, length, IfErr, IfOk, IfSome, OnErr, OnOk, Ok, Err, Some, None};
+ghost use Rattle.std.specs.IoError.{error_kind};
 ghost use Rattle.std.specs.Path.{path_file_name};
 ghost use Rattle.rosm_settings.specs.ImageFiles.{file_error as error_of, AddsFile, AddsFiles, AddsImageFile, RefusesFile, RefusesImage, StopsAtFile, front_of, is_host_error, names_for, names_of};
 ghost use Rattle.rosm_settings.specs.Texts.{rule_text};
@@ -184,7 +185,8 @@ pub fn file_front<R: fs::Files>(
 /// The file's, and `None`.
 pub fn script_text(read: io::Result<Vec<u8>>) -> Result<Vec<u8>, Option<FileError>>
     ensures read { IfOk read (λ text. length text.items ≤ 1048576 → result ≡ Ok text) }
-    ensures unread { OnErr read (IsErr result) }
+    ensures long { IfOk read (λ text. 1048576 < length text.items → result ≡ Err None) }
+    ensures unread { IfErr read (λ error. result ≡ Err (Some (error_of (error_kind error)))) }
 {
     match read {
         Ok(text) if text.len() > MOST_BYTES => Err(None),

@@ -10,7 +10,7 @@ use debug_records::RunError;
 use profile::images::{ImageError, Images};
 use profile::memory_map::MOST_BYTES;
 use rosm_settings::image_files::{FileError, file_front, script_text};
-use rosm_settings::saved_files::{save_refusal, saved_words, write_file};
+use rosm_settings::saved_files::{saved_line, saved_words, unsaved_line, write_found};
 use std::alloc::Global;
 use std::fs;
 
@@ -60,15 +60,9 @@ impl<R: AllocGlobal + Eprint + fs::Files> ScriptFiles for HostScripts<'_, R> {
             return Err(FileFault::Memory);
         };
         let path = path.as_str();
-        let written = match found {
-            Some(bytes) => write_file(self.rt, path, bytes.as_slice()),
-            None => Err(save_refusal(named)),
-        };
-        match written {
-            Ok(count) => {
-                format!(in alloc; "save {path}: {count} bytes").map_err(|_| FileFault::Memory)
-            }
-            Err(reason) => Err(fault_of(format!(in alloc; "SAVE {path:?}: {reason}"))),
+        match write_found(self.rt, path, named, &found) {
+            Ok(count) => saved_line(alloc, path, count).map_err(|_| FileFault::Memory),
+            Err(reason) => Err(fault_of(unsaved_line(alloc, path, reason))),
         }
     }
 
