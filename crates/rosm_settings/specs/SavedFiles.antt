@@ -51,9 +51,9 @@ abbrev pub IsHostReason : List ℕ → Type 0
 IsHostReason reason = (kind : ErrorKind) × (reason ≡ write_reason kind)
 
 -- `save lib/pots: 48 bytes`
-abbrev pub saved_line : List ℕ → ℕ → List ℕ
-saved_line path count = codes "save " ++ (path ++ (codes ": " ++ (decimal count ++ codes " bytes")))
+abbrev pub written_line : List ℕ → ℕ → List ℕ
+written_line path count = codes "save " ++ (path ++ (codes ": " ++ (decimal count ++ codes " bytes")))
 
 -- `SAVE "lib/pots": refused NoImage`, by the path between quotes
-abbrev pub unsaved_line : List ℕ → List ℕ → List ℕ
-unsaved_line quoted reason = codes "SAVE " ++ (quoted ++ (codes ": " ++ reason))
+abbrev pub unwritten_line : List ℕ → List ℕ → List ℕ
+unwritten_line quoted reason = codes "SAVE " ++ (quoted ++ (codes ": " ++ reason))

@@ -3,7 +3,7 @@
 ghost use Rattle.std.specs.Prelude.{◌≡◌, ℕ, List, [], ◌∷◌, length, IfErr, IfNone, IfOk, IfSome, IsErr, string_bytes};
 ghost use Rattle.std.specs.Fmt.{debug_str};
 ghost use Rattle.command_shell_lines.specs.Requests.{words};
-ghost use Rattle.rosm_settings.specs.SavedFiles.{IsHostReason, NamesSaved, save_refusal, saved_line as saved_text, unsaved_line as unsaved_text, write_reason};
+ghost use Rattle.rosm_settings.specs.SavedFiles.{IsHostReason, NamesSaved, save_refusal, written_line as written_text, unwritten_line as unwritten_text, write_reason};
 ghost use Rattle.rosm_settings.specs.declared.saved_files.SavedBytes.{SavedBytes};
 
 use command_shell_lines::{count_up_to, number_of};
@@ -88,12 +88,13 @@ fn save_refusal(named: SavedBytes<'_>) -> &'static str
     }
 }
 
-/// Makes a file of the bytes that a line names, also in place of one that is there, and answers how many they are.
+/// Makes a file of the bytes that a line names, also in place of one that is there, and answers how
+/// many they are.
 ///
 /// # Errors
 ///
-/// The refusal of bytes that aren't there, and the reason of the host against the file, when a part of it may be
-/// written.
+/// The refusal of bytes that aren't there, and the host's reason against the file, when a part of it may
+/// be written.
 pub fn write_found<R: fs::Files>(
     rt: &R,
     path: &str,
@@ -133,16 +134,16 @@ fn write_reason(kind: ErrorKind) -> &'static str
 }
 
 /// The line about a file that was written.
-pub fn saved_line(alloc: Global, path: &str, count: usize) -> Result<String, AllocError>
-    ensures { IfOk result (λ line. string_bytes line ≡ saved_text path.now count) }
+pub fn written_line(alloc: Global, path: &str, count: usize) -> Result<String, AllocError>
+    ensures { IfOk result (λ line. string_bytes line ≡ written_text path.now count) }
 {
     format!(in alloc; "save {path}: {count} bytes")
 }
 
 /// Why there is no file of a path.
-pub fn unsaved_line(alloc: Global, path: &str, reason: &str) -> Result<String, AllocError>
+pub fn unwritten_line(alloc: Global, path: &str, reason: &str) -> Result<String, AllocError>
     ensures { IfOk result (λ line. IfSome (debug_str path.now)
-        (λ quoted. string_bytes line ≡ unsaved_text quoted reason.now)) }
+        (λ quoted. string_bytes line ≡ unwritten_text quoted reason.now)) }
 {
     format!(in alloc; "SAVE {path:?}: {reason}")
 }

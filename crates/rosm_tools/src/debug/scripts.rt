@@ -10,7 +10,7 @@ use debug_records::RunError;
 use profile::images::{ImageError, Images};
 use profile::memory_map::MOST_BYTES;
 use rosm_settings::image_files::{FileError, file_front, script_text};
-use rosm_settings::saved_files::{saved_line, saved_words, unsaved_line, write_found};
+use rosm_settings::saved_files::{saved_words, unwritten_line, write_found, written_line};
 use std::alloc::Global;
 use std::fs;
 
@@ -61,8 +61,8 @@ impl<R: AllocGlobal + Eprint + fs::Files> ScriptFiles for HostScripts<'_, R> {
         };
         let path = path.as_str();
         match write_found(self.rt, path, named, &found) {
-            Ok(count) => saved_line(alloc, path, count).map_err(|_| FileFault::Memory),
-            Err(reason) => Err(fault_of(unsaved_line(alloc, path, reason))),
+            Ok(count) => written_line(alloc, path, count).map_err(|_| FileFault::Memory),
+            Err(reason) => Err(fault_of(unwritten_line(alloc, path, reason))),
         }
     }
 
