@@ -2,3 +2,4 @@ pub mod ImageFilesLemmas
 pub mod StreamLemmas
 pub mod TextLemmas
 pub mod CommandLineLemmas
+pub mod SavedFilesLemmas
