@@ -1,7 +1,7 @@
 -- How the words behind SAVE name bytes and a file: lines of one word, of two, three and more.
-use Rattle.std.proofs.Common.{◌≡◌, ◌++◌, ◌<◌, ℕ, Bor, Bool, true, false, List, [], ◌∷◌, Option, Some, None, ap, arith, length, refl, subst, sym, ◌∙◌}
+use Rattle.std.proofs.Common.{◌≡◌, ◌++◌, ℕ, Bor, Bool, true, false, List, [], ◌∷◌, Option, Some, None, ap, arith, length, refl, subst, sym, ◌∙◌}
 use Rattle.std.specs.Prelude.{◌==◌, ◌^◌, IsUtf8, cond, is_some}
-use Rattle.std.specs.List.{All, join_with_byte, onto_first, slice_split}
+use Rattle.std.specs.List.{All, join_with_byte, onto_first}
 use Rattle.std.specs.Option.{option_map_or}
 use Rattle.profile.proofs.TextLinesLemmas.LineLemmas.{some_part}
 use Rattle.std.proofs.lemmas.List.Elements.{All-nil, All-cons, All-head, All-tail}

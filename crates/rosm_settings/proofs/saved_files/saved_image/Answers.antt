@@ -1,4 +1,3 @@
-use Rattle.std.proofs.Common.{◌≡◌, ℕ, List, sym, ◌∙◌}
 use Rattle.rosm_settings.proofs.SavedFilesLemmas.{image_named, no_image}
 use Rattle.rosm_settings.proofs.saved_files.saved_image.Goals as goal
 

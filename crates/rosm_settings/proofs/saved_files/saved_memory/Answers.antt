@@ -1,4 +1,4 @@
-use Rattle.std.proofs.Common.{◌≡◌, ℕ, List, sym, ◌∙◌}
+use Rattle.std.proofs.Common.{sym, ◌∙◌}
 use Rattle.rosm_settings.proofs.SavedFilesLemmas.{memory_named, more_words_behind, no_address, no_count, no_memory}
 use Rattle.rosm_settings.proofs.saved_files.saved_memory.Goals as goal
 

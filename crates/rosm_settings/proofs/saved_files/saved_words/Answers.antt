@@ -1,4 +1,3 @@
-use Rattle.std.proofs.Common.{◌≡◌, ℕ, List, sym, ◌∙◌}
 use Rattle.rosm_settings.proofs.SavedFilesLemmas.{one_word}
 use Rattle.rosm_settings.proofs.saved_files.saved_words.Goals as goal
 
