@@ -10,6 +10,7 @@ pub mod HeapLines
 pub mod ImageLines
 pub mod ItemLines
 pub mod ModuleLines
+pub mod Sound
 pub mod StoreLines
 pub mod WordLines
 pub mod items

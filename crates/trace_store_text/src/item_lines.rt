@@ -2,10 +2,11 @@
 
 ghost use Rattle.std.specs.Prelude.{◌≡◌};
 ghost use Rattle.std.specs.List.{flat_map};
-ghost use Rattle.os_heap.specs.Store.{IsSound, store_of};
+ghost use Rattle.os_heap.specs.Store.{store_of};
 ghost use Rattle.profile.specs.Output.{Writes};
 ghost use Rattle.trace_store_text.specs.items.Changes.{item_changes};
 ghost use Rattle.trace_store_text.specs.ItemLines.{item_line, item_lines, item_summary_lines, verb_and_use};
+ghost use Rattle.trace_store_text.specs.Sound.{AreSound};
 
 use crate::items::{ItemChange, ItemChanges, changed_items};
 use crate::word_lines::push_more;
@@ -24,8 +25,7 @@ pub fn push_items<W: Sink>(
     before: &AddressMap,
     after: &AddressMap,
 ) -> Result<(), WriteFault>
-    requires old { IsSound (store_of before.now) }
-    requires new { IsSound (store_of after.now) }
+    requires stores { AreSound before.now after.now }
     ensures writes { Writes W.contents W.has_failed sink.old sink.new result
         (item_lines heap (item_changes (store_of before.now) (store_of after.now) heap)) }
 {
