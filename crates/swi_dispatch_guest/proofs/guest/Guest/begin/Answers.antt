@@ -1,8 +1,9 @@
-use Rattle.std.proofs.Common.{refl, subst, sym}
+use Rattle.std.proofs.Common.{◌≡◌, false, refl, subst, sym}
 use Rattle.instances.proofs.RmaKeeping.{keeps_same}
 use Rattle.swi_dispatch_plans.specs.Beginning.{CanBegin}
 use Rattle.swi_dispatch_guest.specs.MachineState.{MachineState, setting_of}
 use Rattle.swi_dispatch_guest.specs.GuestState.{GuestState, state_of}
+use Rattle.swi_dispatch_guest.specs.Step.{call_of}
 use Rattle.swi_dispatch_guest.proofs.NextEntry.{carried_next}
 use Rattle.swi_dispatch_guest.proofs.Kept.{over}
 use Rattle.swi_dispatch_guest.proofs.GateLemmas.{begun_by, carried_well, ended_carried, first_carried, state_opened}
@@ -46,6 +47,6 @@ returns-in-Ok c =
     c.self.inside.halt in
     let may = rw c.in-Ok.is at c.requires.begins in
     let first = first_carried _ _ may.rests in
-    let made = rw (← c.self.view_is) at c.requires.made in
-    rw (c.in-Ok.is, ← c.self.view_is) (begun_by before _ _ c.args.call c.in-Ok.plan _ c.requires.made
+    let made = subst (λ (p : GuestState). c.args.call ≡ call_of (state_of p) c.args.call.is_x c.args.call.next false) (sym c.self.view_is) c.requires.made in
+    rw (c.in-Ok.is, ← c.self.view_is) (begun_by before _ _ c.args.call c.in-Ok.plan _ made
     (state_opened before _ _ _ _ _ _ _ _ _ _ _ next first) (ended_carried _ _ _ _ _ _ _ _ _ _ _ _ next first) c.finish.ensures)
