@@ -1,5 +1,5 @@
 -- The written machine at its start, and a run of no step.
-use Rattle.std.proofs.Common.{◌≡◌, ◌&&◌, ◌==◌, ◌<◌, Bool, false, true, ℕ, List, IsSome, Option, Some, None, Result, Ok, [], Err, refl, sym, subst, ap, ◌∙◌, arith}
+use Rattle.std.proofs.Common.{◌≡◌, ◌&&◌, ◌==◌, Bool, false, true, ℕ, List, IsSome, Option, Some, None, Result, Ok, [], Err, refl, sym, subst, ap, ◌∙◌, arith}
 use Rattle.std.specs.Prelude.{IfOk, OnErr, is_err}
 use Rattle.profile.specs.Outcome.{Leaves}
 use Rattle.profile.specs.declared.fault.Fault.{Fault}
@@ -52,16 +52,6 @@ start_stays images breaks budget s t start b o0 o1 c0 c1 r was ends stands fresh
     let zero : (budget == 0) ≡ true = parts.1 in
     let none : budget ≡ 0 = grind (arith, nat_tests, zero) in
     none_ran images breaks budget s t o0 o1 c0 c1 r none ends stands ∙ was parts.0
-
--- a guest that is as it was, and one that has taken a step
-pub fresh_as : (s t start : MachineState) (b e : Bool) → (b ≡ true → s ≡ start) → t ≡ s → (b && e) ≡ true → t ≡ start
-fresh_as s t start b e was same fresh = same ∙ was (both b e fresh).0
-
-pub never_fresh : (n budget : ℕ) (b : Bool) (P : Type 0) → n < budget → (b && (budget == 0)) ≡ true → P
-never_fresh n budget b P some fresh =
-    let zero : (budget == 0) ≡ true = (both b (budget == 0) fresh).1 in
-    let none : budget ≡ 0 = grind (arith, nat_tests, zero) in
-    absurd (omega (arith, none, some))
 
 -- the same of a run that prints nothing
 pub silent_start_stays : (breaks : List ℕ) (n : ℕ) (s t start : MachineState) (b : Bool) (x : Stop)

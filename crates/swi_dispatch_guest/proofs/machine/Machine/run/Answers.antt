@@ -1,9 +1,15 @@
-use Rattle.std.proofs.Common.{◌≡◌, ◌≢◌, false, IsTrue, None, ◌≤◌, ◌<◌, ◌+◌, Ok, Err, ap, refl, subst, sym, ◌∙◌, arith}
+use Rattle.std.proofs.Common.{◌≡◌, ◌≢◌, ◌&&◌, ◌==◌, ℕ, true, false, IsTrue, None, ◌≤◌, ◌<◌, ◌+◌, Result, Ok, Err, ap, refl, subst, sym, ◌∙◌, arith}
 use Rattle.std.proofs.lemmas.Result.{err_from_is_err_and}
 use Rattle.profile.specs.declared.stop.Stop.TheVariants as stop
 use Rattle.profile.proofs.OutputLemmas.{Appends-nothing}
+use Rattle.profile.specs.declared.sink.WriteFault.{WriteFault}
+use Rattle.swi_dispatch_guest.specs.declared.running.Ran.{Ran}
+use Rattle.swi_dispatch_guest.specs.Ending.{Ends}
 use Rattle.swi_dispatch_guest.specs.GuestState.{GuestState, state_of}
-use Rattle.swi_dispatch_guest.proofs.Fresh.{fresh_as, never_fresh, start_stays}
+use Rattle.swi_dispatch_guest.specs.MachineState.{machine_start}
+use Rattle.swi_dispatch_guest.specs.Run.{ran}
+use Rattle.swi_dispatch_guest.specs.Value.{MachineValue}
+use Rattle.swi_dispatch_guest.proofs.Fresh.{start_stays}
 use Rattle.swi_dispatch_guest.proofs.RunEnds.{ends_stopped, ends_start, ends_silent, ends_more, ends_on, ends_early, ends_all, stands_more, one_taken}
 use Rattle.swi_dispatch_guest.proofs.RunLoop.{halt-none}
 use Rattle.swi_dispatch_guest.proofs.SilentSteps.{IsStretch, stretch}
@@ -219,3 +225,36 @@ loop-taken-preserved g c =
       same_flag = one.same_flag ∙ c.loop-taken.invariant.same_flag;
       known = one.known;
     }
+
+-- a run of no step leaves it as it stood
+pub invariant_of-self-2 : goal.invariant_of-self-2
+invariant_of-self-2 g c =
+    let within = c.loop-taken.invariant.within in
+    let all : c.loop-taken.taken ≡ c.args.budget = grind (arith, within, c.loop-taken-test.false) in
+    let ends = subst (λ (n : ℕ). Ends (ran c.args.images.now c.args.breaks.now n (state_of c.args.self.now.guest)) (state_of c.loop-taken.guest)
+    c.args.self.now.printed c.loop-taken.output.items (g.W.Sink.contents c.args.sink.now) (g.W.Sink.contents c.loop-taken.sink) c.loop-taken.taken stop.Budget)
+    all c.loop-taken.invariant.ends in
+    let whole = subst (λ (m : MachineValue). Ends (ran c.args.images.now c.args.breaks.now c.args.budget (state_of m.guest)) (state_of c.loop-taken.guest)
+    m.printed c.loop-taken.output.items (g.W.Sink.contents c.args.sink.now) (g.W.Sink.contents c.loop-taken.sink) c.loop-taken.taken stop.Budget)
+    (sym c.self.view_is) ends in
+    let ran_all : Result Ran WriteFault = Ok (record { stop = stop.Budget; taken = c.loop-taken.taken }) in
+    let stays : (c.self.inside.is_fresh && (c.args.budget == 0)) ≡ true → state_of c.loop-taken.guest ≡ machine_start c.self.inside.config =
+    start_stays c.args.images.now c.args.breaks.now c.args.budget (state_of c.self.inside.guest) (state_of c.loop-taken.guest) _ c.self.inside.is_fresh
+    _ _ _ _ ran_all c.self.invariant whole tt in
+    stays
+
+pub returns-clause-kept : goal.returns-clause-kept
+returns-clause-kept g c =
+    let within = c.loop-taken.invariant.within in
+    let all : c.loop-taken.taken ≡ c.args.budget = grind (arith, within, c.loop-taken-test.false) in
+    let ends = subst (λ (n : ℕ). Ends (ran c.args.images.now c.args.breaks.now n (state_of c.args.self.now.guest)) (state_of c.loop-taken.guest)
+    c.args.self.now.printed c.loop-taken.output.items (g.W.Sink.contents c.args.sink.now) (g.W.Sink.contents c.loop-taken.sink) c.loop-taken.taken stop.Budget)
+    all c.loop-taken.invariant.ends in
+    let whole = subst (λ (m : MachineValue). Ends (ran c.args.images.now c.args.breaks.now c.args.budget (state_of m.guest)) (state_of c.loop-taken.guest)
+    m.printed c.loop-taken.output.items (g.W.Sink.contents c.args.sink.now) (g.W.Sink.contents c.loop-taken.sink) c.loop-taken.taken stop.Budget)
+    (sym c.self.view_is) ends in
+    let ran_all : Result Ran WriteFault = Ok (record { stop = stop.Budget; taken = c.loop-taken.taken }) in
+    let stays : (c.self.inside.is_fresh && (c.args.budget == 0)) ≡ true → state_of c.loop-taken.guest ≡ machine_start c.self.inside.config =
+    start_stays c.args.images.now c.args.breaks.now c.args.budget (state_of c.self.inside.guest) (state_of c.loop-taken.guest) _ c.self.inside.is_fresh
+    _ _ _ _ ran_all c.self.invariant whole tt in
+    record { guest = c.loop-taken.invariant.known; fresh = stays }
