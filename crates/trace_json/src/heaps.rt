@@ -1,7 +1,7 @@
 //! Heaps in records.
 
 ghost use Rattle.os_heap.specs.Store.{IsSound, store_of};
-ghost use Rattle.trace_store_text.specs.Sound.{AreSound};
+ghost use Rattle.trace_store_text.specs.Sound.{AreBothSound};
 
 use address_map::{AddressMap, Item, Region};
 use std::alloc::{AllocError, Global};
@@ -83,7 +83,7 @@ pub(crate) fn push_changed_heaps(
     after: &AddressMap,
     fate: BlockFate,
 ) -> Result<(), AllocError>
-    requires stores { AreSound before.now after.now }
+    requires stores { AreBothSound before.now after.now }
 {
     if !do_heaps_differ(alloc, before, after)? {
         return Ok(());
@@ -106,7 +106,7 @@ fn do_heaps_differ(
     before: &AddressMap,
     after: &AddressMap,
 ) -> Result<bool, AllocError>
-    requires stores { AreSound before.now after.now }
+    requires stores { AreBothSound before.now after.now }
 {
     for region in before.regions() {
         if region.kind.is_heap() && limits_of(after, region.at).is_none() {
@@ -127,7 +127,7 @@ fn has_heap_changed(
     after: &AddressMap,
     heap: u32,
 ) -> Result<bool, AllocError>
-    requires stores { AreSound before.now after.now }
+    requires stores { AreBothSound before.now after.now }
 {
     if limits_of(before, heap) != limits_of(after, heap) {
         return Ok(true);
@@ -162,7 +162,7 @@ fn push_kept_heap(
     heap: u32,
     fate: BlockFate,
 ) -> Result<(), AllocError>
-    requires stores { AreSound before.now after.now }
+    requires stores { AreBothSound before.now after.now }
 {
     if !has_heap_changed(alloc, before, after, heap)? {
         return Ok(());
@@ -205,7 +205,7 @@ fn push_changed_items(
     heap: u32,
     fate: BlockFate,
 ) -> Result<(), AllocError>
-    requires stores { AreSound before.now after.now }
+    requires stores { AreBothSound before.now after.now }
 {
     let changes = all_changed_items(alloc, before, after, heap)?;
     let same = match fate {

@@ -5,7 +5,7 @@ ghost use Rattle.os_heap.specs.Store.{store_of};
 ghost use Rattle.trace_store_text.specs.items.Changes.{is_same_item, item_change_at, item_changes, item_shown};
 ghost use Rattle.trace_store_text.specs.items.Laws.{with_item_changes};
 ghost use Rattle.trace_store_text.specs.items.Places.{item_there, placed_items};
-ghost use Rattle.trace_store_text.specs.Sound.{AreSound};
+ghost use Rattle.trace_store_text.specs.Sound.{AreBothSound};
 
 use address_map::{AddressMap, Item};
 use std::alloc::{AllocError, Global};
@@ -24,7 +24,7 @@ pub fn all_changed_items(
     after: &AddressMap,
     heap: u32,
 ) -> Result<Vec<ItemChange>, AllocError>
-    requires stores { AreSound before.now after.now }
+    requires stores { AreBothSound before.now after.now }
     ensures reported { IfOk result (λ reported. reported.items
         ≡ item_changes (store_of before.now) (store_of after.now) heap) }
     ensures replays { IfOk result (λ reported. (a : ℕ) → a < 2 ^ 26
@@ -107,7 +107,7 @@ pub fn slid_blocks(
     after: &AddressMap,
     heap: u32,
 ) -> Result<Vec<SameBlock>, AllocError>
-    requires stores { AreSound before.now after.now }
+    requires stores { AreBothSound before.now after.now }
 {
     let mut olds = ItemWalk::of(before, heap);
     let mut news = ItemWalk::of(after, heap);

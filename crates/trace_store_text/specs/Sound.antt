@@ -2,6 +2,6 @@
 use Rattle.address_map.specs.declared.map.AddressMap.{AddressMap}
 use Rattle.os_heap.specs.Store.{IsSound, store_of}
 
-pub record AreSound (before after : AddressMap) : Type 0 where
+pub record AreBothSound (before after : AddressMap) : Type 0 where
   pub old : IsSound (store_of before)
   pub new : IsSound (store_of after)

@@ -5,7 +5,7 @@ ghost use Rattle.std.specs.List.{flat_map};
 ghost use Rattle.os_heap.specs.Store.{IsSound, store_of};
 ghost use Rattle.profile.specs.Output.{Writes};
 ghost use Rattle.trace_store_text.specs.HeapLines.{changed_limit_line, gone_heap_line, heap_gone_line, gone_heap_lines, heap_lines, heap_lines_by, kept_heap_lines, limit_line, limit_lines, lines_of_region, made_line};
-ghost use Rattle.trace_store_text.specs.Sound.{AreSound};
+ghost use Rattle.trace_store_text.specs.Sound.{AreBothSound};
 
 use crate::heaps::{HeapLimits, limits_of};
 use crate::item_lines::push_items;
@@ -20,7 +20,7 @@ pub fn push_heaps<W: Sink>(
     before: &AddressMap,
     after: &AddressMap,
 ) -> Result<(), WriteFault>
-    requires stores { AreSound before.now after.now }
+    requires stores { AreBothSound before.now after.now }
     ensures writes { Writes W.contents W.has_failed sink.old sink.new result
         (heap_lines (store_of before.now) (store_of after.now)) }
 {
@@ -91,7 +91,7 @@ fn push_kept_heaps<W: Sink>(
     before: &AddressMap,
     after: &AddressMap,
 ) -> Result<(), WriteFault>
-    requires stores { AreSound before.now after.now }
+    requires stores { AreBothSound before.now after.now }
     ensures { Writes W.contents W.has_failed sink.old sink.new result
         (flat_map (lines_of_region (kept_heap_lines (store_of before.now) (store_of after.now)))
         regions.now) }
@@ -108,7 +108,7 @@ fn push_kept_region<W: Sink>(
     before: &AddressMap,
     after: &AddressMap,
 ) -> Result<(), WriteFault>
-    requires stores { AreSound before.now after.now }
+    requires stores { AreBothSound before.now after.now }
     ensures { Writes W.contents W.has_failed sink.old sink.new result
         (lines_of_region (kept_heap_lines (store_of before.now) (store_of after.now)) region.now) }
 {
@@ -126,7 +126,7 @@ fn push_kept_heap<W: Sink>(
     before: &AddressMap,
     after: &AddressMap,
 ) -> Result<(), WriteFault>
-    requires stores { AreSound before.now after.now }
+    requires stores { AreBothSound before.now after.now }
     ensures { Writes W.contents W.has_failed sink.old sink.new result
         (kept_heap_lines (store_of before.now) (store_of after.now) start) }
 {

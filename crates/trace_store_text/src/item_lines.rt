@@ -6,7 +6,7 @@ ghost use Rattle.os_heap.specs.Store.{store_of};
 ghost use Rattle.profile.specs.Output.{Writes};
 ghost use Rattle.trace_store_text.specs.items.Changes.{item_changes};
 ghost use Rattle.trace_store_text.specs.ItemLines.{item_line, item_lines, item_summary_lines, verb_and_use};
-ghost use Rattle.trace_store_text.specs.Sound.{AreSound};
+ghost use Rattle.trace_store_text.specs.Sound.{AreBothSound};
 
 use crate::items::{ItemChange, ItemChanges, changed_items};
 use crate::word_lines::push_more;
@@ -25,7 +25,7 @@ pub fn push_items<W: Sink>(
     before: &AddressMap,
     after: &AddressMap,
 ) -> Result<(), WriteFault>
-    requires stores { AreSound before.now after.now }
+    requires stores { AreBothSound before.now after.now }
     ensures writes { Writes W.contents W.has_failed sink.old sink.new result
         (item_lines heap (item_changes (store_of before.now) (store_of after.now) heap)) }
 {

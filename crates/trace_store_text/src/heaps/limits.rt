@@ -4,7 +4,7 @@ ghost use Rattle.std.specs.Prelude.{◌≡◌, ◌+◌, IsSome, IfSome};
 ghost use Rattle.address_map.specs.Items.{size_of};
 ghost use Rattle.os_heap.specs.Store.{IsSound, find_heap, store_of};
 ghost use Rattle.trace_store_text.specs.heaps.Limits.{end_shown, heap_pages, limits_in};
-ghost use Rattle.trace_store_text.specs.Sound.{AreSound};
+ghost use Rattle.trace_store_text.specs.Sound.{AreBothSound};
 
 use address_map::AddressMap;
 use os_heap::Heaps;
@@ -40,7 +40,7 @@ pub fn limits_of(memory: &AddressMap, heap: u32) -> Option<HeapLimits>
 /// The pages of the heap that starts at an address, before a call or after it. Where none starts there,
 /// it is the page of the address.
 pub fn heap_pages(before: &AddressMap, after: &AddressMap, heap: u32) -> PageRange
-    requires stores { AreSound before.now after.now }
+    requires stores { AreBothSound before.now after.now }
     ensures { result ≡ heap_pages (store_of before.now) (store_of after.now) heap }
 {
     let old = end_shown(limits_of(before, heap));

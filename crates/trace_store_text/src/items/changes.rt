@@ -3,7 +3,7 @@
 ghost use Rattle.std.specs.Prelude.{◌≡◌, ◌<◌, ◌≤◌, ◌^◌, ◌+◌, ◌∷◌, ◌++◌, [], List};
 ghost use Rattle.os_heap.specs.Store.{store_of};
 ghost use Rattle.trace_store_text.specs.items.Changes.{IsItemSummary, is_same_item, item_change_at, item_changes, item_shown};
-ghost use Rattle.trace_store_text.specs.Sound.{AreSound};
+ghost use Rattle.trace_store_text.specs.Sound.{AreBothSound};
 
 use crate::items::walk::{ItemWalk, lower_place};
 use address_map::{AddressMap, Item};
@@ -40,7 +40,7 @@ pub struct ItemChanges {
 /// The items of the heap that starts at an address that are gone or new, by their addresses; where
 /// one is gone and another is new in its place, that which is gone comes first.
 pub fn changed_items(before: &AddressMap, after: &AddressMap, heap: u32) -> ItemChanges
-    requires stores { AreSound before.now after.now }
+    requires stores { AreBothSound before.now after.now }
     ensures { IsItemSummary result (item_changes (store_of before.now) (store_of after.now) heap) }
 {
     let mut olds = ItemWalk::of(before, heap);
