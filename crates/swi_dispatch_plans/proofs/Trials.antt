@@ -1,5 +1,5 @@
 -- A trial on a copy of the module state comes to what the call comes to.
-use Rattle.std.proofs.Common.{inl, inr, ◌≡◌, ℕ, true, false, Some, None, List, refl, sym, ap, subst, ◌∙◌}
+use Rattle.std.proofs.Common.{inl, inr, ◌≡◌, ℕ, true, false, Some, None, List, refl, sym, ap, ◌∙◌}
 use Rattle.std.specs.Prelude.{◌⊎◌, Option, is_some, option_map}
 use Rattle.std.proofs.lemmas.Bool.{false≢true, true≢false}
 use Rattle.address_map.specs.Bytes.{Bytes}

@@ -3,9 +3,9 @@ use Rattle.std.proofs.Common.{ℕ, ◌≡◌, ◌-◌, is_some, Bool, true, fals
 use Rattle.std.proofs.lemmas.Bool.{both_ways, false≢true, true≢false}
 use Rattle.address_map.specs.Bytes.{AreMapped}
 use Rattle.address_map.specs.Classes.{is_anchor}
-use Rattle.address_map.specs.Memory.{Mapping, class_of, free_pages, is_mapped, mapping, regions}
+use Rattle.address_map.specs.Memory.{Mapping, class_of, free_pages, is_mapped, regions}
 use Rattle.address_map.specs.declared.map.AddressMap.{AddressMap}
-use Rattle.flex_store.specs.Store.{IsSound, others_in, store_of}
+use Rattle.flex_store.specs.Store.{others_in, store_of}
 use Rattle.instances.specs.Areas.{AreaTable}
 use Rattle.instances.specs.Ground.{AreAreas}
 use Rattle.instances.specs.flex_frame.Keeping.{AreAnchorsFree}

@@ -1,12 +1,12 @@
 -- What the calls on modules leave, by what is said of memory and areas, or of the modules.
 use Rattle.profile.specs.MemoryMap.{system_start}
-use Rattle.std.proofs.Common.{ℕ, List, refl, arith}
+use Rattle.std.proofs.Common.{List, refl, arith}
 use Rattle.address_map.proofs.InRange.{range_inside}
 use Rattle.address_map.specs.declared.map.AddressMap.{AddressMap}
 use Rattle.address_map.specs.Bytes.{AreMapped}
-use Rattle.os_heap.specs.Store.{Store, store_of}
+use Rattle.os_heap.specs.Store.{store_of}
 use Rattle.dynamic_areas.specs.Areas.{AreaTable}
-use Rattle.dynamic_areas.specs.Ground.{AreAreas, IsAreaStore, area_store_of}
+use Rattle.dynamic_areas.specs.Ground.{IsAreaStore, area_store_of}
 use Rattle.dynamic_areas.specs.Kept.{IsAreaMap}
 use Rattle.dynamic_areas.proofs.HeapCalls.{system_mapped}
 use Rattle.instances.specs.Modules.{Module}

@@ -1,6 +1,4 @@
 use Rattle.std.proofs.Common.{◌≡◌, ℕ, Err, subst}
-use Rattle.profile.specs.declared.error.ErrorNumber.{ErrorNumber}
-use Rattle.dynamic_areas.specs.declared.area.Area.{Area}
 use Rattle.dynamic_areas.specs.Areas.{area_in}
 use Rattle.swi_dispatch_plans.proofs.StoreLemmas.AreaAnswers.{unknown_error}
 use Rattle.swi_dispatch_plans.proofs.StoreLemmas.Leaving.{leaves_memory}
