@@ -56,7 +56,7 @@ module_state_left s old new (Ok q) (Err e) left = absurd left
 module_state_left s old new (Err f) (Ok u) left = absurd left
 
 -- the parts of the machine then
-pub well_left : (old new : GuestState) → IsWellFormed old → LeavesSound old.map new.map new.tables.area_table
+pub well_left : (old new : GuestState) → IsWellFormed old → LeavesSound old.map new.map old.tables.area_table new.tables.area_table
     → new.tables ≡ record old.tables { area_table = new.tables.area_table } → new.tables.area_table.sizes ≡ new.sizes → IsWellFormed new
 well_left old new well left tables sized =
     well_called old new well left.area_store left.classes left.others (ap (λ (t : Tables). t.modules) tables) (ap (λ (t : Tables). t.plan) tables)

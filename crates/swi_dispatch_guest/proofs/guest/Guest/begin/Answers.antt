@@ -14,7 +14,7 @@ pub invariant_of-self : goal.invariant_of-self
 invariant_of-self c =
     let carries = c.carry-code.ensures in
     let opens = c.open_code-kept.ensures in
-    let next = carried_next _ _ _ _ _ _ _ _ _ c.args.call _ _ _ _ _ carries.carried carries.ended carries.going carries.others carries.classes carries.flex
+    let next = carried_next _ _ _ _ _ _ _ _ _ c.args.call _ _ _ _ _ carries.carried carries.ended carries.kept.going carries.others carries.kept.classes carries.kept.flex
     opens.core opens.frames opens.plans in
     let before : MachineState = over c.self.inside.memory c.self.inside.cpu
     (record {
@@ -34,7 +34,7 @@ pub returns-in-Ok : goal.returns-in-Ok
 returns-in-Ok c =
     let carries = c.carry-code.ensures in
     let opens = c.open_code-kept.ensures in
-    let next = carried_next _ _ _ _ _ _ _ _ _ c.args.call _ _ _ _ _ carries.carried carries.ended carries.going carries.others carries.classes carries.flex
+    let next = carried_next _ _ _ _ _ _ _ _ _ c.args.call _ _ _ _ _ carries.carried carries.ended carries.kept.going carries.others carries.kept.classes carries.kept.flex
     opens.core opens.frames opens.plans in
     let before : MachineState = over c.self.inside.memory c.self.inside.cpu
     (record {

@@ -10,8 +10,8 @@ pub invariant_of-self : goal.invariant_of-self
 invariant_of-self c =
     let well = c.self.invariant in
     let put = c.put_text.ensures in
-    well_called _ _ well (put.areas c.self.inside.areas well.areas) (put.classes well.classes) (layout-others _ _ put.layout)
-    refl refl refl put.flex refl well.sized
+    well_called _ _ well (put.kept.areas c.self.inside.areas well.areas) (put.kept.classes well.classes) (layout-others _ _ put.kept.layout)
+    refl refl refl put.kept.flex refl well.sized
 
 pub returns-in-Some : goal.returns-in-Some
 unfolding store_of

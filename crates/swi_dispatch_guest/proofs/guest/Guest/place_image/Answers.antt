@@ -13,13 +13,13 @@ use Rattle.swi_dispatch_guest.proofs.guest.Guest.place_image.Goals as goal
 pub invariant_of-self : goal.invariant_of-self
 invariant_of-self c =
     let given = c.in_err-plan.ensures in
-    refused_well _ _ c.self.invariant (refused_module_state _ _ _ _ given.module_state) refl refl given.classes given.flex refl refl
+    refused_well _ _ c.self.invariant (refused_module_state _ _ _ _ given.module_state) refl refl given.kept.classes given.kept.flex refl refl
 
 pub invariant_of-self-2 : goal.invariant_of-self-2
 invariant_of-self-2 c =
     let carries = c.carry-code.ensures in
     let opens = c.open_code-kept.ensures in
-    let next = carried_next _ _ _ _ _ _ _ _ _ c.args.call _ _ _ _ _ carries.carried carries.ended carries.going carries.others carries.classes carries.flex
+    let next = carried_next _ _ _ _ _ _ _ _ _ c.args.call _ _ _ _ _ carries.carried carries.ended carries.kept.going carries.others carries.kept.classes carries.kept.flex
     opens.core opens.frames opens.plans in
     let before : MachineState = over c.self.inside.memory c.self.inside.cpu
     (record {
@@ -35,8 +35,8 @@ invariant_of-self-2 c =
     let spared = subst (λ (p : GuestState). SparesTitle (setting_of (state_of p)) (header_of c.args.image.now)) (sym c.self.view_is) c.requires.spared in
     let names = named_given _ _ _ _ _ _ (loading_names (machine_module_state before) c.args.image.now c.args.text.now) given.module_state given.ready in
     let beneath = titled_beneath before _ (header_of c.args.image.now) free spared names in
-    carried_well _ _ _ _ _ _ _ _ _ _ next refl beneath c.self.invariant given.flex refl
-    (given.sizes ∙ c.self.invariant.sized)
+    carried_well _ _ _ _ _ _ _ _ _ _ next refl beneath c.self.invariant given.kept.flex refl
+    (given.kept.sizes ∙ c.self.invariant.sized)
 
 pub returns : goal.returns
 returns c =
@@ -52,7 +52,7 @@ returns c =
     let given = c.in_ok-plan.ensures in
     let carries = c.carry-code.ensures in
     let opens = c.open_code-kept.ensures in
-    let next = carried_next _ _ _ _ _ _ _ _ _ c.args.call _ _ _ _ _ carries.carried carries.ended carries.going carries.others carries.classes carries.flex
+    let next = carried_next _ _ _ _ _ _ _ _ _ c.args.call _ _ _ _ _ carries.carried carries.ended carries.kept.going carries.others carries.kept.classes carries.kept.flex
     opens.core opens.frames opens.plans in
     let first = first_carried _ _ given.rests in
     rw (← c.self.view_is) (starts_by before _ c.args.call _ _ _ _ _ given.module_state

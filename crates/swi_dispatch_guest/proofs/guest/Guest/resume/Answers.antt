@@ -18,7 +18,7 @@ pub invariant_of-self-2 : goal.invariant_of-self-2
 invariant_of-self-2 c =
     let carries = c.carry-code.ensures in
     let opens = c.open_code-kept.ensures in
-    let next = carried_next _ _ _ _ _ _ _ _ _ c.args.frame.call _ _ _ _ _ carries.carried carries.ended carries.going carries.others carries.classes carries.flex
+    let next = carried_next _ _ _ _ _ _ _ _ _ c.args.frame.call _ _ _ _ _ carries.carried carries.ended carries.kept.going carries.others carries.kept.classes carries.kept.flex
     opens.core opens.frames opens.plans in
     let last = ap (λ (p : GuestState). innermost_frame (state_of p).tables.frames) c.self.view_is ∙ c.requires.last in
     let beneath = left_beneath _ c.args.frame _ c.self.invariant.frames (sym c.in_ok-plan.ensures.value) last c.requires.entry in
@@ -38,7 +38,7 @@ returns c =
       flex = c.self.inside.flex;
     })
     c.self.inside.halt in
-    let next = rw (c.leave.ensures, c.close.ensures.value) at (carried_next _ _ _ _ _ _ _ _ _ c.args.frame.call _ _ _ _ _ carries.carried carries.ended carries.going carries.others carries.classes carries.flex
+    let next = rw (c.leave.ensures, c.close.ensures.value) at (carried_next _ _ _ _ _ _ _ _ _ c.args.frame.call _ _ _ _ _ carries.carried carries.ended carries.kept.going carries.others carries.kept.classes carries.kept.flex
     opens.core opens.frames opens.plans) in
     let after : MachineState = with_code (with_module_state (come_back before c.args.frame)
     (module_state_of c.carry-code.new.map c.self.inside.areas c.carry-code.new.self))
