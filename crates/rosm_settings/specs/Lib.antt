@@ -5,3 +5,4 @@ pub mod ImageFiles
 pub mod SavedFiles
 pub mod Texts
 pub mod command_line
+pub mod gdb

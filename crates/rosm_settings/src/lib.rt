@@ -7,11 +7,13 @@
 
 pub mod answering;
 pub mod command_line;
+pub mod gdb;
 pub mod image_files;
 pub mod process;
 pub mod refusal;
 pub mod saved_files;
 pub mod watched;
+pub mod words;
 
 pub use crate::command_line::{Files, Settings, SettingsError, settings};
 pub use answering::{run, run_to_stream};

@@ -12,9 +12,10 @@ use crate::answering::run_to_stream;
 use crate::command_line::{Settings, SettingsError, line_reason, settings, sizes_reason};
 use crate::refusal::SettingsRefusal;
 use crate::watched::Watched;
+use crate::words::texts_of;
 use profile::stop::stop_status;
 use profile::{Device, Sink, Stop, WriteFault, push_parts};
-use std::alloc::{AllocError, Global};
+use std::alloc::Global;
 use std::env::Env;
 use std::io::ErrorKind;
 use std::process::ExitCode;
@@ -67,16 +68,6 @@ fn settings_of(alloc: Global, words: &[String]) -> Result<Settings, SettingsRefu
             texts.as_slice(),
         )?)),
     }
-}
-
-fn texts_of<'a>(alloc: Global, words: &'a [String]) -> Result<Vec<&'a str>, AllocError>
-    ensures { IfOk result (λ texts. map (λ t. t.now) texts.items ≡ map string_bytes words.entry.now) }
-{
-    let mut texts = Vec::new(alloc);
-    for word in words {
-        texts.push(word.as_str())?;
-    }
-    Ok(texts)
 }
 
 /// Runs the script of the standard input, and writes its answers to the standard output in large

@@ -6,12 +6,8 @@
 //! `rosm_gdb [--script FILE] [--stay] [--pages N] [--app N] [--rma N] [--budget N] [FILE...]`
 #![tactic(auto)]
 
-mod options;
 mod process;
-mod refusal;
 mod renewed;
 mod serve;
-mod start;
-mod words;
 
 pub use process::run;

@@ -10,7 +10,6 @@
 mod debug;
 mod gdb;
 mod subcommands;
-mod words;
 
 use crate::debug::run as run_debug;
 use crate::gdb::run as run_gdb;

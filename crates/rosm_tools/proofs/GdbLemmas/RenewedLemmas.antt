@@ -8,7 +8,7 @@ use Rattle.profile.specs.images.Entries.{Entry}
 use Rattle.gdb_packets.specs.Ahead.{is_run_ahead}
 use Rattle.gdb_server.specs.Serving.{ServerState, with_files}
 use Rattle.rosm_tools.specs.gdb.Renewed.{AreGiven, AreRead, FilesRead, IsRenewed, has_others, is_other_image, renewed_before, with_image_found, with_images}
-use Rattle.rosm_tools.specs.declared.gdb.words.WantedGdb.{WantedGdb}
+use Rattle.rosm_settings.specs.declared.gdb.words.WantedGdb.{WantedGdb}
 
 others_by : (images fresh : List Entry) (files : List (List ℕ)) (n : ℕ) (path : List ℕ) → slice_get files n ≡ Some path
     → has_others images fresh (drop n files)

@@ -12,9 +12,9 @@ use Rattle.gdb_server.specs.session.State.{GdbState, gdb_start}
 use Rattle.gdb_server.specs.Serving.{ServerState}
 use Rattle.rosm_settings.specs.ImageFiles.{AddsFiles}
 use Rattle.rosm_tools.specs.gdb.Serving.{IsAllSent, ServesGdb, StopsWithGdb, gdb_shown, server_begun, settings_wanted, start_shown}
-use Rattle.rosm_tools.specs.gdb.Start.{AreFirstLines}
+use Rattle.rosm_settings.specs.gdb.Start.{AreFirstLines}
 use Rattle.rosm_tools.specs.gdb.Streams.{EndsWithInput}
-use Rattle.rosm_tools.specs.declared.gdb.words.WantedGdb.{WantedGdb}
+use Rattle.rosm_settings.specs.declared.gdb.words.WantedGdb.{WantedGdb}
 
 empty_known : (known : Option (List ℕ)) → append_known known [] ≡ known
 empty_known None = refl

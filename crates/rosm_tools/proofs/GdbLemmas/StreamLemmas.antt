@@ -12,7 +12,7 @@ use Rattle.gdb_server.proofs.FrontLemmas.{AddsFront-start}
 use Rattle.gdb_server.proofs.ServingLemmas.{front_after, front_of_more}
 use Rattle.rosm_tools.specs.gdb.Renewed.{IsRenewed, renewed_before}
 use Rattle.rosm_tools.specs.gdb.Streams.{AnswersBytes, AnswersBytesFront, AnswersFront, AnswersInput, AreAllFound, AreSent, Sent, sent_served}
-use Rattle.rosm_tools.specs.declared.gdb.words.WantedGdb.{WantedGdb}
+use Rattle.rosm_settings.specs.declared.gdb.words.WantedGdb.{WantedGdb}
 
 -- WHAT BYTES ARE ANSWERED
 

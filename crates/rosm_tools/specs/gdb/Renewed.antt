@@ -7,8 +7,8 @@ use Rattle.profile.specs.images.Entries.{Entry, bytes_of_image}
 use Rattle.gdb_packets.specs.Ahead.{is_run_ahead}
 use Rattle.gdb_server.specs.Serving.{ServerState, with_files, without_files}
 use Rattle.rosm_settings.specs.ImageFiles.{AddsFiles}
-use Rattle.rosm_tools.specs.gdb.Start.{AreFirstLines, first_elf}
-use Rattle.rosm_tools.specs.declared.gdb.words.WantedGdb.{WantedGdb}
+use Rattle.rosm_settings.specs.gdb.Start.{AreFirstLines, first_elf}
+use Rattle.rosm_settings.specs.declared.gdb.words.WantedGdb.{WantedGdb}
 
 -- what the files give: their images, and the lines that a machine begins with
 pub record FilesRead : Type 0 where

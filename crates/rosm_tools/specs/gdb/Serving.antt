@@ -10,9 +10,9 @@ use Rattle.gdb_server.specs.session.State.{gdb_start}
 use Rattle.gdb_server.specs.Serving.{ServerState, Served, server_before_bytes}
 use Rattle.gdb_server.specs.declared.session.session.GdbSettings.{GdbSettings}
 use Rattle.rosm_settings.specs.ImageFiles.{AddsFiles}
-use Rattle.rosm_tools.specs.gdb.Start.{AreFirstLines}
+use Rattle.rosm_settings.specs.gdb.Start.{AreFirstLines}
 use Rattle.rosm_tools.specs.gdb.Streams.{AreSent, Sent, sent_served}
-use Rattle.rosm_tools.specs.declared.gdb.words.WantedGdb.{WantedGdb}
+use Rattle.rosm_settings.specs.declared.gdb.words.WantedGdb.{WantedGdb}
 
 -- a machine of the sizes, the budgets, and whether the program's end is stayed at, as they are asked for
 abbrev pub settings_wanted : WantedGdb → GdbSettings

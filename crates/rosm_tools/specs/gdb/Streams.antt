@@ -3,21 +3,10 @@
 use Rattle.std.specs.Prelude.{◌≡◌, ℕ, false, List, [], ◌∷◌, map, Option}
 use Rattle.std.specs.Io.KnownBytes.{Consumes, IsAtEnd}
 use Rattle.profile.specs.Output.{AddsFront}
-use Rattle.gdb_server.specs.RunError.{RunError}
-use Rattle.gdb_server.specs.RunError.TheVariants as run
 use Rattle.gdb_server.specs.Serving.{ServerState, Served, bytes_served, then_served}
 use Rattle.gdb_server.specs.Server.{IsServed}
 use Rattle.rosm_tools.specs.gdb.Renewed.{AreFound, FilesRead, renewed_before}
-use Rattle.rosm_tools.specs.declared.gdb.serve.ServeError.{ServeError}
-use Rattle.rosm_tools.specs.declared.gdb.serve.ServeError.TheVariants as why
-use Rattle.rosm_tools.specs.declared.gdb.words.WantedGdb.{WantedGdb}
-
--- why serving ends where a request can't be answered
-abbrev pub serve_error : RunError → ServeError
-serve_error run.Memory = why.Memory
-serve_error run.ReadFault = why.ReadFault
-serve_error run.WriteFault = why.WriteFault
-serve_error run.ScriptTooLong = why.TooMuch
+use Rattle.rosm_settings.specs.declared.gdb.words.WantedGdb.{WantedGdb}
 
 -- a byte, and what the files gave before it, where they were read
 pub record Sent : Type 0 where

@@ -5,9 +5,9 @@ ghost use Rattle.rosm_tools.specs.debug.Options.{form_of_all, may_go_on};
 
 use crate::debug::options::{WantedForm, part_words};
 use crate::debug::refusal::DebugRefusal;
-use crate::words::{from_subcommand, texts_of};
 use debug_records::ReportForm;
 use rosm_settings::command_line::{Settings, SettingsError, line_reason, settings, sizes_reason};
+use rosm_settings::words::{from_subcommand, texts_of};
 use std::alloc::{AllocError, Global};
 use std::env;
 use std::env::Env;

@@ -5,12 +5,12 @@ ghost use Rattle.std.specs.Path.{path_file_name};
 ghost use Rattle.gdb_server.specs.Server.{server_state};
 ghost use Rattle.rosm_tools.specs.gdb.Renewed.{AreGiven, AreRead, FilesRead, IsRenewed, has_others, is_equal_image, is_other_image};
 
-use crate::gdb::refusal::GdbRefusal;
-use crate::gdb::start::{start_lines, take_files};
-use crate::gdb::words::WantedGdb;
 use gdb_server::GdbServer;
 use profile::images::Images;
 use rosm_settings::command_line::Files;
+use rosm_settings::gdb::refusal::GdbRefusal;
+use rosm_settings::gdb::start::{start_lines, take_files};
+use rosm_settings::gdb::words::WantedGdb;
 use std::fs;
 use std::path::Path;
 

@@ -8,68 +8,16 @@ ghost use Rattle.gdb_server.specs.Server.{server_state};
 ghost use Rattle.rosm_tools.specs.gdb.Streams.{AnswersBytes, AnswersBytesFront, AnswersFront, AnswersInput, EndsWithInput};
 
 use crate::gdb::renewed::renew;
-use crate::gdb::words::WantedGdb;
 use gdb_server::{GdbServer, RunError};
 use profile::images::Images;
-use profile::{Device, ReadFault, Sink, Source, WriteFault};
+use profile::{Device, Sink, Source};
+use rosm_settings::gdb::serve_error::ServeError;
+use rosm_settings::gdb::words::WantedGdb;
 use std::fs;
 use std::io::Write;
-use thiserror::Error;
 
 // The most bytes that are read at once.
 const PIECE: usize = 4096;
-
-/// Why serving ended before the debugger was gone, and before the end of what it sends.
-#[derive(Clone, Copy, Debug, PartialEq, Eq, Error)]
-pub enum ServeError {
-    /// Memory ran out.
-    #[error("no memory for an answer to GDB")]
-    Memory,
-    /// What GDB sends can't be read.
-    #[error("what GDB sends can't be read")]
-    ReadFault,
-    /// The answers can't be written.
-    #[error("the answers to GDB can't be written")]
-    WriteFault,
-    /// GDB sends more pieces than can be counted.
-    #[error("GDB sends more than can be counted")]
-    TooMuch,
-}
-
-impl From<ReadFault> for ServeError {
-    ghost use Rattle.rosm_tools.specs.declared.gdb.serve.ServeError.TheVariants as why;
-
-    ghost from_gives = { λ _ e. e ≡ why.ReadFault };
-
-    fn from(_fault: ReadFault) -> ServeError {
-        ServeError::ReadFault
-    }
-}
-
-impl From<WriteFault> for ServeError {
-    ghost use Rattle.rosm_tools.specs.declared.gdb.serve.ServeError.TheVariants as why;
-
-    ghost from_gives = { λ _ e. e ≡ why.WriteFault };
-
-    fn from(_fault: WriteFault) -> ServeError {
-        ServeError::WriteFault
-    }
-}
-
-impl From<RunError> for ServeError {
-    ghost use Rattle.rosm_tools.specs.gdb.Streams.{serve_error};
-
-    ghost from_gives = { λ error e. e ≡ serve_error error };
-
-    fn from(error: RunError) -> ServeError {
-        match error {
-            RunError::Memory => ServeError::Memory,
-            RunError::ReadFault => ServeError::ReadFault,
-            RunError::WriteFault => ServeError::WriteFault,
-            RunError::ScriptTooLong => ServeError::TooMuch,
-        }
-    }
-}
 
 /// Answers what a reader gives, as it comes, up to its end or the end of the session, and reads the files
 /// anew for each `run`. What the writer holds back is handed on before more is read.

@@ -2,13 +2,13 @@
 
 ghost use Rattle.std.specs.Prelude.{◌≡◌, map, string_bytes, option_map, IfErr, IfOk, Ok, Option, None, Result};
 ghost use Rattle.rosm_settings.specs.command_line.Settings.{settings_for};
-ghost use Rattle.rosm_tools.specs.gdb.Options.{any_sets_budget, machine_words, most_wanted, one_start_path, sets_budget, stays_wanted, unless_path_lacks};
-ghost use Rattle.rosm_tools.specs.gdb.Endings.{AsksForGdb, IsGdbRefusalOf, IsMachineRefusal, IsRefusalOfWords, gdb_words_refused};
+ghost use Rattle.rosm_settings.specs.gdb.Options.{any_sets_budget, machine_words, most_wanted, one_start_path, sets_budget, stays_wanted, unless_path_lacks};
+ghost use Rattle.rosm_settings.specs.gdb.Endings.{AsksForGdb, IsGdbRefusalOf, IsMachineRefusal, IsRefusalOfWords, gdb_words_refused};
 
+use crate::command_line::{Settings, SettingsError, line_reason, settings, sizes_reason};
 use crate::gdb::options::{GdbWord, PartedGdbWords, part_words};
 use crate::gdb::refusal::GdbRefusal;
 use crate::words::{from_subcommand, texts_of};
-use rosm_settings::command_line::{Settings, SettingsError, line_reason, settings, sizes_reason};
 use std::alloc::{AllocError, Global};
 use std::env;
 use std::env::Env;

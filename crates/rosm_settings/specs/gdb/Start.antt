@@ -4,7 +4,7 @@ use Rattle.std.specs.Prelude.{◌≡◌, ℕ, Bool, false, take, if◌then◌els
 use Rattle.std.specs.Path.{path_file_name}
 use Rattle.std.specs.Str.{bytes_eq}
 use Rattle.profile.specs.images.Entries.{Entry, bytes_of_image}
-use Rattle.rosm_tools.specs.declared.gdb.words.WantedGdb.{WantedGdb}
+use Rattle.rosm_settings.specs.declared.gdb.words.WantedGdb.{WantedGdb}
 
 abbrev pub boot_line_named : List ℕ → List ℕ
 boot_line_named name = codes "BOOT " ++ (name ++ codes "\n")

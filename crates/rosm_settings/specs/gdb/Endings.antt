@@ -9,10 +9,10 @@ use Rattle.profile.specs.Status.{status_after}
 use Rattle.rosm_settings.specs.declared.command_line.options.Settings.{Settings}
 use Rattle.rosm_settings.specs.declared.command_line.options.SettingsError.{SettingsError}
 use Rattle.rosm_settings.specs.declared.command_line.options.SettingsError.TheVariants as refused
-use Rattle.rosm_tools.specs.gdb.Options.{machine_words, start_path_wanted}
-use Rattle.rosm_tools.specs.declared.gdb.refusal.GdbRefusal.{GdbRefusal}
-use Rattle.rosm_tools.specs.declared.gdb.refusal.GdbRefusal.TheVariants as refusal
-use Rattle.rosm_tools.specs.declared.gdb.words.WantedGdb.{WantedGdb}
+use Rattle.rosm_settings.specs.gdb.Options.{machine_words, start_path_wanted}
+use Rattle.rosm_settings.specs.declared.gdb.refusal.GdbRefusal.{GdbRefusal}
+use Rattle.rosm_settings.specs.declared.gdb.refusal.GdbRefusal.TheVariants as refusal
+use Rattle.rosm_settings.specs.declared.gdb.words.WantedGdb.{WantedGdb}
 
 -- What the words ask for: one script at most, and the rest are words of `rosm`.
 pub record AsksForGdb (words : List (List ℕ)) (wanted : WantedGdb) : Type 0 where

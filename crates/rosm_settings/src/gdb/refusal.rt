@@ -2,10 +2,10 @@
 
 ghost use Rattle.std.specs.Prelude.{◌≡◌};
 
-use crate::gdb::serve::ServeError;
-use gdb_server::RunError;
-use rosm_settings::command_line::SettingsError;
-use rosm_settings::image_files::FileError;
+use crate::command_line::SettingsError;
+use crate::gdb::serve_error::ServeError;
+use crate::image_files::FileError;
+use command_shell::RunError;
 use std::alloc::AllocError;
 use thiserror::Error;
 
@@ -43,7 +43,7 @@ pub enum GdbRefusal<'a> {
 }
 
 impl GdbRefusal<'_> {
-    ghost use Rattle.rosm_tools.specs.gdb.Endings.{gdb_refusal_status};
+    ghost use Rattle.rosm_settings.specs.gdb.Endings.{gdb_refusal_status};
 
     /// The exit status: 2 for a command line that can't be, else 4.
     pub fn status(&self) -> u8
@@ -61,7 +61,7 @@ impl GdbRefusal<'_> {
 }
 
 impl<'a> From<AllocError> for GdbRefusal<'a> {
-    ghost use Rattle.rosm_tools.specs.declared.gdb.refusal.GdbRefusal.TheVariants.{Memory};
+    ghost use Rattle.rosm_settings.specs.declared.gdb.refusal.GdbRefusal.TheVariants.{Memory};
 
     ghost from_gives = { λ _ refused. refused ≡ Memory };
 
@@ -71,7 +71,7 @@ impl<'a> From<AllocError> for GdbRefusal<'a> {
 }
 
 impl<'a> From<RunError> for GdbRefusal<'a> {
-    ghost use Rattle.rosm_tools.specs.declared.gdb.refusal.GdbRefusal.TheVariants.{Start};
+    ghost use Rattle.rosm_settings.specs.declared.gdb.refusal.GdbRefusal.TheVariants.{Start};
 
     ghost from_gives = { λ error refused. refused ≡ Start error };
 
@@ -81,7 +81,7 @@ impl<'a> From<RunError> for GdbRefusal<'a> {
 }
 
 impl<'a> From<ServeError> for GdbRefusal<'a> {
-    ghost use Rattle.rosm_tools.specs.declared.gdb.refusal.GdbRefusal.TheVariants.{Served};
+    ghost use Rattle.rosm_settings.specs.declared.gdb.refusal.GdbRefusal.TheVariants.{Served};
 
     ghost from_gives = { λ error refused. refused ≡ Served error };
 

@@ -3,17 +3,17 @@
 ghost use Rattle.std.specs.Prelude.{◌≡◌, [], None, IfErr, IfOk, OnOk, option_map};
 ghost use Rattle.std.specs.Path.{path_file_name};
 ghost use Rattle.rosm_settings.specs.ImageFiles.{AddsFiles};
-ghost use Rattle.rosm_tools.specs.gdb.Start.{AreFirstLines, boot_line, boot_line_named, first_elf, is_elf_image, is_elf_named};
-ghost use Rattle.rosm_tools.specs.gdb.Endings.{gdb_refusal_status};
+ghost use Rattle.rosm_settings.specs.gdb.Start.{AreFirstLines, boot_line, boot_line_named, first_elf, is_elf_image, is_elf_named};
+ghost use Rattle.rosm_settings.specs.gdb.Endings.{gdb_refusal_status};
 
+use crate::SettingsRefusal;
+use crate::command_line::Files;
 use crate::gdb::refusal::GdbRefusal;
 use crate::gdb::words::WantedGdb;
+use crate::image_files::{FileError, add_files};
 use command_shell_lines::read_script;
 use profile::Device;
 use profile::images::Images;
-use rosm_settings::SettingsRefusal;
-use rosm_settings::command_line::Files;
-use rosm_settings::image_files::{FileError, add_files};
 use std::alloc::{AllocError, Global};
 use std::fs;
 use std::fs::File;

@@ -2,8 +2,8 @@
 -- words of `rosm`.
 use Rattle.std.specs.Prelude.{ℕ, ◌-◌, ◌^◌, take, Bool, true, false, not, ◌&&◌, ◌||◌, List, [], ◌∷◌, Option, Some, None, codes, if◌then◌else◌}
 use Rattle.std.specs.Str.{bytes_eq}
-use Rattle.rosm_tools.specs.declared.gdb.options.GdbWord.{GdbWord}
-use Rattle.rosm_tools.specs.declared.gdb.options.GdbWord.TheVariants as taken
+use Rattle.rosm_settings.specs.declared.gdb.options.GdbWord.{GdbWord}
+use Rattle.rosm_settings.specs.declared.gdb.options.GdbWord.TheVariants as taken
 
 abbrev pub asks_start : List ℕ → Bool
 asks_start word = bytes_eq word (codes "--script")

@@ -1,9 +1,9 @@
 use Rattle.std.proofs.Common.{◌≡◌, ℕ, List, Option, None, map, option_map, string_bytes, sym, ap, ◌∙◌}
 use denote.Ref.{Bor}
-use Rattle.rosm_tools.specs.gdb.Options.{last_gdb_word, machine_words, machine_words_from, most_wanted, start_paths_from}
-use Rattle.rosm_tools.specs.declared.gdb.options.GdbWord.TheVariants as taken
-use Rattle.rosm_tools.proofs.GdbLemmas.WordLemmas.{path_by_parts, refused_by_script}
-use Rattle.rosm_tools.proofs.gdb.words.wanted_of.Goals as goal
+use Rattle.rosm_settings.specs.gdb.Options.{last_gdb_word, machine_words, machine_words_from, most_wanted, start_paths_from}
+use Rattle.rosm_settings.specs.declared.gdb.options.GdbWord.TheVariants as taken
+use Rattle.rosm_settings.proofs.GdbLemmas.WordLemmas.{path_by_parts, refused_by_script}
+use Rattle.rosm_settings.proofs.gdb.words.wanted_of.Goals as goal
 
 pub returns-in_default-clause-refused : goal.returns-in_default-clause-refused
 returns-in_default-clause-refused c =

@@ -5,7 +5,7 @@ use Rattle.std.proofs.lemmas.List.{at_drop_more, at_drop_all}
 use Rattle.std.proofs.lemmas.Option.{get_or_from_slice_get, slice_get_within}
 use Rattle.std.specs.Path.{path_file_name}
 use Rattle.profile.specs.images.Entries.{Entry}
-use Rattle.rosm_tools.specs.gdb.Start.{first_elf, is_elf_named}
+use Rattle.rosm_settings.specs.gdb.Start.{first_elf, is_elf_named}
 
 pub elf_more : (images : List Entry) (files : List (List ℕ)) (n : ℕ) (path : List ℕ) → slice_get files n ≡ Some path
     → is_elf_named images (path_file_name path) ≡ false → first_elf images (drop n files) ≡ first_elf images (drop (n + 1) files)

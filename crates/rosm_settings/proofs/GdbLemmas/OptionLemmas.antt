@@ -4,8 +4,8 @@ use Rattle.std.specs.Prelude.{codes, if◌then◌else◌}
 use Rattle.std.specs.Str.{bytes_eq}
 use Rattle.std.proofs.lemmas.List.{at_drop_more, at_drop_all}
 use denote.Ref.{Bor}
-use Rattle.rosm_tools.specs.gdb.Options.{any_sets_budget, asks_to_stay, sets_budget, stays_from, and_machine_word, and_start_path, gdb_word_after, is_machine_word, last_gdb_word, machine_words_from, start_paths_from}
-use Rattle.rosm_tools.specs.declared.gdb.options.GdbWord.{GdbWord}
+use Rattle.rosm_settings.specs.gdb.Options.{any_sets_budget, asks_to_stay, sets_budget, stays_from, and_machine_word, and_start_path, gdb_word_after, is_machine_word, last_gdb_word, machine_words_from, start_paths_from}
+use Rattle.rosm_settings.specs.declared.gdb.options.GdbWord.{GdbWord}
 
 abbrev word_texts : List (Bor (List ℕ)) → List (List ℕ)
 word_texts words = map (λ (w : Bor (List ℕ)). w.now) words

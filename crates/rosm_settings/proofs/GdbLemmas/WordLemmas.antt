@@ -3,12 +3,12 @@ use Rattle.std.proofs.Common.{◌≡◌, ℕ, List, Option, None, Some, Result, 
 use Rattle.rosm_settings.specs.command_line.Settings.{settings_for}
 use Rattle.rosm_settings.specs.declared.command_line.options.Settings.{Settings}
 use Rattle.rosm_settings.specs.declared.command_line.options.SettingsError.{SettingsError}
-use Rattle.rosm_tools.specs.gdb.Endings.{IsGdbRefusalOf, IsMachineRefusal, IsRefusalOfWords}
-use Rattle.rosm_tools.specs.gdb.Options.{last_gdb_word, machine_words, one_start_path, start_path_wanted, start_paths, unless_path_lacks}
-use Rattle.rosm_tools.specs.declared.gdb.options.GdbWord.{GdbWord}
-use Rattle.rosm_tools.specs.declared.gdb.options.GdbWord.TheVariants as taken
-use Rattle.rosm_tools.specs.declared.gdb.refusal.GdbRefusal.{GdbRefusal}
-use Rattle.rosm_tools.specs.declared.gdb.refusal.GdbRefusal.TheVariants as refusal
+use Rattle.rosm_settings.specs.gdb.Endings.{IsGdbRefusalOf, IsMachineRefusal, IsRefusalOfWords}
+use Rattle.rosm_settings.specs.gdb.Options.{last_gdb_word, machine_words, one_start_path, start_path_wanted, start_paths, unless_path_lacks}
+use Rattle.rosm_settings.specs.declared.gdb.options.GdbWord.{GdbWord}
+use Rattle.rosm_settings.specs.declared.gdb.options.GdbWord.TheVariants as taken
+use Rattle.rosm_settings.specs.declared.gdb.refusal.GdbRefusal.{GdbRefusal}
+use Rattle.rosm_settings.specs.declared.gdb.refusal.GdbRefusal.TheVariants as refusal
 
 memory_fits : (path : Option (Option (List ℕ))) (answer : Result Settings SettingsError) → IsRefusalOfWords path answer refusal.Memory
 memory_fits None answer = tt

@@ -1,6 +1,6 @@
 use Rattle.std.proofs.Common.{◌≡◌, drop}
-use Rattle.rosm_tools.specs.gdb.Start.{first_elf}
-use Rattle.rosm_tools.proofs.gdb.start.no_elf_among.Given as goal
+use Rattle.rosm_settings.specs.gdb.Start.{first_elf}
+use Rattle.rosm_settings.proofs.gdb.start.no_elf_among.Given as goal
 
 -- the files so far are none
 abbrev pub invariant-loop-n : goal.invariant-loop-n

@@ -1,7 +1,7 @@
 use Rattle.std.proofs.Common.{◌≡◌, ◌++◌, ◌||◌, drop, map}
-use Rattle.rosm_tools.specs.gdb.Options.{last_gdb_word, machine_words_from, start_paths_from, stays_from}
-use Rattle.rosm_tools.specs.declared.gdb.options.GdbWord.TheVariants as taken
-use Rattle.rosm_tools.proofs.gdb.options.part_words.Given as goal
+use Rattle.rosm_settings.specs.gdb.Options.{last_gdb_word, machine_words_from, start_paths_from, stays_from}
+use Rattle.rosm_settings.specs.declared.gdb.options.GdbWord.TheVariants as taken
+use Rattle.rosm_settings.proofs.gdb.options.part_words.Given as goal
 
 -- the paths and the other words so far, and those that are left
 abbrev pub invariant-loop-word : goal.invariant-loop-word

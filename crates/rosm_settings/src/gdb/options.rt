@@ -1,8 +1,8 @@
 //! The words that are the subcommand's own: `--script`, with the path that follows it, and `--stay`.
 
 ghost use Rattle.std.specs.Prelude.{◌≡◌, IfOk, map};
-ghost use Rattle.rosm_tools.specs.gdb.Options.{asks_to_stay, gdb_word_after, is_machine_word, last_gdb_word, machine_words_from, start_paths_from, stays_from};
-ghost use Rattle.rosm_tools.specs.declared.gdb.options.GdbWord.TheVariants.{Option as expects_option};
+ghost use Rattle.rosm_settings.specs.gdb.Options.{asks_to_stay, gdb_word_after, is_machine_word, last_gdb_word, machine_words_from, start_paths_from, stays_from};
+ghost use Rattle.rosm_settings.specs.declared.gdb.options.GdbWord.TheVariants.{Option as expects_option};
 
 use std::alloc::{AllocError, Global};
 
@@ -36,7 +36,10 @@ pub struct PartedGdbWords<'a> {
 ///
 /// Memory ran out.
 #[tactic(auto, using(crate::proofs::GdbLemmas::OptionLemmas::option_steps))]
-pub fn part_words<'a>(alloc: Global, words: &[&'a str]) -> Result<PartedGdbWords<'a>, AllocError>
+pub(crate) fn part_words<'a>(
+    alloc: Global,
+    words: &[&'a str],
+) -> Result<PartedGdbWords<'a>, AllocError>
     ensures paths { IfOk result (λ p. map (λ w. w.now) p.paths.items
         ≡ start_paths_from expects_option (map (λ w. w.now) words.entry.now)) }
     ensures others { IfOk result (λ p. map (λ w. w.now) p.others.items

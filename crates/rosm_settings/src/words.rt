@@ -5,7 +5,7 @@ ghost use Rattle.std.specs.Prelude.{◌≡◌, drop, map, string_bytes, IfOk};
 use std::alloc::{AllocError, Global};
 
 /// The words from that of the subcommand on, which stands where the name of a program does.
-pub(crate) fn from_subcommand(words: &[String]) -> &[String]
+pub fn from_subcommand(words: &[String]) -> &[String]
     ensures { result.now ≡ drop 1 words.now }
 {
     match words {
@@ -19,7 +19,7 @@ pub(crate) fn from_subcommand(words: &[String]) -> &[String]
 /// # Errors
 ///
 /// Memory ran out.
-pub(crate) fn texts_of<'a>(alloc: Global, words: &'a [String]) -> Result<Vec<&'a str>, AllocError>
+pub fn texts_of<'a>(alloc: Global, words: &'a [String]) -> Result<Vec<&'a str>, AllocError>
     ensures { IfOk result (λ texts. map (λ t. t.now) texts.items ≡ map string_bytes words.entry.now) }
 {
     let mut texts = Vec::new(alloc);
