@@ -1,1 +1,5 @@
+pub mod ComparingLemmas
+pub mod ListingLemmas
 pub mod SourceLemmas
+pub mod TableLemmas
+pub mod TextLemmas

@@ -1,8 +1,27 @@
-//! Listings of assembled blocks.
+//! Lists that lines of a debugging script ask for: of modules, with their commands and places, of the
+//! lines of an assembled block, and of words of images that differ.
 //!
-//! Promise: a row shows what its line made.
+//! Promise: a row shows what its line made, and a command is found where the manual says.
 #![tactic(auto)]
 
+mod commands;
+mod comparing;
+mod describing;
+mod image_parts;
+mod listing;
+mod requests;
 mod source_listing;
+mod tables;
+mod tails;
 
+pub use commands::{CommandSearch, FoundCommand, command_found};
+pub use comparing::push_comparison;
+pub use debug_labels::place_views::names_on;
+pub use debug_tables::byte_writes::put_bytes;
+pub use describing::{module_described, module_meant};
+pub use image_parts::{code_place, syntax_line, text_of_image};
+pub use listing::commands_text;
+pub use requests::{ModuleRequest, module_request};
 pub use source_listing::{keep_source, listing_text};
+pub use tables::{CommandEntry, loaded_word};
+pub use tails::word_count;

@@ -10,7 +10,7 @@ use Rattle.debug_history.specs.Past.{PastState}
 use Rattle.debug_history.specs.declared.act.PastDeed.TheVariants.{Bytes, Register, Status}
 use Rattle.debug_history.specs.declared.noting.SteppingNote.{SteppingNote}
 use Rattle.debug_history.specs.declared.noting.StepsBefore.{StepsBefore}
-use Rattle.debug_labels.specs.Labels.{ImageLabels}
+use Rattle.debug_runs.specs.Labels.{ImageLabels}
 use Rattle.debug_lines.specs.SteppingRequests.{Gosub, SteppingRequest}
 use Rattle.debug_modes.specs.declared.modes.DebugModes.{DebugModes}
 use Rattle.debug_modules.specs.Answers.{IsModuleAnswered, Steps, command_called, command_put_by, code_error_text}

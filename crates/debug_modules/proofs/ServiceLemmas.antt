@@ -1,6 +1,6 @@
 -- How a service call goes on.
 use Rattle.std.proofs.Common.{◌≡◌, ℕ, suc, ◌+◌, ◌-◌, ◌<◌, List, [], ◌++◌, false, codes, refl, ap, ◌∙◌, arith}
-use Rattle.debug_labels.specs.Labels.{ImageLabels}
+use Rattle.debug_runs.specs.Labels.{ImageLabels}
 use Rattle.debug_modules.specs.Entering.{module_code_entered}
 use Rattle.debug_modules.specs.Services.{ServiceState, entry_of_service, served_at, served_from, service_begun, with_service}
 use Rattle.debug_modules.specs.Taking.{HasLineSteps, LineSteps}

@@ -3,8 +3,8 @@ use Rattle.std.proofs.Common.{◌≡◌, ℕ, zero, suc, ◌+◌, ◌-◌, ◌%�
 use Rattle.std.specs.Prelude.{not, ◌==◌, ◌&&◌, ◌||◌, if◌then◌else◌, slice_index}
 use Rattle.std.specs.List.{count_by, range_with_len}
 use Rattle.std.proofs.lemmas.List.Sums.{count_by_more_no, count_by_more_yes, sum_by-append}
-use Rattle.debug_modules.proofs.PlanLemmas.{words_next, words_past}
-use Rattle.debug_modules.specs.Plans.{parts_words, quotes_behind, tail_words, words_begun}
+use Rattle.debug_listing.proofs.TextLemmas.{words_next, words_past}
+use Rattle.debug_listing.specs.Tails.{parts_words, quotes_behind, tail_words, words_begun}
 use Rattle.debug_modules.specs.Laws.{TailWordsAreWords, begins_at, blank_parts_at, quotes_before}
 
 -- whether a place is within a word, and between quotes

@@ -4,7 +4,7 @@ use Rattle.std.proofs.lemmas.Bool.Decides.{nat_tests}
 use Rattle.std.specs.Prelude.{◌==◌, if◌then◌else◌}
 use Rattle.debug_modules.specs.Services.{ServiceState, served_at, served_by, served_from, served_if, service_begun}
 use Rattle.debug_modules.specs.declared.services.ServiceCode.{ServiceCode}
-use Rattle.debug_labels.specs.Labels.{ImageLabels}
+use Rattle.debug_runs.specs.Labels.{ImageLabels}
 use Rattle.debug_modules.proofs.ServiceLemmas.{none_served, served_suc}
 use Rattle.debug_modules.specs.Laws.{AreServiceTurns, IsNextTurn, NoneBetween, ServiceCallsInTurn, Turn, behind_turns, service_code_at}
 

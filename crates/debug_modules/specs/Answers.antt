@@ -11,21 +11,21 @@ use Rattle.command_shell.specs.State.{ScriptState}
 use Rattle.debug_history.specs.Noted.{has_returned, past_with_deed}
 use Rattle.debug_history.specs.Past.{PastState}
 use Rattle.debug_history.specs.declared.act.PastDeed.TheVariants.{Bytes}
-use Rattle.debug_labels.specs.Images.{image_place}
-use Rattle.debug_labels.specs.Labels.{ImageLabels}
-use Rattle.debug_labels.specs.declared.images.ImagePlace.{ImagePlace}
-use Rattle.debug_labels.specs.place_views.Places.{naming_on}
+use Rattle.debug_runs.specs.Images.{image_place}
+use Rattle.debug_runs.specs.Labels.{ImageLabels}
+use Rattle.debug_runs.specs.ImagePlace.{ImagePlace}
+use Rattle.debug_listing.specs.Places.{naming_on}
 use Rattle.debug_listing.specs.SourceListing.{listing_text}
 use Rattle.debug_modes.specs.Changes.{ModeAnswer, why_line_answer}
 use Rattle.debug_modes.specs.declared.modes.DebugModes.{DebugModes}
 use Rattle.debug_modes.specs.expectations.Why.{why_text}
-use Rattle.debug_tables.specs.byte_writes.Put.{script_after_put}
-use Rattle.debug_modules.specs.Comparing.{images_compared}
-use Rattle.debug_modules.specs.Describing.{module_described, module_meant}
+use Rattle.debug_listing.specs.Put.{script_after_put}
+use Rattle.debug_listing.specs.Comparing.{images_compared}
+use Rattle.debug_listing.specs.Describing.{module_described, module_meant}
 use Rattle.debug_modules.specs.Entering.{module_code_entered}
-use Rattle.debug_modules.specs.Listing.{commands_text}
+use Rattle.debug_listing.specs.Listing.{commands_text}
 use Rattle.debug_modules.specs.Plans.{command_plan, tail_address, tail_bytes}
-use Rattle.debug_modules.specs.Requests.{Command, Commands, Compare, Description, Explain, Form, Listing, ModuleAsked, ModuleView, Service, module_request}
+use Rattle.debug_listing.specs.Requests.{Command, Commands, Compare, Description, Explain, Form, Listing, ModuleAsked, ModuleView, Service, module_request}
 use Rattle.debug_modules.specs.Services.{is_served, service_called}
 use Rattle.debug_modules.specs.Taking.{LineSteps}
 use Rattle.debug_modules.specs.declared.answering.ModuleAnswer.{ModuleAnswer}

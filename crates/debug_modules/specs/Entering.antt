@@ -10,7 +10,7 @@ use Rattle.command_shell.specs.State.{ScriptState}
 use Rattle.debug_history.specs.Noted.{has_returned, past_with_deed}
 use Rattle.debug_history.specs.Past.{PastState}
 use Rattle.debug_history.specs.declared.act.PastDeed.TheVariants.{Register, Status}
-use Rattle.debug_labels.specs.Labels.{ImageLabels}
+use Rattle.debug_runs.specs.Labels.{ImageLabels}
 use Rattle.debug_lines.specs.SteppingRequests.{Gosub}
 use Rattle.debug_modes.specs.declared.modes.DebugModes.{DebugModes}
 use Rattle.debug_modules.specs.Taking.{LineSteps, line_steps}

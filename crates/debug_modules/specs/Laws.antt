@@ -4,9 +4,9 @@ use Rattle.std.specs.Prelude.{◌≡◌, ◌<◌, ◌≤◌, ◌⊎◌, ℕ, ◌
 use Rattle.std.specs.List.{count_by, range_with_len}
 use Rattle.command_shell.specs.State.{ScriptState}
 use Rattle.debug_history.specs.Past.{PastState}
-use Rattle.debug_labels.specs.Labels.{ImageLabels}
+use Rattle.debug_runs.specs.Labels.{ImageLabels}
 use Rattle.debug_modes.specs.declared.modes.DebugModes.{DebugModes}
-use Rattle.debug_modules.specs.Plans.{tail_words}
+use Rattle.debug_listing.specs.Tails.{tail_words}
 use Rattle.debug_modules.specs.Services.{ServiceState, served_by, service_begun, service_called, service_code}
 use Rattle.debug_modules.specs.declared.services.ServiceCode.{ServiceCode}
 

@@ -1,14 +1,9 @@
--- Lines that enter the code of loaded modules. Begin with Answers, over Tables, Commands and Entering.
+-- Lines that enter the code of loaded modules. Begin with Answers, over Plans and Entering.
 pub mod Answers
-pub mod Commands
-pub mod Comparing
-pub mod Describing
 pub mod Entering
 pub mod Laws
-pub mod Listing
 pub mod Plans
-pub mod Requests
+pub use Rattle.debug_listing.specs.Requests
 pub mod Services
 pub use Rattle.debug_listing.specs.SourceListing
-pub mod Tables
 pub mod Taking

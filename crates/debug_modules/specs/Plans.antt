@@ -3,18 +3,16 @@
 -- and command keyword table": byte 0 of the word behind the code is how many words there must be at least, and
 -- byte 2 how many there may be; error 220 has the table's text on the syntax). The names of the other reasons
 -- are this project's own.
-use Rattle.std.specs.Prelude.{ℕ, Bool, false, not, ◌+◌, ◌%◌, ◌/◌, ◌^◌, ◌==◌, ◌&&◌, ◌||◌, is_some, nat_lt, List, [], ◌∷◌, ◌++◌, length, map, codes, Option, Some, None, Result, Ok, Err, unwrap_or, if◌then◌else◌}
-use Rattle.std.specs.Int.{is_in_range}
-use Rattle.profile.specs.Sums.{address_further}
+use Rattle.std.specs.Prelude.{ℕ, Bool, false, ◌%◌, ◌/◌, ◌||◌, is_some, nat_lt, List, [], ◌∷◌, ◌++◌, length, codes, Option, Some, None, Result, Ok, Err, if◌then◌else◌}
 use Rattle.address_map.specs.Bytes.{Bytes}
 use Rattle.command_shell.specs.Answers.{refused_text}
 use Rattle.command_shell.specs.MachineState.{MachineState}
-use Rattle.swi_dispatch_answers.specs.Strings.{ends, text_at}
-use Rattle.swi_dispatch_answers.specs.declared.strings.TextEnd.TheVariants as end
-use Rattle.debug_modules.specs.Commands.{command_found}
-use Rattle.debug_modules.specs.declared.commands.CommandSearch.{CommandSearch}
-use Rattle.debug_modules.specs.declared.commands.CommandSearch.TheVariants.{Outside, Found}
-use Rattle.debug_modules.specs.declared.commands.FoundCommand.{FoundCommand}
+use Rattle.debug_listing.specs.Commands.{command_found}
+use Rattle.debug_listing.specs.ImageParts.{code_place, syntax_line, text_of_image}
+use Rattle.debug_listing.specs.Tails.{tail_words}
+use Rattle.debug_listing.specs.declared.commands.CommandSearch.{CommandSearch}
+use Rattle.debug_listing.specs.declared.commands.CommandSearch.TheVariants.{Outside, Found}
+use Rattle.debug_listing.specs.declared.commands.FoundCommand.{FoundCommand}
 use Rattle.debug_modules.specs.declared.entering.ModuleEntry.{ModuleEntry}
 use Rattle.debug_modules.specs.declared.plans.CommandPlan.{CommandPlan}
 use Rattle.debug_modules.specs.declared.plans.CommandPlan.TheVariants.{Refused, Ready}
@@ -25,42 +23,6 @@ tail_address = 0x01C02300
 
 abbrev pub tail_bytes : List ℕ → List ℕ
 tail_bytes tail = tail ++ 13 ∷ []
-
--- Words behind a command's name: a space (32) parts them, but for one between double quotes (34).
-abbrev pub parts_words : Bool → ℕ → Bool
-parts_words in_quotes byte = byte == 32 && not in_quotes
-
-abbrev pub quotes_behind : Bool → ℕ → Bool
-quotes_behind in_quotes byte = if byte == 34 then not in_quotes else in_quotes
-
--- 1 where a word begins at a byte
-abbrev pub words_begun : Bool → Bool → ℕ → ℕ
-words_begun in_word in_quotes byte = if in_word || parts_words in_quotes byte then 0 else 1
-
--- how many begin in a text that goes on within a word or not, and between quotes or not
-unfoldable pub tail_words : Bool → Bool → List ℕ → ℕ
-tail_words in_word in_quotes [] = 0
-tail_words in_word in_quotes (byte ∷ rest) = words_begun in_word in_quotes byte
-    + tail_words (not (parts_words in_quotes byte)) (quotes_behind in_quotes byte) rest
-
--- where code at an offset of an image can be entered
-abbrev pub code_place : ℕ → ℕ → ℕ → Option ℕ
-code_place image len offset = let at = address_further image offset in
-    if nat_lt 0 offset && (nat_lt offset len && (at % 4 == 0 && nat_lt at (2 ^ 26))) then Some at else None
-
--- the text at an offset of an image, empty where that has none
-abbrev pub text_of_image : Bytes → ℕ → ℕ → ℕ → List ℕ
-text_of_image b image len offset =
-    if offset == 0 || not (nat_lt offset len) then []
-    else unwrap_or (text_at (ends end.Zero) 255 b (address_further image offset)) []
-
--- from a space (32) to `~` (126); a tab (9) is a space, any other byte `.` (46)
-abbrev pub shown_character : ℕ → ℕ
-shown_character byte = if is_in_range 32 126 byte then byte else (if byte == 9 then 32 else 46)
-
--- `error 220 &DC Syntax: *PotSet <pot> <seeds>`
-abbrev pub syntax_line : List ℕ → List ℕ
-syntax_line text = codes "error 220 &DC " ++ (map shown_character text ++ codes "\n")
 
 -- R0: the tail; R1: how many words it has; R12: the private word
 abbrev pub entry_of_command : FoundCommand → ℕ → Option ℕ → Result ModuleEntry (List ℕ)

@@ -13,7 +13,7 @@ use Rattle.command_shell.specs.State.{ScriptState}
 use Rattle.command_shell_lines.specs.Requests.{is_same_word}
 use Rattle.debug_history.specs.Noted.{has_returned}
 use Rattle.debug_history.specs.Past.{PastState}
-use Rattle.debug_labels.specs.Labels.{ImageLabels}
+use Rattle.debug_runs.specs.Labels.{ImageLabels}
 use Rattle.debug_modes.specs.declared.modes.DebugModes.{DebugModes}
 use Rattle.instances_table.specs.Changes.{modules_of_title}
 use Rattle.instances_table.specs.Lookup.{shown_of_module, shown_of_place}
@@ -22,8 +22,8 @@ use Rattle.instances_table.specs.declared.parts.InstanceInfo.{InstanceInfo}
 use Rattle.instances_table.specs.declared.parts.ModuleInfo.{ModuleInfo}
 use Rattle.instances_table.specs.plans.Code.{private_of}
 use Rattle.debug_modules.specs.Entering.{module_code_entered}
-use Rattle.debug_modules.specs.Plans.{code_place}
-use Rattle.debug_modules.specs.Tables.{loaded_word}
+use Rattle.debug_listing.specs.ImageParts.{code_place}
+use Rattle.debug_listing.specs.Tables.{loaded_word}
 use Rattle.debug_modules.specs.Taking.{LineSteps}
 use Rattle.debug_modules.specs.declared.entering.ModuleEntry.{ModuleEntry}
 use Rattle.debug_modules.specs.declared.services.ServiceCode.{ServiceCode}

@@ -6,13 +6,13 @@ use Rattle.debug_history.specs.Noted.{has_returned, is_faulted, past_after_stepp
 use Rattle.debug_history.specs.Past.{PastState}
 use Rattle.debug_history.specs.declared.noting.SteppingNote.{SteppingNote}
 use Rattle.debug_history.specs.declared.noting.StepsBefore.{StepsBefore}
-use Rattle.debug_labels.specs.Labels.{ImageLabels}
+use Rattle.debug_runs.specs.Labels.{ImageLabels}
 use Rattle.debug_lines.specs.SteppingRequests.{SteppingRequest}
 use Rattle.debug_modes.specs.Modes.{answer_of_line}
 use Rattle.debug_modes.specs.declared.modes.DebugModes.{DebugModes}
 use Rattle.debug_runs.specs.Lines.{SteppingAnswer, stepping_answer}
 use Rattle.debug_runs.specs.Places.{places_of_line}
-use Rattle.debug_tables.specs.counts.Counts.{steps_counted}
+use Rattle.debug_runs.specs.counts.Counts.{steps_counted}
 
 -- the modes after a line, whose steps were counted
 abbrev pub modes_after : DebugModes → ScriptState → SteppingRequest → DebugModes

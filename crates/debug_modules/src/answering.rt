@@ -7,21 +7,18 @@ ghost use Rattle.debug_modules.specs.Answers.{IsModuleAnswered, command_answered
 ghost use Rattle.debug_modules.specs.Taking.{HasLineSteps};
 
 use crate::comparing::images_compared;
-use crate::describing::{module_described, module_meant};
 use crate::entering::{ModuleEntry, enter_code};
-use crate::listing::commands_text;
 use crate::plans::{CommandPlan, TAIL, command_plan, tail_bytes};
-use crate::requests::{ModuleRequest, module_request};
 use crate::services::{call_service, is_served};
+use command_shell::Session;
 use debug_history::{KeptText, Past, PastDeed, has_returned};
-use debug_labels::LabelTable;
-use debug_labels::place_views::names_on;
 use debug_lines::DebugView;
-use debug_listing::listing_text;
+use debug_listing::{
+    ModuleRequest, commands_text, listing_text, module_described, module_meant, module_request,
+    names_on, put_bytes,
+};
 use debug_modes::{DebugModes, refused_line, view_text};
-use debug_runs::LineAnswer;
-use debug_tables::byte_writes::put_bytes;
-use debug_tables::run_meter::Session;
+use debug_runs::{LabelTable, LineAnswer};
 use profile::images::Images;
 use std::alloc::{AllocError, Global};
 

@@ -1,22 +1,13 @@
-//! Two images, compared word by word, with the instructions where they differ.
+//! The images of two names, compared.
 
-ghost use Rattle.std.specs.Prelude.{◌≡◌, ◌<◌, ◌≤◌, ◌+◌, ◌*◌, ◌^◌, ◌++◌, length, take, IfOk};
-ghost use Rattle.std.specs.Fmt.{decimal};
-ghost use Rattle.std.specs.List.{flat_map};
-ghost use Rattle.profile.specs.Output.{Writes};
-ghost use Rattle.debug_modules.specs.Comparing.{compared_word, comparison_text, difference_line, images_compared, lengths_compared, line_of_word, word_of_bytes, words_that_differ};
+ghost use Rattle.std.specs.Prelude.{◌≡◌, IfOk};
+ghost use Rattle.debug_listing.specs.Comparing.{images_compared};
 
-use assembler_text::disassemble;
-use byteorder::{ByteOrder, LittleEndian};
+use debug_listing::push_comparison;
 use debug_modes::refused_line;
-use itoa::Buffer;
 use profile::images::Images;
 use profile::text_sink::TextSink;
-use profile::{HexText, Sink, WriteFault, push_all, push_parts};
 use std::alloc::{AllocError, Global};
-
-// So many words that differ are shown.
-const MOST_SHOWN: usize = 16;
 
 /// Where the images of two names differ, or that one of them is none.
 ///
@@ -42,93 +33,4 @@ pub(crate) fn images_compared(
         Ok(()) => Ok(text.into_bytes()),
         Err(_) => Err(AllocError),
     }
-}
-
-fn push_comparison<W: Sink>(sink: &mut W, one: &[u8], other: &[u8]) -> Result<(), WriteFault>
-    requires { length one.now < 2 ^ 32 }
-    ensures { Writes W.contents W.has_failed sink.old sink.new result (comparison_text one.now other.now) }
-{
-    let found = push_differences(sink, one, other)?;
-    let words = one.len().min(other.len()) / 4;
-    push_two(sink, found, b" of ", words, b" words differ\n")?;
-    push_lengths(sink, one, other)
-}
-
-// The first words that differ, and how many do.
-fn push_differences<W: Sink>(sink: &mut W, one: &[u8], other: &[u8]) -> Result<usize, WriteFault>
-    requires { length one.now < 2 ^ 32 }
-    ensures lines { Writes W.contents W.has_failed sink.old sink.new result
-        (flat_map (line_of_word one.now other.now) (take 16 (words_that_differ one.now other.now))) }
-    ensures count { IfOk result (λ found. found ≡ length (words_that_differ one.now other.now)) }
-{
-    let mut found = 0;
-    for k in 0..one.len().min(other.len()) / 4 {
-        let first = word_of_bytes(one, k);
-        let second = word_of_bytes(other, k);
-        if first != second {
-            if found < MOST_SHOWN {
-                push_both(sink, 4 * k as u32, first, second)?;
-            }
-            found += 1;
-        }
-    }
-    Ok(found)
-}
-
-fn word_of_bytes(bytes: &[u8], k: usize) -> u32
-    requires { 4 * k + 4 ≤ length bytes.now }
-    ensures { result ≡ word_of_bytes bytes.now k }
-{
-    LittleEndian::read_u32(&bytes[4 * k..4 * k + 4])
-}
-
-fn push_both<W: Sink>(sink: &mut W, at: u32, first: u32, second: u32) -> Result<(), WriteFault>
-    ensures { Writes W.contents W.has_failed sink.old sink.new result (difference_line at first second) }
-{
-    push_parts(sink, &[HexText::word(at).as_slice(), b" ".as_slice()])?;
-    push_word(sink, at, first)?;
-    push_all(sink, b" | ")?;
-    push_word(sink, at, second)?;
-    push_all(sink, b"\n")
-}
-
-fn push_word<W: Sink>(sink: &mut W, at: u32, word: u32) -> Result<(), WriteFault>
-    ensures { Writes W.contents W.has_failed sink.old sink.new result (compared_word at word) }
-{
-    push_parts(sink, &[HexText::word(word).as_slice(), b" ".as_slice()])?;
-    disassemble(word, at, sink)
-}
-
-// Which lengths differ, or that the bytes behind the last word do.
-fn push_lengths<W: Sink>(sink: &mut W, one: &[u8], other: &[u8]) -> Result<(), WriteFault>
-    ensures { Writes W.contents W.has_failed sink.old sink.new result
-        (lengths_compared one.now other.now) }
-{
-    if one.len() != other.len() {
-        return push_two(sink, one.len(), b" bytes and ", other.len(), b" bytes\n");
-    }
-    let words = one.len() / 4 * 4;
-    if one[words..] == other[words..] {
-        Ok(())
-    } else {
-        push_all(sink, b"the last bytes differ\n")
-    }
-}
-
-// Two numbers, each with a text behind it.
-fn push_two<W: Sink>(
-    sink: &mut W,
-    first: usize,
-    between: &[u8],
-    second: usize,
-    behind: &[u8],
-) -> Result<(), WriteFault>
-    ensures { Writes W.contents W.has_failed sink.old sink.new result
-        (decimal first ++ (between.now ++ (decimal second ++ behind.now))) }
-{
-    let mut digits = Buffer::new();
-    push_all(sink, digits.format(first).as_bytes())?;
-    push_all(sink, between)?;
-    push_all(sink, digits.format(second).as_bytes())?;
-    push_all(sink, behind)
 }

@@ -11,13 +11,12 @@ ghost use Rattle.debug_modules.specs.Taking.{HasLineSteps};
 
 use crate::taking::take_steps;
 use arm_core::{Mode, Psr};
+use command_shell::Session;
 use command_shell_lines::{Origin, RegisterNumber};
 use debug_history::{Past, PastDeed, has_returned};
-use debug_labels::LabelTable;
 use debug_lines::SteppingCommand;
 use debug_modes::DebugModes;
-use debug_runs::LineAnswer;
-use debug_tables::run_meter::Session;
+use debug_runs::{LabelTable, LineAnswer};
 use profile::images::Images;
 use std::alloc::{AllocError, Global};
 

@@ -5,22 +5,16 @@
 #![tactic(auto)]
 
 mod answering;
-mod commands;
 mod comparing;
-mod describing;
 mod entering;
 mod laws;
-mod listing;
 mod plans;
-mod requests;
 mod services;
-mod tables;
 mod taking;
 
 pub use answering::{ModuleAnswer, answer_module_line};
 pub use debug_listing::keep_source;
 pub use entering::ModuleEntry;
 pub use laws::{service_calls_in_turn, tail_words_are_words};
-pub use requests::{ModuleRequest, module_request};
 pub use services::ServiceCode;
 pub use taking::take_steps;

@@ -12,15 +12,14 @@ ghost use Rattle.debug_modules.specs.Services.{claimed_text, is_service_meant, i
 ghost use Rattle.debug_modules.specs.Taking.{HasLineSteps};
 
 use crate::entering::{ModuleEntry, enter_code};
-use crate::plans::code_place;
-use crate::tables::loaded_word;
+use command_shell::{Machine, Session};
 use command_shell_lines::Origin;
 use debug_history::{Past, has_returned};
-use debug_labels::{Instances, LabelTable, ModuleInfo};
+use debug_listing::{code_place, loaded_word};
 use debug_modes::DebugModes;
-use debug_runs::LineAnswer;
-use debug_tables::run_meter::{Machine, Session};
-use instances_table::Name;
+use debug_runs::{LabelTable, LineAnswer};
+use instances::Instances;
+use instances_table::{ModuleInfo, Name};
 use profile::images::Images;
 use profile::memory_map::PRIVATE_WORDS;
 use std::alloc::{AllocError, Global};

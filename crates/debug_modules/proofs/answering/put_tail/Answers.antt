@@ -6,7 +6,7 @@ use Rattle.debug_history.specs.declared.act.PastDeed.TheVariants.{Bytes}
 use Rattle.debug_modules.specs.Plans.{tail_address}
 use Rattle.debug_modules.proofs.EnteringLemmas.{tail_put}
 use Rattle.debug_modules.proofs.answering.put_tail.Goals as goal
-use Rattle.debug_tables.specs.byte_writes.Put.{script_after_put}
+use Rattle.debug_listing.specs.Put.{script_after_put}
 
 pub returns-in_ok-answer-in-Ok : goal.returns-in_ok-answer-in-Ok
 returns-in_ok-answer-in-Ok c =

@@ -1,6 +1,6 @@
 -- An image has a million bytes at most.
 use Rattle.std.proofs.Common.{sym}
-use Rattle.debug_modules.proofs.ComparingLemmas.{image_few}
+use Rattle.debug_listing.proofs.ComparingLemmas.{image_few}
 use Rattle.debug_modules.proofs.comparing.images_compared.Goals as goal
 
 pub push_comparison-requires : goal.push_comparison-requires

@@ -1,8 +1,0 @@
-use Rattle.std.proofs.Common.{◌≡◌, ◌++◌, drop, map}
-use Rattle.debug_modules.specs.Plans.{shown_character}
-use Rattle.debug_modules.proofs.plans.push_shown.Given as goal
-
--- what was shown, and what is left, is all
-abbrev pub invariant-loop-byte : goal.invariant-loop-byte
-invariant-loop-byte l = l.line.items ++ map shown_character (drop l.byte-index l.text)
-    ≡ l.fn.line.items ++ map shown_character l.text
