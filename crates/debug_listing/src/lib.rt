@@ -1,7 +1,7 @@
-//! Lists that lines of a debugging script ask for: of modules, with their commands and places, of the
-//! lines of an assembled block, and of words of images that differ.
+//! Lists for debugging scripts. They are of modules, with their commands and places, of the lines of an
+//! assembled block, and of words of images that differ.
 //!
-//! Promise: a row shows what its line made, and a command is found where the manual says.
+//! Promise: a list shows what is there.
 #![tactic(auto)]
 
 mod commands;
