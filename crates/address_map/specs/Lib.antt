@@ -1,5 +1,8 @@
 -- What memory is to guests and store calls. Begin with Bytes, then Records; Memory ties both to the
 -- map.
+pub use Rattle.raw_store.specs.ErrorNumber
+pub use Rattle.raw_store.specs.MemoryMap
+pub use Rattle.raw_store.specs.Outcome
 pub use Rattle.raw_store.specs.Region as RawStoreRegion
 pub mod Bytes
 pub mod Classes

@@ -26,5 +26,6 @@ pub use follow::{BlockMove, moved_to};
 pub use item::Item;
 pub use laws::pages_are_counted;
 pub use map::AddressMap;
+pub use raw_store::{ErrorNumber, HEAP_DESCRIPTOR, HEAP_NAME, RMA_START};
 pub use region::{Kind, Region, do_meet};
 pub use view::View;

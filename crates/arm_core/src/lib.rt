@@ -17,6 +17,11 @@ pub mod register_file;
 pub mod registers;
 pub mod turn;
 
+pub use arm_decode::shifted::rotate_right;
+pub use arm_decode::{
+    Address, Bits, BlockMode, BlockTransfer, Condition, Form, Indexing, Multiply, Offset, Operand,
+    Operate, Operation, Shift, ShiftedRegister, Transfer, row_of,
+};
 pub use cpu::Cpu;
 pub use psr::{Mode, Psr};
 pub use turn::StepEnd;

@@ -1,6 +1,7 @@
 -- The instruction table of the ARM2, both ways. Begin with Table; Diagrams and Laws say it
 -- otherwise.
 pub use Rattle.profile.specs.MemoryMap
+pub use Rattle.profile.specs.Outcome
 pub use Rattle.profile.specs.Sums
 pub use Rattle.profile.specs.SwiNames
 pub use Rattle.profile.specs.Word

@@ -1,28 +1,28 @@
 -- What is known of a word whose form and fields the table allows.
 use Rattle.std.proofs.Common.{◌≡◌, ◌<◌, ◌+◌, ◌-◌, ◌*◌, ◌%◌, ◌^◌, ◌&&◌, ℕ, Bool, true, false, not, nat_eq, Result, Ok, Option, None, ap, subst, sym, ◌∙◌, refl, if◌then◌else◌}
-use Rattle.arm_decode.specs.Shifted.{rotated_right}
+use Rattle.arm_core.specs.Shifted.{rotated_right}
 use Rattle.profile.specs.Word.{bit_of, field}
 use Rattle.profile.specs.declared.fault.Fault.{Fault}
-use Rattle.arm_decode.specs.Decoded.{instruction_of_word, decoded_as, unless_refused}
-use Rattle.arm_decode.specs.Fields.{condition_in, action_in, immediate_in, operate_in, shifted_in, transfer_in}
-use Rattle.arm_decode.specs.Names.{shift_of}
-use Rattle.arm_decode.specs.Refusals.{refusal, is_test}
-use Rattle.arm_decode.specs.Table.{form_of}
-use Rattle.arm_decode.specs.declared.action.Action.{Action}
-use Rattle.arm_decode.specs.declared.action.Action.TheVariants as action
-use Rattle.arm_decode.specs.declared.action.Operate.{Operate}
-use Rattle.arm_decode.specs.declared.action.Transfer.{Transfer}
-use Rattle.arm_decode.specs.declared.address.Indexing.{Indexing}
-use Rattle.arm_decode.specs.declared.address.Offset.{Offset}
-use Rattle.arm_decode.specs.declared.address.Offset.TheVariants as offset
-use Rattle.arm_decode.specs.declared.condition.Condition.{Condition}
-use Rattle.arm_decode.specs.declared.condition.Condition.TheVariants as condition
-use Rattle.arm_decode.specs.declared.form.Form.{Form}
-use Rattle.arm_decode.specs.declared.form.Form.TheVariants as form
-use Rattle.arm_decode.specs.declared.operand.Operand.{Operand}
-use Rattle.arm_decode.specs.declared.operand.Operand.TheVariants as operand
-use Rattle.arm_decode.specs.declared.shift.Shift.{Shift}
-use Rattle.arm_decode.specs.declared.shift.Shift.TheVariants as shift
+use Rattle.arm_core.specs.Decoded.{instruction_of_word, decoded_as, unless_refused}
+use Rattle.arm_core.specs.Fields.{condition_in, action_in, immediate_in, operate_in, shifted_in, transfer_in}
+use Rattle.arm_core.specs.Names.{shift_of}
+use Rattle.arm_core.specs.Refusals.{refusal, is_test}
+use Rattle.arm_core.specs.Table.{form_of}
+use Rattle.arm_core.specs.Action.{Action}
+use Rattle.arm_core.specs.Action.TheVariants as action
+use Rattle.arm_core.specs.ArmDecodeOperate.{Operate}
+use Rattle.arm_core.specs.Transfer.{Transfer}
+use Rattle.arm_core.specs.Indexing.{Indexing}
+use Rattle.arm_core.specs.Offset.{Offset}
+use Rattle.arm_core.specs.Offset.TheVariants as offset
+use Rattle.arm_core.specs.Condition.{Condition}
+use Rattle.arm_core.specs.Condition.TheVariants as condition
+use Rattle.arm_core.specs.Form.{Form}
+use Rattle.arm_core.specs.Form.TheVariants as form
+use Rattle.arm_core.specs.ArmDecodeOperand.{Operand}
+use Rattle.arm_core.specs.ArmDecodeOperand.TheVariants as operand
+use Rattle.arm_core.specs.Shift.{Shift}
+use Rattle.arm_core.specs.Shift.TheVariants as shift
 use Rattle.arm_predecode.specs.Kinds.{Does, OperatesPlainly, OperatesByImmediate, OperatesByRegister, OperatesByShift, Branches, Transfers, TransfersByNumber, TransfersByRegister}
 use Rattle.arm_predecode.specs.OpValue.{OpValue}
 

@@ -2,24 +2,24 @@
 use Rattle.std.proofs.Common.{◌≡◌, ◌<◌, ◌-◌, ◌*◌, ◌%◌, ◌^◌, ◌&&◌, ℕ, Bool, true, false, not, length, Ok, None, ap, subst, sym, ◌∙◌, refl, if◌then◌else◌}
 use Rattle.profile.specs.Word.{bit_of, field}
 use Rattle.arm_core.specs.Listed.{registers_of_list}
-use Rattle.arm_decode.specs.Fields.{action_in, block_transfer_in, condition_in, multiply_in, operate_in, shifted_in, transfer_in}
-use Rattle.arm_decode.specs.Names.{shift_of}
-use Rattle.arm_decode.specs.Refusals.{refusal}
-use Rattle.arm_decode.specs.Table.{form_of}
-use Rattle.arm_decode.specs.declared.action.Action.{Action}
-use Rattle.arm_decode.specs.declared.action.Action.TheVariants as action
-use Rattle.arm_decode.specs.declared.action.BlockTransfer.{BlockTransfer}
-use Rattle.arm_decode.specs.declared.action.Multiply.{Multiply}
-use Rattle.arm_decode.specs.declared.action.Operate.{Operate}
-use Rattle.arm_decode.specs.declared.action.Transfer.{Transfer}
-use Rattle.arm_decode.specs.declared.address.Indexing.TheVariants as indexing
-use Rattle.arm_decode.specs.declared.address.Offset.TheVariants as offset
-use Rattle.arm_decode.specs.declared.condition.Condition.TheVariants as condition
-use Rattle.arm_decode.specs.declared.form.Form.{Form}
-use Rattle.arm_decode.specs.declared.form.Form.TheVariants as form
-use Rattle.arm_decode.specs.declared.operand.Operand.TheVariants as operand
-use Rattle.arm_decode.specs.declared.operation.Operation.TheVariants as operation
-use Rattle.arm_decode.specs.declared.shift.Shift.TheVariants as shift
+use Rattle.arm_core.specs.Fields.{action_in, block_transfer_in, condition_in, multiply_in, operate_in, shifted_in, transfer_in}
+use Rattle.arm_core.specs.Names.{shift_of}
+use Rattle.arm_core.specs.Refusals.{refusal}
+use Rattle.arm_core.specs.Table.{form_of}
+use Rattle.arm_core.specs.Action.{Action}
+use Rattle.arm_core.specs.Action.TheVariants as action
+use Rattle.arm_core.specs.BlockTransfer.{BlockTransfer}
+use Rattle.arm_core.specs.Multiply.{Multiply}
+use Rattle.arm_core.specs.ArmDecodeOperate.{Operate}
+use Rattle.arm_core.specs.Transfer.{Transfer}
+use Rattle.arm_core.specs.Indexing.TheVariants as indexing
+use Rattle.arm_core.specs.Offset.TheVariants as offset
+use Rattle.arm_core.specs.Condition.TheVariants as condition
+use Rattle.arm_core.specs.Form.{Form}
+use Rattle.arm_core.specs.Form.TheVariants as form
+use Rattle.arm_core.specs.ArmDecodeOperand.TheVariants as operand
+use Rattle.arm_core.specs.Operation.TheVariants as operation
+use Rattle.arm_core.specs.Shift.TheVariants as shift
 use Rattle.arm_predecode.specs.Kinds.{Does, goes_up, gap_below, LoadsBeside, MovesBlock, MovesToPc, MultipliesPlainly}
 use Rattle.arm_predecode.specs.OpValue.{OpValue}
 use Rattle.arm_predecode.proofs.Known.{does}

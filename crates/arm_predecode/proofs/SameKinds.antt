@@ -1,8 +1,8 @@
 -- What is known by some operation is known by one that equals it.
 use Rattle.std.proofs.Common.{◌≡◌, Bool, subst, false, true}
-use Rattle.arm_decode.specs.declared.condition.Condition.{Condition}
-use Rattle.arm_decode.specs.declared.address.Indexing.{Indexing}
-use Rattle.arm_decode.specs.declared.operation.Operation.{Operation}
+use Rattle.arm_core.specs.Condition.{Condition}
+use Rattle.arm_core.specs.Indexing.{Indexing}
+use Rattle.arm_core.specs.Operation.{Operation}
 use Rattle.arm_predecode.specs.Kinds.{OperatesByImmediate, OperatesByRegister, OperatesByShift, Branches, MovesBlock, MovesToPc, MultipliesPlainly, TransfersByNumber, TransfersByRegister}
 use Rattle.arm_predecode.specs.OpValue.{OpValue}
 

@@ -1,26 +1,26 @@
 -- What each kind of an op says of the word and its parts: the instruction that the word is, and the parts of it that the kind needs.
 use Rattle.std.specs.Prelude.{◌≡◌, ◌≢◌, ◌<◌, ◌+◌, ◌-◌, if◌then◌else◌, ◌*◌, ◌%◌, ◌^◌, ◌&&◌, ◌==◌, ℕ, Bool, true, false, not, length, ⊤, Ok}
-use Rattle.arm_decode.specs.Shifted.{rotated_right}
+use Rattle.arm_core.specs.Shifted.{rotated_right}
 use Rattle.profile.specs.Word.{field, bit_of}
-use Rattle.arm_decode.specs.Decoded.{instruction_of_word}
-use Rattle.arm_decode.specs.Fields.{block_transfer_in, condition_in, immediate_in, multiply_in, operate_in, shifted_in, transfer_in}
-use Rattle.arm_decode.specs.Names.{block_mode_of, indexing_of, shift_of}
-use Rattle.arm_decode.specs.Refusals.{is_test}
-use Rattle.arm_decode.specs.declared.action.Action.{Action}
-use Rattle.arm_decode.specs.declared.action.Action.TheVariants as action
-use Rattle.arm_decode.specs.declared.condition.Condition.{Condition}
-use Rattle.arm_decode.specs.declared.condition.Condition.TheVariants as condition
-use Rattle.arm_decode.specs.declared.address.BlockMode.{BlockMode}
-use Rattle.arm_decode.specs.declared.address.BlockMode.TheVariants.{DecrementAfter, IncrementAfter, DecrementBefore, IncrementBefore}
-use Rattle.arm_decode.specs.declared.address.Indexing.{Indexing}
-use Rattle.arm_decode.specs.declared.address.Indexing.TheVariants as indexing
-use Rattle.arm_decode.specs.declared.address.Offset.{Offset}
-use Rattle.arm_decode.specs.declared.address.Offset.TheVariants as offset
-use Rattle.arm_decode.specs.declared.operand.Operand.{Operand}
-use Rattle.arm_decode.specs.declared.operand.Operand.TheVariants as operand
-use Rattle.arm_decode.specs.declared.operation.Operation.{Operation}
-use Rattle.arm_decode.specs.declared.operation.Operation.TheVariants as operation
-use Rattle.arm_decode.specs.declared.shift.Shift.TheVariants as shift
+use Rattle.arm_core.specs.Decoded.{instruction_of_word}
+use Rattle.arm_core.specs.Fields.{block_transfer_in, condition_in, immediate_in, multiply_in, operate_in, shifted_in, transfer_in}
+use Rattle.arm_core.specs.Names.{block_mode_of, indexing_of, shift_of}
+use Rattle.arm_core.specs.Refusals.{is_test}
+use Rattle.arm_core.specs.Action.{Action}
+use Rattle.arm_core.specs.Action.TheVariants as action
+use Rattle.arm_core.specs.Condition.{Condition}
+use Rattle.arm_core.specs.Condition.TheVariants as condition
+use Rattle.arm_core.specs.BlockMode.{BlockMode}
+use Rattle.arm_core.specs.BlockMode.TheVariants.{DecrementAfter, IncrementAfter, DecrementBefore, IncrementBefore}
+use Rattle.arm_core.specs.Indexing.{Indexing}
+use Rattle.arm_core.specs.Indexing.TheVariants as indexing
+use Rattle.arm_core.specs.Offset.{Offset}
+use Rattle.arm_core.specs.Offset.TheVariants as offset
+use Rattle.arm_core.specs.ArmDecodeOperand.{Operand}
+use Rattle.arm_core.specs.ArmDecodeOperand.TheVariants as operand
+use Rattle.arm_core.specs.Operation.{Operation}
+use Rattle.arm_core.specs.Operation.TheVariants as operation
+use Rattle.arm_core.specs.Shift.TheVariants as shift
 use Rattle.arm_core.specs.Listed.{registers_of_list}
 use Rattle.arm_predecode.specs.declared.kind.OpKind.{OpKind}
 use Rattle.arm_predecode.specs.declared.kind.OpKind.TheVariants as kind

@@ -1,6 +1,6 @@
 -- A word with its parts.
 use Rattle.std.specs.Prelude.{ℕ, Bool}
-use Rattle.arm_decode.specs.declared.shift.Shift.{Shift}
+use Rattle.arm_core.specs.Shift.{Shift}
 use Rattle.arm_predecode.specs.declared.kind.OpKind.{OpKind}
 
 pub record OpValue : Type 0 where

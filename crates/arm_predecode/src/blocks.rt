@@ -2,19 +2,19 @@
 
 ghost use Rattle.std.specs.Prelude.{◌≡◌, ◌<◌, ◌≤◌, ◌&&◌, not, Ok, None, true, false};
 ghost use Rattle.profile.specs.Word.{bit_of};
-ghost use Rattle.arm_decode.specs.Fields.{block_transfer_in, condition_in};
-ghost use Rattle.arm_decode.specs.Refusals.{refusal};
-ghost use Rattle.arm_decode.specs.Table.{form_of};
-ghost use Rattle.arm_decode.specs.declared.action.Action.{Action};
-ghost use Rattle.arm_decode.specs.declared.condition.Condition.{Condition};
-ghost use Rattle.arm_decode.specs.declared.form.Form.{Form};
+ghost use Rattle.arm_core.specs.Fields.{block_transfer_in, condition_in};
+ghost use Rattle.arm_core.specs.Refusals.{refusal};
+ghost use Rattle.arm_core.specs.Table.{form_of};
+ghost use Rattle.arm_core.specs.Action.{Action};
+ghost use Rattle.arm_core.specs.Condition.{Condition};
+ghost use Rattle.arm_core.specs.Form.{Form};
 ghost use Rattle.arm_predecode.specs.Kinds.{KindMeans, goes_up, gap_below, MovesBlock};
 ghost use Rattle.arm_predecode.specs.OpValue.{OpValue};
 
 use crate::kind::OpKind;
 use crate::op::Op;
 use arm_core::registers::size_of;
-use arm_decode::{BlockMode, BlockTransfer, Shift};
+use arm_core::{BlockMode, BlockTransfer, Shift};
 
 /// Whether the base goes up.
 fn goes_up(mode: BlockMode) -> bool

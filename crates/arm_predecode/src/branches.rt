@@ -5,7 +5,7 @@ ghost use Rattle.arm_predecode.specs.Kinds.{KindMeans, Branches};
 ghost use Rattle.arm_predecode.specs.OpValue.{OpValue};
 
 use crate::kind::OpKind;
-use arm_decode::Condition;
+use arm_core::Condition;
 
 /// The kind of B under a condition; `Slow` under the one that never holds.
 #[tactic(auto, using(crate::proofs::SameKinds::same_branch))]

@@ -2,22 +2,21 @@
 
 ghost use Rattle.std.specs.Prelude.{◌≡◌, ◌<◌, ◌&&◌, ◌+◌, ◌%◌, ◌^◌, Ok, None, IfSome, false, true, not};
 ghost use Rattle.profile.specs.Word.{bit_of, field};
-ghost use Rattle.arm_decode.specs.Fields.{condition_in, immediate_in, operate_in, shifted_in};
-ghost use Rattle.arm_decode.specs.Names.{shift_of};
-ghost use Rattle.arm_decode.specs.Refusals.{is_test, refusal};
-ghost use Rattle.arm_decode.specs.Table.{form_of};
-ghost use Rattle.arm_decode.specs.declared.action.Action.{Action};
-ghost use Rattle.arm_decode.specs.declared.condition.Condition.{Condition};
-ghost use Rattle.arm_decode.specs.declared.form.Form.{Form};
-ghost use Rattle.arm_decode.specs.declared.operand.Operand.{Operand};
-ghost use Rattle.arm_decode.specs.declared.shift.Shift.{Shift};
+ghost use Rattle.arm_core.specs.Fields.{condition_in, immediate_in, operate_in, shifted_in};
+ghost use Rattle.arm_core.specs.Names.{shift_of};
+ghost use Rattle.arm_core.specs.Refusals.{is_test, refusal};
+ghost use Rattle.arm_core.specs.Table.{form_of};
+ghost use Rattle.arm_core.specs.Action.{Action};
+ghost use Rattle.arm_core.specs.Condition.{Condition};
+ghost use Rattle.arm_core.specs.Form.{Form};
+ghost use Rattle.arm_core.specs.ArmDecodeOperand.{Operand};
+ghost use Rattle.arm_core.specs.Shift.{Shift};
 
 use crate::branches::{branch_kind, link_kind};
 use crate::kind::OpKind;
 use crate::op::Op;
 use crate::operations::{immediate_kind, register_kind, shifted_kind};
-use arm_decode::shifted::rotate_right;
-use arm_decode::{Bits, Condition, Operand, Operate, Shift, ShiftedRegister};
+use arm_core::{Bits, Condition, Operand, Operate, Shift, ShiftedRegister, rotate_right};
 
 /// Data processing that the table allows, with neither first operand nor destination R15.
 fn plain_operate(second: Operand, word: u32) -> Option<Operate>

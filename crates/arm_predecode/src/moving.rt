@@ -2,22 +2,22 @@
 
 ghost use Rattle.std.specs.Prelude.{◌≡◌, ◌<◌, Ok, None};
 ghost use Rattle.profile.specs.Word.{field};
-ghost use Rattle.arm_decode.specs.Fields.{condition_in, operate_in, shifted_in};
-ghost use Rattle.arm_decode.specs.Names.{shift_of};
-ghost use Rattle.arm_decode.specs.Refusals.{refusal};
-ghost use Rattle.arm_decode.specs.Table.{form_of};
-ghost use Rattle.arm_decode.specs.declared.action.Action.{Action};
-ghost use Rattle.arm_decode.specs.declared.condition.Condition.{Condition};
-ghost use Rattle.arm_decode.specs.declared.form.Form.{Form};
-ghost use Rattle.arm_decode.specs.declared.operand.Operand.{Operand};
-ghost use Rattle.arm_decode.specs.declared.operation.Operation.{Operation};
-ghost use Rattle.arm_decode.specs.declared.shift.Shift.{Shift};
+ghost use Rattle.arm_core.specs.Fields.{condition_in, operate_in, shifted_in};
+ghost use Rattle.arm_core.specs.Names.{shift_of};
+ghost use Rattle.arm_core.specs.Refusals.{refusal};
+ghost use Rattle.arm_core.specs.Table.{form_of};
+ghost use Rattle.arm_core.specs.Action.{Action};
+ghost use Rattle.arm_core.specs.Condition.{Condition};
+ghost use Rattle.arm_core.specs.Form.{Form};
+ghost use Rattle.arm_core.specs.ArmDecodeOperand.{Operand};
+ghost use Rattle.arm_core.specs.Operation.{Operation};
+ghost use Rattle.arm_core.specs.Shift.{Shift};
 ghost use Rattle.arm_predecode.specs.Kinds.{KindMeans, MovesToPc};
 ghost use Rattle.arm_predecode.specs.OpValue.{OpValue};
 
 use crate::kind::OpKind;
 use crate::op::Op;
-use arm_decode::{Operand, Operate, Operation, Shift, ShiftedRegister};
+use arm_core::{Operand, Operate, Operation, Shift, ShiftedRegister};
 
 /// The kind of MOV to R15, with the status or without.
 #[tactic(auto, using(crate::proofs::SameKinds::same_move))]

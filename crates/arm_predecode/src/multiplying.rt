@@ -1,18 +1,18 @@
 //! MUL and MLA predecoded.
 
 ghost use Rattle.std.specs.Prelude.{◌≡◌, ◌<◌, Ok, None, false};
-ghost use Rattle.arm_decode.specs.Fields.{condition_in, multiply_in};
-ghost use Rattle.arm_decode.specs.Refusals.{refusal};
-ghost use Rattle.arm_decode.specs.Table.{form_of};
-ghost use Rattle.arm_decode.specs.declared.action.Action.{Action};
-ghost use Rattle.arm_decode.specs.declared.condition.Condition.{Condition};
-ghost use Rattle.arm_decode.specs.declared.form.Form.{Form};
+ghost use Rattle.arm_core.specs.Fields.{condition_in, multiply_in};
+ghost use Rattle.arm_core.specs.Refusals.{refusal};
+ghost use Rattle.arm_core.specs.Table.{form_of};
+ghost use Rattle.arm_core.specs.Action.{Action};
+ghost use Rattle.arm_core.specs.Condition.{Condition};
+ghost use Rattle.arm_core.specs.Form.{Form};
 ghost use Rattle.arm_predecode.specs.Kinds.{KindMeans, MultipliesPlainly};
 ghost use Rattle.arm_predecode.specs.OpValue.{OpValue};
 
 use crate::kind::OpKind;
 use crate::op::Op;
-use arm_decode::{Multiply, Shift};
+use arm_core::{Multiply, Shift};
 
 /// The kind of MUL, or of MLA.
 #[tactic(auto, using(crate::proofs::SameKinds::same_product))]

@@ -3,7 +3,7 @@
 ghost use Rattle.std.specs.Prelude.{◌≡◌};
 
 use crate::kind::OpKind;
-use arm_decode::{Condition, Form, Shift, row_of};
+use arm_core::{Condition, Form, Shift, row_of};
 use profile::word::is_bit_set;
 use std::marker::Model;
 

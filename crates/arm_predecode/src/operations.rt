@@ -4,7 +4,7 @@ ghost use Rattle.arm_predecode.specs.Kinds.{KindMeans, OperatesByImmediate, Oper
 ghost use Rattle.arm_predecode.specs.OpValue.{OpValue};
 
 use crate::kind::OpKind;
-use arm_decode::Operation;
+use arm_core::Operation;
 
 /// The kind of data processing with an immediate operand; `Slow` for a test that sets no flags.
 #[tactic(auto, using(crate::proofs::SameKinds::same_immediate))]

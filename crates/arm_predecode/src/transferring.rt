@@ -2,21 +2,21 @@
 
 ghost use Rattle.std.specs.Prelude.{◌≡◌, ◌<◌, ◌-◌, ◌%◌, ◌^◌, Ok, None, IfSome, true, false, if◌then◌else◌};
 ghost use Rattle.profile.specs.Word.{bit_of, field};
-ghost use Rattle.arm_decode.specs.Fields.{condition_in, shifted_in, transfer_in};
-ghost use Rattle.arm_decode.specs.Names.{shift_of};
-ghost use Rattle.arm_decode.specs.Refusals.{refusal};
-ghost use Rattle.arm_decode.specs.Table.{form_of};
-ghost use Rattle.arm_decode.specs.declared.action.Action.{Action};
-ghost use Rattle.arm_decode.specs.declared.condition.Condition.{Condition};
-ghost use Rattle.arm_decode.specs.declared.form.Form.{Form};
-ghost use Rattle.arm_decode.specs.declared.address.Indexing.{Indexing};
-ghost use Rattle.arm_decode.specs.declared.address.Offset.{Offset};
-ghost use Rattle.arm_decode.specs.declared.shift.Shift.{Shift};
+ghost use Rattle.arm_core.specs.Fields.{condition_in, shifted_in, transfer_in};
+ghost use Rattle.arm_core.specs.Names.{shift_of};
+ghost use Rattle.arm_core.specs.Refusals.{refusal};
+ghost use Rattle.arm_core.specs.Table.{form_of};
+ghost use Rattle.arm_core.specs.Action.{Action};
+ghost use Rattle.arm_core.specs.Condition.{Condition};
+ghost use Rattle.arm_core.specs.Form.{Form};
+ghost use Rattle.arm_core.specs.Indexing.{Indexing};
+ghost use Rattle.arm_core.specs.Offset.{Offset};
+ghost use Rattle.arm_core.specs.Shift.{Shift};
 
 use crate::kind::OpKind;
 use crate::op::Op;
 use crate::transfers::{number_kind, offset_kind};
-use arm_decode::{Address, Bits, Indexing, Offset, Shift, ShiftedRegister, Transfer};
+use arm_core::{Address, Bits, Indexing, Offset, Shift, ShiftedRegister, Transfer};
 use profile::word::is_bit_set;
 
 /// LDR or STR that the table allows, with neither base nor loaded or stored register R15.

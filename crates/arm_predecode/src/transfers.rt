@@ -4,7 +4,7 @@ ghost use Rattle.arm_predecode.specs.Kinds.{KindMeans, TransfersByNumber, Transf
 ghost use Rattle.arm_predecode.specs.OpValue.{OpValue};
 
 use crate::kind::OpKind;
-use arm_decode::Indexing;
+use arm_core::Indexing;
 
 /// The kind of LDR or STR with a number as offset; `Slow` where it is one of user mode.
 #[tactic(auto, using(crate::proofs::SameKinds::same_number))]

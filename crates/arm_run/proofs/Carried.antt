@@ -2,13 +2,13 @@
 use Rattle.std.proofs.Common.{◌≡◌, ◌≢◌, ◌+◌, ◌*◌, ◌/◌, ◌%◌, ◌^◌, ℕ, Bool, true, false, Result, Ok, Err, refl, sym, ◌∙◌, ap, subst, arith, if◌then◌else◌}
 use Rattle.profile.specs.Word.{field}
 use Rattle.profile.specs.declared.fault.Fault.{Fault}
-use Rattle.address_map.specs.Bytes.{Bytes}
-use Rattle.arm_decode.specs.Decoded.{instruction_of_word}
-use Rattle.arm_decode.specs.Fields.{condition_in}
-use Rattle.arm_decode.specs.declared.action.Action.{Action}
-use Rattle.arm_decode.specs.declared.action.Action.TheVariants as action
-use Rattle.arm_decode.specs.declared.condition.Condition.{Condition}
-use Rattle.arm_decode.specs.declared.condition.Condition.TheVariants as condition
+use Rattle.arm_step.specs.Bytes.{Bytes}
+use Rattle.arm_core.specs.Decoded.{instruction_of_word}
+use Rattle.arm_core.specs.Fields.{condition_in}
+use Rattle.arm_core.specs.Action.{Action}
+use Rattle.arm_core.specs.Action.TheVariants as action
+use Rattle.arm_core.specs.Condition.{Condition}
+use Rattle.arm_core.specs.Condition.TheVariants as condition
 use Rattle.arm_core.specs.Conditions.{condition_holds}
 use Rattle.arm_core.specs.State.{State, with_register}
 use Rattle.arm_core.specs.Effect.{with_next_pc}

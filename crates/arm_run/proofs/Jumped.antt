@@ -1,16 +1,16 @@
 -- MOV to R15 leads there.
 use Rattle.std.proofs.Common.{◌≡◌, ◌+◌, ◌*◌, ◌/◌, ◌%◌, ◌^◌, ℕ, Bool, true, false, Result, Ok, refl, sym, ◌∙◌, ap, subst, arith, if◌then◌else◌}
-use Rattle.arm_decode.specs.declared.shifted.Shifted.{Shifted}
+use Rattle.arm_step.specs.Shifted.{Shifted}
 use Rattle.profile.specs.declared.word.Sum.{Sum}
-use Rattle.address_map.specs.Bytes.{Bytes}
-use Rattle.arm_decode.specs.Fields.{shifted_in, operate_in}
-use Rattle.arm_decode.specs.Refusals.{is_test}
-use Rattle.arm_decode.specs.declared.action.Action.TheVariants as action
-use Rattle.arm_decode.specs.declared.action.Operate.{Operate}
-use Rattle.arm_decode.specs.declared.condition.Condition.TheVariants as condition
-use Rattle.arm_decode.specs.declared.operand.Operand.{Operand}
-use Rattle.arm_decode.specs.declared.operand.Operand.TheVariants as operand
-use Rattle.arm_decode.specs.declared.operation.Operation.{Operation}
+use Rattle.arm_step.specs.Bytes.{Bytes}
+use Rattle.arm_core.specs.Fields.{shifted_in, operate_in}
+use Rattle.arm_core.specs.Refusals.{is_test}
+use Rattle.arm_core.specs.Action.TheVariants as action
+use Rattle.arm_core.specs.ArmDecodeOperate.{Operate}
+use Rattle.arm_core.specs.Condition.TheVariants as condition
+use Rattle.arm_core.specs.ArmDecodeOperand.{Operand}
+use Rattle.arm_core.specs.ArmDecodeOperand.TheVariants as operand
+use Rattle.arm_core.specs.Operation.{Operation}
 use Rattle.arm_core.specs.Effect.{plain_operand, with_status}
 use Rattle.arm_core.specs.Operand.{operand_of, words_ahead}
 use Rattle.arm_core.specs.Operate.{sum_of_operation, state_after_result, state_after_operate}

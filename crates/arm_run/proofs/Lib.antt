@@ -1,3 +1,5 @@
+pub use Rattle.arm_step.proofs.AddressMapWords as Words
+pub use Rattle.arm_step.proofs.Framing
 pub mod Beside
 pub mod Blocked
 pub mod Carried

@@ -1,11 +1,11 @@
 -- MUL and MLA lead on.
 use Rattle.std.proofs.Common.{◌≡◌, ◌<◌, ◌+◌, ◌%◌, ◌^◌, ℕ, Bool, Result, Ok, refl, sym, ◌∙◌, ap, subst, arith, if◌then◌else◌}
 use Rattle.profile.specs.Word.{field}
-use Rattle.address_map.specs.Bytes.{Bytes}
-use Rattle.arm_decode.specs.Fields.{multiply_in}
-use Rattle.arm_decode.specs.declared.action.Action.TheVariants as action
-use Rattle.arm_decode.specs.declared.action.Multiply.{Multiply}
-use Rattle.arm_decode.specs.declared.condition.Condition.TheVariants as condition
+use Rattle.arm_step.specs.Bytes.{Bytes}
+use Rattle.arm_core.specs.Fields.{multiply_in}
+use Rattle.arm_core.specs.Action.TheVariants as action
+use Rattle.arm_core.specs.Multiply.{Multiply}
+use Rattle.arm_core.specs.Condition.TheVariants as condition
 use Rattle.arm_core.specs.Effect.{plain_operand, with_next_pc, with_result}
 use Rattle.arm_core.specs.Operate.{product, state_after_multiply, with_sign}
 use Rattle.arm_core.specs.State.{State, register_in, with_register}

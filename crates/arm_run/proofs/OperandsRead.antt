@@ -1,15 +1,15 @@
 -- Second operands as ops give them.
 use Rattle.std.proofs.Common.{◌≡◌, ◌<◌, ◌*◌, ℕ, Bool, true, false, not, nat_eq, refl, sym, ◌∙◌, ap, subst, arith, if◌then◌else◌}
 use Rattle.std.proofs.lemmas.Bool.Decides.{nat_tests}
-use Rattle.arm_decode.specs.Shifted.{rotated_right, rotation_of}
+use Rattle.arm_core.specs.Shifted.{rotated_right, rotation_of}
 use Rattle.profile.specs.Word.{field, bit_of}
-use Rattle.arm_decode.specs.declared.shifted.Shifted.{Shifted}
-use Rattle.arm_decode.specs.Fields.{shifted_in}
-use Rattle.arm_decode.specs.Names.{shift_of}
-use Rattle.arm_decode.specs.declared.operand.Operand.TheVariants as operand
-use Rattle.arm_decode.specs.declared.operation.Operation.{Operation}
-use Rattle.arm_decode.specs.declared.shift.Shift.{Shift}
-use Rattle.arm_decode.specs.declared.shift.Shift.TheVariants as shift
+use Rattle.arm_step.specs.Shifted.{Shifted}
+use Rattle.arm_core.specs.Fields.{shifted_in}
+use Rattle.arm_core.specs.Names.{shift_of}
+use Rattle.arm_core.specs.ArmDecodeOperand.TheVariants as operand
+use Rattle.arm_core.specs.Operation.{Operation}
+use Rattle.arm_core.specs.Shift.{Shift}
+use Rattle.arm_core.specs.Shift.TheVariants as shift
 use Rattle.arm_core.specs.Effect.{plain_operand, status_operand}
 use Rattle.arm_core.specs.Operand.{operand_of, rotated_immediate, unshifted_value, shifted_by_number, shifted_by_zero, shifted_value}
 use Rattle.arm_core.specs.State.{State, register_in}

@@ -1,6 +1,6 @@
 -- Positions as program counters, and the steps that are taken there by the way that is right for every word.
 use Rattle.std.proofs.Common.{◌≡◌, ◌≢◌, ◌<◌, ◌+◌, ◌*◌, ◌/◌, ◌%◌, ◌^◌, ℕ, Bool, Result, Ok, Err, sym, ◌∙◌, ap, subst, arith}
-use Rattle.address_map.specs.Bytes.{Bytes}
+use Rattle.arm_step.specs.Bytes.{Bytes}
 use Rattle.arm_core.specs.State.{State, with_pc}
 use Rattle.arm_core.specs.Effect.{with_next_pc}
 use Rattle.arm_core.specs.declared.turn.StepEnd.{StepEnd}

@@ -1,6 +1,6 @@
 -- Steps one after another, one more at a time.
 use Rattle.std.proofs.Common.{◌≡◌, ◌⊎◌, ◌+◌, ℕ, Bool, false, List, [], sym, ◌∙◌, ap, subst, add-one}
-use Rattle.address_map.specs.Bytes.{Bytes}
+use Rattle.arm_step.specs.Bytes.{Bytes}
 use Rattle.arm_core.specs.State.{State}
 use Rattle.arm_core.specs.declared.turn.StepEnd.{StepEnd}
 use Rattle.arm_core.specs.declared.turn.StepEnd.TheVariants as turn

@@ -1,17 +1,17 @@
 -- Data processing leads on.
 use Rattle.std.proofs.Common.{◌≡◌, ◌<◌, ◌+◌, ℕ, Bool, true, false, not, ◌&&◌, nat_eq, Result, Ok, refl, sym, ◌∙◌, ap, subst}
 use Rattle.profile.specs.Word.{field}
-use Rattle.arm_decode.specs.declared.shifted.Shifted.{Shifted}
+use Rattle.arm_step.specs.Shifted.{Shifted}
 use Rattle.profile.specs.declared.word.Sum.{Sum}
-use Rattle.address_map.specs.Bytes.{Bytes}
-use Rattle.arm_decode.specs.Fields.{immediate_in, shifted_in, operate_in}
-use Rattle.arm_decode.specs.Refusals.{is_test}
-use Rattle.arm_decode.specs.declared.action.Action.TheVariants as action
-use Rattle.arm_decode.specs.declared.action.Operate.{Operate}
-use Rattle.arm_decode.specs.declared.condition.Condition.TheVariants as condition
-use Rattle.arm_decode.specs.declared.operand.Operand.{Operand}
-use Rattle.arm_decode.specs.declared.operand.Operand.TheVariants as operand
-use Rattle.arm_decode.specs.declared.operation.Operation.{Operation}
+use Rattle.arm_step.specs.Bytes.{Bytes}
+use Rattle.arm_core.specs.Fields.{immediate_in, shifted_in, operate_in}
+use Rattle.arm_core.specs.Refusals.{is_test}
+use Rattle.arm_core.specs.Action.TheVariants as action
+use Rattle.arm_core.specs.ArmDecodeOperate.{Operate}
+use Rattle.arm_core.specs.Condition.TheVariants as condition
+use Rattle.arm_core.specs.ArmDecodeOperand.{Operand}
+use Rattle.arm_core.specs.ArmDecodeOperand.TheVariants as operand
+use Rattle.arm_core.specs.Operation.{Operation}
 use Rattle.arm_core.specs.Effect.{plain_operand}
 use Rattle.arm_core.specs.Operand.{operand_of, words_ahead, rotated_immediate, unshifted_value, shifted_value}
 use Rattle.arm_core.specs.Operate.{sum_of_operation, state_after_result, state_after_operate}

@@ -1,6 +1,6 @@
 -- What LDM and STM leave, but for the position of the core, of registers of the present mode.
 use Rattle.std.specs.Prelude.{◌≡◌, ◌<◌, ◌+◌, ◌-◌, ◌%◌, ◌^◌, ℕ, Bool, true, false, List, length, map, None, Ok}
-use Rattle.address_map.specs.Bytes.{Bytes, word_start}
+use Rattle.arm_step.specs.Bytes.{Bytes, word_start}
 use Rattle.arm_core.specs.Listed.{registers_of_list}
 use Rattle.arm_core.specs.State.{State, register_in}
 use Rattle.arm_predecode.specs.OpValue.{OpValue}

@@ -1,9 +1,9 @@
 -- What LDR and STR leave, but for the position of the core, where neither the base nor the register that is loaded or stored is R15, and the
 -- base is changed by a sum.
 use Rattle.std.specs.Prelude.{◌≡◌, ◌+◌, ◌%◌, ◌^◌, ℕ, Bool, true, false, Ok}
-use Rattle.address_map.specs.Bytes.{Bytes}
-use Rattle.arm_decode.specs.Refusals.{writes_base}
-use Rattle.arm_decode.specs.declared.address.Indexing.{Indexing}
+use Rattle.arm_step.specs.Bytes.{Bytes}
+use Rattle.arm_core.specs.Refusals.{writes_base}
+use Rattle.arm_core.specs.Indexing.{Indexing}
 use Rattle.arm_core.specs.State.{State, register_in, with_register}
 use Rattle.arm_step.specs.Transfers.{address_by, value_loaded, value_stored}
 use Rattle.arm_predecode.specs.OpValue.{OpValue}

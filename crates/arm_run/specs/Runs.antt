@@ -3,7 +3,7 @@ use Rattle.std.specs.Prelude.{◌≡◌, ◌<◌, ◌⊎◌, ℕ, zero, suc, Boo
 use Rattle.profile.specs.declared.stop.Stop.{Stop}
 use Rattle.profile.specs.declared.stop.Stop.TheVariants as stop
 use Rattle.arm_core.specs.declared.turn.StepEnd.{StepEnd}
-use Rattle.address_map.specs.Bytes.{Bytes}
+use Rattle.arm_step.specs.Bytes.{Bytes}
 use Rattle.arm_core.specs.State.{State}
 use Rattle.arm_core.specs.declared.turn.StepEnd.TheVariants.{Done}
 use Rattle.arm_step.specs.Step.{result_of_step}

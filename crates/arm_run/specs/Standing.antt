@@ -1,6 +1,6 @@
 -- The core while a run keeps its position beside it: a number of words, of which all but the lowest 24 bits are left out.
 use Rattle.std.specs.Prelude.{◌≡◌, ◌≢◌, ◌+◌, ◌*◌, ◌%◌, ◌^◌, ℕ, Bool, Option, Some, None, Ok}
-use Rattle.address_map.specs.Bytes.{Bytes}
+use Rattle.arm_step.specs.Bytes.{Bytes}
 use Rattle.arm_core.specs.State.{State}
 use Rattle.arm_core.specs.declared.turn.StepEnd.{StepEnd}
 use Rattle.arm_core.specs.declared.turn.StepEnd.TheVariants.{Done}

@@ -1,7 +1,7 @@
 //! One step by an op.
 
 ghost use Rattle.std.specs.Prelude.{◌≡◌, ◌≤◌, ◌<◌, ◌^◌, IfSome};
-ghost use Rattle.address_map.specs.Memory.{bytes_of, is_owned, layout, class_of};
+ghost use Rattle.arm_step.specs.Memory.{bytes_of, is_owned, layout, class_of};
 ghost use Rattle.arm_predecode.specs.Kinds.{KindMeans};
 ghost use Rattle.arm_run.specs.Standing.{Acts, IsFetched};
 
@@ -13,11 +13,10 @@ use crate::standing::slowly;
 use crate::transferring::{
     load_beside, load_by_number, load_by_register, store_by_number, store_by_register,
 };
-use address_map::AddressMap;
-use arm_core::Cpu;
 use arm_core::condition::is_met;
-use arm_decode::{Condition, Indexing, Operation};
+use arm_core::{Condition, Cpu, Indexing, Operation};
 use arm_predecode::{Op, OpKind};
+use arm_step::AddressMap;
 
 /// At the changed base, which isn't written back.
 const PRE: Indexing = Indexing::Pre { writes_back: false };

@@ -1,8 +1,8 @@
 //! LDM and STM by predecoded words, of words that lie in one page.
 
 ghost use Rattle.std.specs.Prelude.{◌≡◌, ◌<◌, ◌≤◌, ◌+◌, ◌*◌, ◌%◌, ◌^◌, ℕ, ⊤, Ok, Some, None, IfSome, MatchOption, true, false, length, map, slice_index};
-ghost use Rattle.address_map.specs.Bytes.{word_at};
-ghost use Rattle.address_map.specs.Memory.{bytes_of, is_owned, layout, class_of, place};
+ghost use Rattle.arm_step.specs.Bytes.{word_at};
+ghost use Rattle.arm_step.specs.Memory.{bytes_of, is_owned, layout, class_of, place};
 ghost use Rattle.arm_core.specs.Listed.{registers_of_list};
 ghost use Rattle.arm_core.specs.State.{register_in};
 ghost use Rattle.arm_predecode.specs.Kinds.{MovesBlock};
@@ -13,10 +13,10 @@ ghost use Rattle.arm_step.specs.PageWords.{are_in_page, words_in};
 ghost use Rattle.arm_step.specs.Words.{with_words, words_loaded, words_store_fault};
 
 use crate::standing::{current, position, set_current, slowly, stand};
-use address_map::AddressMap;
 use arm_core::Cpu;
 use arm_core::registers::split_lowest;
 use arm_predecode::Op;
+use arm_step::AddressMap;
 use byteorder::{ByteOrder, LittleEndian};
 use profile::memory_map::PAGE_SIZE;
 

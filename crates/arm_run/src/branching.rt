@@ -1,14 +1,13 @@
 //! Branches, and MOV to R15.
 
 ghost use Rattle.std.specs.Prelude.{◌≡◌, ◌<◌, ◌≤◌, ◌+◌, ◌/◌, ◌%◌, ◌^◌, false, true};
-ghost use Rattle.arm_decode.specs.declared.condition.Condition.{Condition};
+ghost use Rattle.arm_core.specs.Condition.{Condition};
 ghost use Rattle.arm_predecode.specs.Kinds.{Branches, MovesToPc};
 ghost use Rattle.arm_run.specs.Standing.{LeadsTo};
 
 use crate::standing::{POSITIONS, current, set_current};
-use arm_core::Cpu;
 use arm_core::condition::is_met;
-use arm_decode::Condition;
+use arm_core::{Condition, Cpu};
 use arm_predecode::Op;
 
 /// The position some words ahead.

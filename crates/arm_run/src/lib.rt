@@ -15,5 +15,7 @@ mod standing;
 mod transferring;
 
 pub use arm_core::breaks::{BreakError, Breaks};
+pub use arm_core::condition::is_met;
+pub use arm_core::{Cpu, Mode, Psr, StepEnd};
 pub use arm_predecode::DecodeCache;
 pub use running::run;

@@ -1,7 +1,7 @@
 //! Steps one after another, within a budget and up to a break.
 
 ghost use Rattle.std.specs.Prelude.{◌≡◌, ◌≢◌, ◌<◌, ◌≤◌, ◌^◌, Err, IfOk, OnOk, IfSome};
-ghost use Rattle.address_map.specs.Memory.{bytes_of, is_owned, layout, place, class_of};
+ghost use Rattle.arm_step.specs.Memory.{bytes_of, is_owned, layout, place, class_of};
 ghost use Rattle.arm_core.specs.declared.turn.StepEnd.TheVariants.{Done};
 ghost use Rattle.arm_run.specs.Standing.{Acts};
 ghost use Rattle.arm_run.specs.Runs.{AreDone, StopsBy};
@@ -11,10 +11,10 @@ ghost use Rattle.arm_step.specs.Turns.{Turns};
 
 use crate::act::act;
 use crate::standing::{end_at, fetch, position, slowly, stand};
-use address_map::AddressMap;
 use arm_core::breaks::Breaks;
 use arm_core::{Cpu, StepEnd};
 use arm_predecode::DecodeCache;
+use arm_step::AddressMap;
 use arm_step::fetch_page::FetchPage;
 use profile::Stop;
 

@@ -2,7 +2,7 @@
 //! the registers of the present mode.
 
 ghost use Rattle.std.specs.Prelude.{◌≡◌, ◌≢◌, ◌<◌, ◌≤◌, ◌+◌, ◌%◌, ◌^◌, ℕ, Bool, ⊤, Err, IfSome, MatchOption};
-ghost use Rattle.address_map.specs.Memory.{bytes_of, is_owned, layout, place, class_of};
+ghost use Rattle.arm_step.specs.Memory.{bytes_of, is_owned, layout, place, class_of};
 ghost use Rattle.arm_core.specs.State.{State, register_in, with_register};
 ghost use Rattle.arm_core.specs.declared.turn.StepEnd.{StepEnd};
 ghost use Rattle.arm_core.specs.declared.turn.StepEnd.TheVariants.{Done};
@@ -11,11 +11,10 @@ ghost use Rattle.arm_step.specs.fetch_page.FetchPages.{IsIn, IsOpen};
 ghost use Rattle.arm_step.specs.Step.{result_of_step};
 ghost use Rattle.arm_step.specs.Turns.{Turns};
 
-use address_map::AddressMap;
 use arm_core::{Cpu, StepEnd};
 use arm_predecode::{DecodeCache, OpKind};
 use arm_step::fetch_page::FetchPage;
-use arm_step::step;
+use arm_step::{AddressMap, step};
 
 /// How many words the address space has.
 pub(crate) const POSITIONS: usize = 1 << 24;

@@ -2,10 +2,10 @@
 //! the way that is right for every word.
 
 ghost use Rattle.std.specs.Prelude.{◌≡◌, ◌<◌, ◌≤◌, ◌^◌, true, false, IfSome, Ok, MatchOption, ⊤};
-ghost use Rattle.address_map.specs.Memory.{bytes_of, is_owned, layout, class_of};
+ghost use Rattle.arm_step.specs.Memory.{bytes_of, is_owned, layout, class_of};
 ghost use Rattle.arm_core.specs.Operand.{shifted_by_number};
 ghost use Rattle.arm_core.specs.State.{register_in};
-ghost use Rattle.arm_decode.specs.declared.shift.Shift.{Shift};
+ghost use Rattle.arm_core.specs.Shift.{Shift};
 ghost use Rattle.arm_predecode.specs.Kinds.{LoadsBeside, TransfersByNumber, TransfersByRegister};
 ghost use Rattle.arm_run.specs.Moved.{IsLoaded, IsStored, base_moved, address_reached, with_moved_base};
 ghost use Rattle.arm_run.specs.Standing.{Acts, IsFetched};
@@ -13,11 +13,9 @@ ghost use Rattle.arm_step.specs.Transfers.{value_loaded, value_stored};
 
 use crate::branching::ahead;
 use crate::standing::{current, set_current, slowly};
-use address_map::AddressMap;
-use arm_core::Cpu;
-use arm_decode::Indexing;
-use arm_decode::shifted::rotate_right;
+use arm_core::{Cpu, Indexing, rotate_right};
 use arm_predecode::Op;
+use arm_step::AddressMap;
 
 /// The byte at an address, or the word there, rotated so that the byte at the address is lowest.
 #[inline(always)]

@@ -6,10 +6,10 @@ use Rattle.arm_decode.specs.declared.action.Action.TheVariants as action
 use Rattle.arm_decode.specs.declared.condition.Condition.{Condition}
 use Rattle.arm_decode.specs.declared.operation.Operation.{Operation}
 use Rattle.arm_decode.specs.declared.operation.Operation.TheVariants as operation
-use Rattle.assembler_text.specs.naming.AssemblerTextNames.{choose_text, operation_text}
-use Rattle.assembler_text.specs.naming.Printing.{action_text, branch_text, swi_text, multiply_head, operate_head}
-use Rattle.assembler_text.specs.naming.Transfers.{block_head, transfer_head}
-use Rattle.assembler_text.specs.naming.Words.{after_spaces, is_word_byte, word}
+use Rattle.assembler_reading.specs.AssemblerTextNames.{choose_text, operation_text}
+use Rattle.assembler_reading.specs.Printing.{action_text, branch_text, swi_text, multiply_head, operate_head}
+use Rattle.assembler_reading.specs.Transfers.{block_head, transfer_head}
+use Rattle.assembler_reading.specs.Words.{after_spaces, is_word_byte, word}
 use Rattle.assembler.specs.Directives.{directive_named}
 use Rattle.assembler.proofs.PrintedLines.{BeginsInstruction, word_onto}
 

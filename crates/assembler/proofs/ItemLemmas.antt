@@ -1,7 +1,7 @@
 -- The loop over the items of DCD and DCB.
 use Rattle.std.proofs.Common.{◌≡◌, ◌<◌, ◌≤◌, ◌+◌, ◌-◌, ℕ, suc, List, Some, None, refl, arith}
-use Rattle.assembler_text.specs.naming.Expressions.{Lookup}
-use Rattle.assembler_text.specs.naming.Words.{comma}
+use Rattle.assembler_reading.specs.Expressions.{Lookup}
+use Rattle.assembler_reading.specs.Words.{comma}
 use Rattle.assembler.specs.Directives.{with_item_read, more_items}
 use Rattle.assembler.specs.Written.{Written}
 use Rattle.assembler.specs.declared.directives.Data.{Data}

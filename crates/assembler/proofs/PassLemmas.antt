@@ -1,8 +1,8 @@
 -- The loops of the two passes over the lines.
 use Rattle.std.proofs.Common.{◌≡◌, ◌+◌, ◌-◌, ◌<◌, ◌≤◌, ℕ, zero, suc, List, [], ◌∷◌, take, Result, Ok, Err, refl, ap, ◌∙◌, arith}
-use Rattle.assembler_text.specs.naming.Expressions.{Lookup}
-use Rattle.assembler_text.specs.naming.Labels.{Entries, address_of}
-use Rattle.assembler_text.specs.declared.naming.reason.Reason.{Reason}
+use Rattle.assembler_reading.specs.Expressions.{Lookup}
+use Rattle.assembler_reading.specs.Labels.{Entries, address_of}
+use Rattle.assembler_reading.specs.Reason.{Reason}
 use Rattle.assembler.specs.Line.{line}
 use Rattle.assembler.specs.Passes.{Measured, first_pass, bytes_of_line, measured_with_line, error_with_line, second_pass}
 

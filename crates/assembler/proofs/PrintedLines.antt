@@ -4,9 +4,9 @@ use Rattle.std.proofs.lemmas.Bool.Decides.{nat_tests}
 use Rattle.std.specs.Prelude.{codes, nat_lt}
 use Rattle.std.specs.Int.{to_le_bytes, w32}
 use Rattle.std.specs.List.{prefix_len}
-use Rattle.assembler_text.specs.naming.Expressions.{Lookup, expression}
-use Rattle.assembler_text.specs.naming.Labels.{address_of}
-use Rattle.assembler_text.specs.naming.Words.{after_spaces, after_word, begins_comment, byte, is_end_of_line, is_space, is_word_byte, spaces, word}
+use Rattle.assembler_reading.specs.Expressions.{Lookup, expression}
+use Rattle.assembler_reading.specs.Labels.{address_of}
+use Rattle.assembler_reading.specs.Words.{after_spaces, after_word, begins_comment, byte, is_end_of_line, is_space, is_word_byte, spaces, word}
 use Rattle.assembler_reading.specs.Instructions.{instruction}
 use Rattle.assembler.specs.Directives.{directive_named, items, with_item_read, more_items, with_word_read}
 use Rattle.assembler.specs.Line.{Line, line, statement, statement_at, statement_of}

@@ -11,9 +11,9 @@ use Rattle.arm_decode.specs.Ranges.{FitsFields}
 use Rattle.arm_decode.specs.declared.action.Action.{Action}
 use Rattle.arm_decode.specs.declared.condition.Condition.{Condition}
 use Rattle.arm_decode.proofs.Placed.{fields_have_places}
-use Rattle.assembler_text.specs.naming.Printing.{data_text, print}
-use Rattle.assembler_text.specs.naming.Expressions.{Lookup}
-use Rattle.assembler_text.specs.naming.Labels.{address_of}
+use Rattle.assembler_reading.specs.Printing.{data_text, print}
+use Rattle.assembler_reading.specs.Expressions.{Lookup}
+use Rattle.assembler_reading.specs.Labels.{address_of}
 use Rattle.assembler_reading.proofs.PrintedAgain.{data_is_read_again, instructions_are_read_again}
 use Rattle.profile.proofs.TextLinesLemmas.LineLemmas.{lines_last}
 use Rattle.assembler.specs.Line.{line}

@@ -7,7 +7,7 @@ use Rattle.std.specs.Char.{is_digit, digit_value}
 use Rattle.std.specs.List.{list_all}
 use Rattle.std.specs.Str.Parse.{digits_value_after}
 use Rattle.assembler.specs.Directives.{spare_size_of, size_with_digit}
-use Rattle.assembler_text.proofs.NamingLemmas.Digits.{at_place, is_some}
+use Rattle.assembler_reading.proofs.Digits.{at_place, is_some}
 
 -- digits after those of `size`
 unfoldable pub digits_onto : ℕ → ℕ → List ℕ → Option ℕ

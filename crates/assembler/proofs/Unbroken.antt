@@ -31,12 +31,12 @@ use Rattle.arm_decode.specs.declared.shift.Shift.{Shift}
 use Rattle.arm_decode.specs.declared.shift.Shift.TheVariants as shift
 use Rattle.arm_decode.specs.declared.shift.ShiftedRegister.{ShiftedRegister}
 use Rattle.arm_decode.specs.Names.{is_up}
-use Rattle.assembler_text.specs.naming.AssemblerTextNames.{block_mode_text, choose_text, condition_text, operation_text, register_text, shift_text, text_if}
-use Rattle.assembler_text.specs.naming.Numbers.{immediate_text, immediate_value, is_field, least_rotation, number_text}
-use Rattle.assembler_text.specs.naming.Operands.{amount_text, by_register_text, operand_text, shifted_text, shifting_text}
-use Rattle.assembler_text.specs.naming.Printing.{action_text, branch_target, branch_text, flags_text, swi_text, multiply_head, multiply_operands, operate_head, operate_registers_text}
-use Rattle.assembler_text.specs.naming.Transfers.{operand_address_text, after_text, base_text, before_text, block_head, braces_text, close_text, indexed_text, is_nothing, is_user, listed_from, listed_text, offset_text, register_names_text, sign_text, transfer_head}
-use Rattle.assembler_text.specs.naming.Words.{is_word_byte}
+use Rattle.assembler_reading.specs.AssemblerTextNames.{block_mode_text, choose_text, condition_text, operation_text, register_text, shift_text, text_if}
+use Rattle.assembler_reading.specs.Numbers.{immediate_text, immediate_value, is_field, least_rotation, number_text}
+use Rattle.assembler_reading.specs.AssemblerTextOperands.{amount_text, by_register_text, operand_text, shifted_text, shifting_text}
+use Rattle.assembler_reading.specs.Printing.{action_text, branch_target, branch_text, flags_text, swi_text, multiply_head, multiply_operands, operate_head, operate_registers_text}
+use Rattle.assembler_reading.specs.Transfers.{operand_address_text, after_text, base_text, before_text, block_head, braces_text, close_text, indexed_text, is_nothing, is_user, listed_from, listed_text, offset_text, register_names_text, sign_text, transfer_head}
+use Rattle.assembler_reading.specs.Words.{is_word_byte}
 use Rattle.assembler_reading.proofs.MnemonicsAgain.{letters_join}
 use Rattle.assembler_reading.proofs.Numbers.{is_amount}
 

@@ -5,8 +5,8 @@ use Rattle.std.specs.Prelude.{ℕ, zero, suc, ◌+◌, ◌*◌, ◌==◌, ◌&&�
 use Rattle.std.specs.Char.{is_digit, digit_value}
 use Rattle.std.specs.List.{list_all, prefix_len}
 use Rattle.std.specs.Str.Parse.{digits_value}
-use Rattle.assembler_text.specs.naming.Words.{◌>>=◌, word, after_word, is_same_name, byte, comma}
-use Rattle.assembler_text.specs.naming.Expressions.{Lookup, expression}
+use Rattle.assembler_reading.specs.Words.{◌>>=◌, word, after_word, is_same_name, byte, comma}
+use Rattle.assembler_reading.specs.Expressions.{Lookup, expression}
 use Rattle.assembler.specs.declared.directives.Directive.{Directive}
 use Rattle.assembler.specs.declared.directives.Directive.TheVariants as directive
 use Rattle.assembler.specs.declared.directives.Data.{Data}

@@ -1,7 +1,7 @@
 -- The names of the reasons, as the script language prints them.
 use Rattle.std.specs.Prelude.{ℕ, List, codes}
-use Rattle.assembler_text.specs.declared.naming.reason.Reason.{Reason}
-use Rattle.assembler_text.specs.declared.naming.reason.Reason.TheVariants.{Syntax, LabelTwice, TooLong, UnknownLabel, BadImmediate, OutOfReach, Forbidden, Memory}
+use Rattle.assembler_reading.specs.Reason.{Reason}
+use Rattle.assembler_reading.specs.Reason.TheVariants.{Syntax, LabelTwice, TooLong, UnknownLabel, BadImmediate, OutOfReach, Forbidden, Memory}
 
 abbrev pub reason_name : Reason → List ℕ
 reason_name Syntax = codes "Syntax"

@@ -2,7 +2,7 @@
 -- alone.
 use Rattle.std.specs.Prelude.{◌≡◌, ℕ, ◌<◌, ◌%◌, ◌^◌, ◌∷◌, Ok}
 use Rattle.std.specs.Int.{to_le_bytes, w32}
-use Rattle.assembler_text.specs.naming.Printing.{print}
+use Rattle.assembler_reading.specs.Printing.{print}
 use Rattle.assembler.specs.Passes.{means}
 
 -- a space and then the text of a word at its address, assembled at that address, is the word's four

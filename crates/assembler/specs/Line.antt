@@ -1,9 +1,9 @@
 -- A line: a label or none, and then, after spaces, an instruction or a directive or nothing, and a
 -- comment or none. `loop SUBS R0,R0,#1 ; count` is a label, an instruction and a comment.
 use Rattle.std.specs.Prelude.{ℕ, ◌+◌, ◌==◌, ◌||◌, List, ◌++◌, length, replicate, Option, None, Some, if◌then◌else◌}
-use Rattle.assembler_text.specs.naming.Words.{◌>>=◌, word, after_word, spaces, is_end_of_line}
-use Rattle.assembler_text.specs.naming.Labels.{is_label}
-use Rattle.assembler_text.specs.naming.Expressions.{Lookup}
+use Rattle.assembler_reading.specs.Words.{◌>>=◌, word, after_word, spaces, is_end_of_line}
+use Rattle.assembler_reading.specs.Labels.{is_label}
+use Rattle.assembler_reading.specs.Expressions.{Lookup}
 use Rattle.assembler_reading.specs.Instructions.{instruction}
 use Rattle.assembler.specs.declared.directives.Directive.{Directive}
 use Rattle.assembler.specs.declared.directives.Directive.TheVariants as directive

@@ -1,8 +1,8 @@
 -- A program as it is written, item by item, and what the items of a line are refused for.
 use Rattle.std.specs.Prelude.{ℕ, ◌-◌, ◌%◌, List, [], ◌∷◌, ◌++◌, length, replicate, nat_le, Option, None, Some, Result, Ok, Err, if◌then◌else◌}
 use Rattle.std.specs.Int.{to_le_bytes, w32}
-use Rattle.assembler_text.specs.declared.naming.reason.Reason.{Reason}
-use Rattle.assembler_text.specs.declared.naming.reason.Reason.TheVariants.{UnknownLabel, BadImmediate}
+use Rattle.assembler_reading.specs.Reason.{Reason}
+use Rattle.assembler_reading.specs.Reason.TheVariants.{UnknownLabel, BadImmediate}
 
 -- bytes, and the first reason that their line is refused for; zeros stand where there is no value
 pub record Written : Type 0 where

@@ -1,7 +1,7 @@
 //! The two passes over a source.
 
 ghost use Rattle.std.specs.Prelude.{◌≡◌, ◌≢◌, ◌≤◌, ◌<◌, ◌%◌, ◌^◌, [], Err, length, take, IfOk, OnOk};
-ghost use Rattle.assembler_text.specs.naming.Labels.{address_of};
+ghost use Rattle.assembler_reading.specs.Labels.{address_of};
 ghost use Rattle.assembler.specs.Line.{line};
 ghost use Rattle.assembler.specs.Passes.{bytes_of_line, labels_of_lines, leaving, means, means_lines, measured_with_line, second_pass};
 
@@ -9,7 +9,7 @@ use crate::error::AsmError;
 use crate::line::put_line;
 use crate::output::Output;
 use crate::program::Program;
-use assembler_text::naming::{Labels, Reason};
+use assembler_reading::{Labels, Reason};
 use profile::memory_map::ADDRESS_LIMIT;
 use profile::text_lines::Lines;
 use std::alloc::{AllocError, Global};

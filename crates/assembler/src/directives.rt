@@ -3,7 +3,7 @@
 ghost use Rattle.std.specs.Prelude.{◌≡◌, ◌≤◌, IfSome, option_map};
 ghost use Rattle.assembler.specs.Directives.{directive_named, size, spare_size_after, spare_size_of, size_with_digit};
 
-use assembler_text::naming::words::{Read, after_word, byte, is_name, word};
+use assembler_reading::{Read, after_word, byte, is_name, word};
 use profile::memory_map::MOST_BYTES;
 
 /// What the items of a list are.

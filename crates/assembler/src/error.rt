@@ -2,7 +2,7 @@
 
 ghost use Rattle.std.specs.Prelude.{◌≡◌, Some};
 
-use assembler_text::naming::Reason;
+use assembler_reading::Reason;
 use std::error::Error;
 use std::fmt;
 

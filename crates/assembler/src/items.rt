@@ -2,13 +2,12 @@
 
 ghost use Rattle.std.specs.Prelude.{◌≡◌, ◌≤◌, length, IfOk, option_map};
 ghost use Rattle.std.specs.List.{prefix_len};
-ghost use Rattle.assembler_text.specs.naming.Labels.{address_of};
+ghost use Rattle.assembler_reading.specs.Labels.{address_of};
 ghost use Rattle.assembler.specs.Directives.{with_byte_read, is_text_byte, with_item_read, items, more_items, with_quoted_text, with_word_read};
 
 use crate::directives::Data;
 use crate::output::Output;
-use assembler_text::naming::words::{byte, comma};
-use assembler_text::naming::{Labels, expression};
+use assembler_reading::{Labels, byte, comma, expression};
 use std::alloc::AllocError;
 
 /// What follows what was written, or `None` where a text isn't of the grammar.

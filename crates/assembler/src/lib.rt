@@ -17,7 +17,7 @@ mod output;
 pub mod program;
 mod statements;
 
-pub use assembler_text::naming::{Labels, Reason, disassemble};
+pub use assembler_reading::{Labels, Reason, disassemble, is_label, word};
 pub use assembling::{assemble, assemble_lines, labels_of_lines};
 pub use error::AsmError;
 pub use program::Program;

@@ -1,14 +1,12 @@
 //! A line: a label, a statement and a comment, of which each may be missing.
 
 ghost use Rattle.std.specs.Prelude.{◌≡◌, ◌≤◌, ◌<◌, ◌^◌, length, IfOk, option_map};
-ghost use Rattle.assembler_text.specs.naming.Labels.{address_of};
+ghost use Rattle.assembler_reading.specs.Labels.{address_of};
 ghost use Rattle.assembler.specs.Line.{label_of, line};
 
 use crate::output::Output;
 use crate::statements::put_statement;
-use assembler_text::naming::Labels;
-use assembler_text::naming::labels::is_label;
-use assembler_text::naming::words::{after_word, word};
+use assembler_reading::{Labels, after_word, is_label, word};
 use std::alloc::AllocError;
 
 /// Writes a line, and answers its label, which may be empty, and the label's address; or `None`

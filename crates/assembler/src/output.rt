@@ -4,7 +4,7 @@ ghost use Rattle.std.specs.Prelude.{◌≡◌, ◌+◌, ◌≤◌, ◌<◌, ◌^
 ghost use Rattle.std.specs.Int.{to_le_bytes, w32};
 ghost use Rattle.assembler.specs.Written.{program_to_whole_words, byte_item, instruction_item, written_without_fault, with_item, with_reason, word_item};
 
-use assembler_text::naming::{Reason, Value};
+use assembler_reading::{Reason, Value};
 use byteorder::{ByteOrder, LittleEndian};
 use profile::memory_map::{ADDRESS_LIMIT, MOST_BYTES};
 use std::alloc::{AllocError, Global};

@@ -1,16 +1,14 @@
 //! What stands on a line after its label.
 
 ghost use Rattle.std.specs.Prelude.{◌≡◌, ◌≤◌, ◌<◌, ◌^◌, length, IfOk, option_map};
-ghost use Rattle.assembler_text.specs.naming.Labels.{address_of};
+ghost use Rattle.assembler_reading.specs.Labels.{address_of};
 ghost use Rattle.assembler.specs.Line.{instruction_at, listed_at, listed_start, space_at, statement_at, statement_of};
 ghost use Rattle.assembler.specs.Written.{program_to_whole_words};
 
 use crate::directives::{Data, Directive, directive_named, size};
 use crate::items::put_items;
 use crate::output::Output;
-use assembler_reading::instruction;
-use assembler_text::naming::Labels;
-use assembler_text::naming::words::{Read, after_word, is_end, spaces, word};
+use assembler_reading::{Labels, Read, after_word, instruction, is_end, spaces, word};
 use std::alloc::AllocError;
 
 /// Writes a statement or nothing, and answers the address at which a label on its line stands; or

@@ -10,4 +10,9 @@ pub mod operands;
 pub mod operating;
 pub mod register_lists;
 
+pub use assembler_text::naming::labels::is_label;
+pub use assembler_text::naming::words::{
+    Read, after_word, byte, comma, is_end, is_name, spaces, word,
+};
+pub use assembler_text::naming::{Labels, Reason, Value, disassemble, expression};
 pub use instructions::instruction;

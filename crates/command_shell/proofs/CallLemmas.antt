@@ -8,11 +8,11 @@ use Rattle.profile.specs.declared.stop.Stop.{Stop}
 use Rattle.profile.specs.declared.stop.Stop.TheVariants as stop
 use Rattle.profile.specs.Output.{AddsAllBut}
 use Rattle.profile.proofs.OutputLemmas.{AddsAllBut-start, AddsAllBut-more, Appends-from_all_but}
-use Rattle.swi_dispatch_guest.specs.declared.halt.Halt.{Halt}
-use Rattle.swi_dispatch_guest.specs.declared.halt.Halt.TheVariants as halt
-use Rattle.swi_dispatch_guest.specs.MachineState.{StepOutcome, stop_of}
-use Rattle.swi_dispatch_guest.specs.Run.{count_after, is_among}
-use Rattle.swi_dispatch_guest.specs.Step.{machine_step}
+use Rattle.debugger.specs.Halt.{Halt}
+use Rattle.debugger.specs.Halt.TheVariants as halt
+use Rattle.debugger.specs.MachineState.{StepOutcome, stop_of}
+use Rattle.debugger.specs.Run.{count_after, is_among}
+use Rattle.debugger.specs.Step.{machine_step}
 use Rattle.command_shell.specs.Calls.{call_done, call_end, call_end_by, call_made, call_unless, end_answer, answer_after_steps, finished_by, step_made, step_then, stop_before_step, stop_before_step_by, stop_answer}
 use Rattle.command_shell.specs.State.{ScriptState, Answered, IsAnswered}
 use Rattle.command_shell.specs.declared.calls.CallEnd.{CallEnd}

@@ -13,13 +13,13 @@ use Rattle.assembler.specs.Passes.{means_lines}
 use Rattle.assembler.specs.declared.error.AsmError.{AsmError}
 use Rattle.debugger.specs.Flex.{flex_text}
 use Rattle.debugger.specs.Heap.{heap_blocks_text}
-use Rattle.swi_dispatch_guest.specs.Boot.{machine_after_boot}
-use Rattle.swi_dispatch_guest.specs.Writes.{machine_after_poke}
-use Rattle.swi_dispatch_guest.specs.MachineState.{MachineState, StepOutcome}
-use Rattle.swi_dispatch_guest.specs.Step.{machine_step, module_loaded, store_called}
-use Rattle.swi_dispatch_guest.specs.declared.boot_error.BootError.{BootError}
-use Rattle.arm_core.specs.breaks.Breaks.{with_break, without_break}
-use Rattle.arm_core.specs.declared.breaks.breaks.BreakError.{BreakError}
+use Rattle.debugger.specs.Boot.{machine_after_boot}
+use Rattle.debugger.specs.Writes.{machine_after_poke}
+use Rattle.debugger.specs.MachineState.{MachineState, StepOutcome}
+use Rattle.debugger.specs.Step.{machine_step, module_loaded, store_called}
+use Rattle.debugger.specs.BootError.{BootError}
+use Rattle.debugger.specs.Breaks.{with_break, without_break}
+use Rattle.debugger.specs.BreakError.{BreakError}
 use Rattle.command_shell_lines.specs.Blocks.{block_bytes, block_lines, lines_after, lines_taken}
 use Rattle.command_shell_lines.specs.Requests.{Request, Nothing, Hex, Asm, Boot, Run, Regs, Set, Poke, Call, Load, Step, Break, Unbreak, Mem, Code, Heap, Areas, Modules, Flex, Unknown, opens_block, request_of, is_end_of_block}
 use Rattle.command_shell.specs.Answers.{break_text, unbreak_text}

@@ -1,5 +1,6 @@
-pub use Rattle.swi_dispatch_guest.proofs.GateLemmas
-pub use Rattle.swi_dispatch_guest.proofs.Runs
+pub use Rattle.debugger.proofs.GateLemmas
+pub use Rattle.debugger.proofs.Owned
+pub use Rattle.debugger.proofs.Runs
 pub mod AnswerLemmas
 pub mod CallLemmas
 pub mod FrontLemmas

@@ -8,15 +8,15 @@ use Rattle.profile.specs.text_lines.Lines.{ReadingPlace}
 use Rattle.command_shell_lines.specs.Blocks.{block_lines, after_block, lines_in_block, lines_after, lines_taken}
 use Rattle.command_shell_lines.specs.Requests.{Request, Nothing, Hex, Asm, Boot, Run, Regs, Set, Poke, Call, Load, Step, Break, Unbreak, Mem, Code, Heap, Areas, Modules, Flex, Unknown, opens_block, request_of, is_end_of_block}
 use Rattle.profile.specs.images.Entries.{Entry}
-use Rattle.swi_dispatch_guest.specs.MachineState.{machine_start}
-use Rattle.swi_dispatch_guest.specs.Value.{MachineValue}
+use Rattle.debugger.specs.MachineState.{machine_start}
+use Rattle.debugger.specs.Value.{MachineValue}
 use Rattle.command_shell.specs.declared.session.Session.{Session}
 use Rattle.command_shell.specs.Session.{script_state, state_on}
 use Rattle.command_shell.specs.Script.{OpenBlock, request_answer, on_opened, on_request, in_block, lines_answer, script_answer}
 use Rattle.command_shell.specs.State.{ScriptState, Answered, answer, then_answered, script_start_state}
 use Rattle.profile.proofs.OutputLemmas.{AddsAllBut-start, Appends-from_all_but}
 use Rattle.command_shell.proofs.FrontLemmas.{AddsFront-from_all_but, AddsFront-start, IsFront-same}
-use Rattle.swi_dispatch_guest.specs.GuestState.{state_of}
+use Rattle.debugger.specs.GuestState.{state_of}
 
 -- an answer, and then the lines that are left
 after_answer : Answered → ℕ → List (List ℕ) → Answered

@@ -4,11 +4,11 @@ use Rattle.std.specs.Prelude.{ℕ, zero, suc, false, ◌-◌, ◌==◌, List, le
 use Rattle.profile.specs.images.Entries.{Entry}
 use Rattle.profile.specs.declared.stop.Stop.{Stop}
 use Rattle.profile.specs.declared.stop.Stop.TheVariants as stop
-use Rattle.swi_dispatch_guest.specs.declared.halt.Halt.{Halt}
-use Rattle.swi_dispatch_guest.specs.Errors.{error_number}
-use Rattle.swi_dispatch_guest.specs.MachineState.{MachineState, StepOutcome, stop_of}
-use Rattle.swi_dispatch_guest.specs.Run.{count_after, is_among}
-use Rattle.swi_dispatch_guest.specs.Step.{machine_step, module_loaded, store_called}
+use Rattle.debugger.specs.Halt.{Halt}
+use Rattle.debugger.specs.Errors.{error_number}
+use Rattle.debugger.specs.MachineState.{MachineState, StepOutcome, stop_of}
+use Rattle.debugger.specs.Run.{count_after, is_among}
+use Rattle.debugger.specs.Step.{machine_step, module_loaded, store_called}
 use Rattle.command_shell.specs.Answers.{ok_text, call_error_text, stop_text}
 use Rattle.command_shell.specs.Memory.{script_with_last}
 use Rattle.command_shell.specs.State.{ScriptState, Answered, answer, then_answered}

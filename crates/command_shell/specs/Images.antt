@@ -3,10 +3,10 @@ use Rattle.std.specs.Prelude.{ℕ, false, List, length, codes, Option, Some, Non
 use Rattle.profile.specs.images.Entries.{bytes_of_image, refusal_for, with_entry}
 use Rattle.profile.specs.declared.images.error.ImageError.{ImageError}
 use Rattle.profile.specs.images.ErrorNames.{image_error_name}
-use Rattle.swi_dispatch_guest.specs.MachineState.{MachineState}
-use Rattle.swi_dispatch_guest.specs.Boot.{machine_after_boot}
-use Rattle.swi_dispatch_guest.specs.declared.boot_error.BootError.{BootError}
-use Rattle.swi_dispatch_guest.specs.declared.boot_error.BootError.TheVariants as boot
+use Rattle.debugger.specs.MachineState.{MachineState}
+use Rattle.debugger.specs.Boot.{machine_after_boot}
+use Rattle.debugger.specs.BootError.{BootError}
+use Rattle.debugger.specs.BootError.TheVariants as boot
 use Rattle.assembler.specs.ErrorNames.{reason_name}
 use Rattle.assembler.specs.Passes.{means_lines}
 use Rattle.assembler.specs.declared.error.AsmError.{AsmError}

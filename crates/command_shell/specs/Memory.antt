@@ -6,10 +6,10 @@ use Rattle.profile.specs.Outcome.{bind}
 use Rattle.profile.specs.Sizes.{Sizes}
 use Rattle.profile.specs.declared.fault.Fault.{Fault}
 use Rattle.profile.specs.declared.stop.Stop.{Stop}
-use Rattle.swi_dispatch_guest.specs.MachineState.{MachineState}
-use Rattle.swi_dispatch_guest.specs.Writes.{machine_after_poke, machine_at, machine_unhalted, machine_with_bank_register, machine_with_register, machine_with_status}
-use Rattle.swi_dispatch_guest.specs.ArmCoreMode.{Mode}
-use Rattle.swi_dispatch_guest.specs.ArmCorePsr.{Psr}
+use Rattle.debugger.specs.MachineState.{MachineState}
+use Rattle.debugger.specs.Writes.{machine_after_poke, machine_at, machine_unhalted, machine_with_bank_register, machine_with_register, machine_with_status}
+use Rattle.debugger.specs.Mode.{Mode}
+use Rattle.debugger.specs.Psr.{Psr}
 use Rattle.command_shell.specs.Answers.{refused_text}
 use Rattle.command_shell.specs.State.{ScriptState, Answered, answer, script_start_state}
 

@@ -1,10 +1,10 @@
 -- The state of a script, as the code holds it: the session and the images.
 use Rattle.std.specs.Prelude.{ℕ, List, [], None}
 use Rattle.profile.specs.images.Entries.{Entry}
-use Rattle.swi_dispatch_guest.specs.Value.{MachineValue}
+use Rattle.debugger.specs.Value.{MachineValue}
 use Rattle.command_shell.specs.declared.session.Session.{Session}
 use Rattle.command_shell.specs.State.{ScriptState}
-use Rattle.swi_dispatch_guest.specs.GuestState.{state_of}
+use Rattle.debugger.specs.GuestState.{state_of}
 
 abbrev pub script_state : Session → List Entry → ScriptState
 script_state s images = record {

@@ -4,7 +4,7 @@ use Rattle.std.specs.Io.KnownBytes.{Appends}
 use Rattle.profile.specs.Sizes.{Sizes}
 use Rattle.profile.specs.declared.stop.Stop.{Stop}
 use Rattle.profile.specs.images.Entries.{Entry}
-use Rattle.swi_dispatch_guest.specs.MachineState.{MachineState, machine_start}
+use Rattle.debugger.specs.MachineState.{MachineState, machine_start}
 
 -- What a script works on: the machine, whether it still stands as it was made, the images, the
 -- breaks, what is left of the budget, and the last stop that a line was answered with.

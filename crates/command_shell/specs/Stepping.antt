@@ -4,12 +4,12 @@ use Rattle.std.specs.Prelude.{◌≡◌, ℕ, ◌-◌, ◌==◌, ◌&&◌, nat_l
 use Rattle.std.specs.Io.KnownBytes.{Appends}
 use Rattle.profile.specs.Outcome.{bind}
 use Rattle.profile.specs.declared.stop.Stop.{Stop}
-use Rattle.arm_core.specs.declared.breaks.breaks.BreakError.{BreakError}
-use Rattle.arm_core.specs.declared.breaks.breaks.BreakError.TheVariants as break
-use Rattle.arm_core.specs.breaks.Breaks.{with_break, without_break}
-use Rattle.swi_dispatch_guest.specs.MachineState.{MachineState}
-use Rattle.swi_dispatch_guest.specs.GuestState.{AreCoreSteps}
-use Rattle.swi_dispatch_guest.specs.Run as machine
+use Rattle.debugger.specs.BreakError.{BreakError}
+use Rattle.debugger.specs.BreakError.TheVariants as break
+use Rattle.debugger.specs.Breaks.{with_break, without_break}
+use Rattle.debugger.specs.MachineState.{MachineState}
+use Rattle.debugger.specs.GuestState.{AreCoreSteps}
+use Rattle.debugger.specs.Run as machine
 use Rattle.command_shell.specs.Answers.{break_text, unbreak_text, refused_text, stop_text, stepped_text}
 use Rattle.command_shell.specs.State.{ScriptState, Answered, answer}
 

@@ -3,9 +3,9 @@ use Rattle.std.specs.Prelude.{ℕ, Bool, true, false, ◌==◌, nat_le, length, 
 use Rattle.std.specs.List.{position, remove}
 use Rattle.std.specs.Result.{result_ok}
 use Rattle.profile.specs.Digits.{hex_number, hex_word}
-use Rattle.address_map.specs.Bytes.{Bytes, word_loaded}
+use Rattle.debugger.specs.Bytes.{Bytes, word_loaded}
 use Rattle.profile.specs.Firsts.{first_of}
-unfoldable pub use Rattle.swi_dispatch_guest.specs.Run.{is_among}
+unfoldable pub use Rattle.debugger.specs.Run.{is_among}
 use Rattle.command_shell.specs.declared.watches.WordWatchError.{WordWatchError}
 use Rattle.command_shell.specs.declared.watches.WordWatchError.TheVariants.{WatchTableFull, NoWatch}
 use Rattle.command_shell.specs.declared.watches.WatchHit.{WatchHit}

@@ -5,10 +5,10 @@ ghost use Rattle.std.specs.Prelude.{◌≡◌, ◌≤◌, ◌<◌, ◌+◌, true
 ghost use Rattle.std.specs.Option.{option_map};
 ghost use Rattle.std.specs.Io.KnownBytes.{Appends};
 ghost use Rattle.profile.specs.Output.{Writes};
-ghost use Rattle.swi_dispatch_guest.specs.declared.halt.Halt.{Halt};
-ghost use Rattle.swi_dispatch_guest.specs.MachineState.{stop_of};
-ghost use Rattle.swi_dispatch_guest.specs.Run.{count_after};
-ghost use Rattle.swi_dispatch_guest.specs.GuestState.{state_of};
+ghost use Rattle.debugger.specs.Halt.{Halt};
+ghost use Rattle.debugger.specs.MachineState.{stop_of};
+ghost use Rattle.debugger.specs.Run.{count_after};
+ghost use Rattle.debugger.specs.GuestState.{state_of};
 
 use crate::answers::{print_error, print_ok, print_stop};
 use crate::session::Session;
@@ -35,7 +35,7 @@ pub enum CallEnd {
 
 impl Session {
     ghost use Rattle.profile.specs.images.Entries.{Entry};
-    ghost use Rattle.swi_dispatch_guest.specs.Step.{machine_step};
+    ghost use Rattle.debugger.specs.Step.{machine_step};
     ghost use Rattle.command_shell.specs.Calls.{call_made, call_end, call_text, end_answer, answer_after_steps};
     ghost use Rattle.command_shell.specs.Calls.{first_step, step_made, stop_answer, stop_before_step};
     ghost use Rattle.command_shell.specs.Session.{script_state};

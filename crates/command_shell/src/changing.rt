@@ -5,9 +5,9 @@ ghost use Rattle.std.specs.Prelude.{◌≡◌, ◌≤◌, ◌<◌, ◌%◌, ◌^
 ghost use Rattle.profile.specs.Outcome.{Leaves};
 
 use crate::session::Session;
+use debugger::{BreakError, Machine, Mode, Psr};
 use profile::{Config, Fault, Stop};
 use std::alloc::AllocError;
-use swi_dispatch_guest::{BreakError, Machine, Mode, Psr};
 
 impl Session {
     ghost use Rattle.profile.specs.images.Entries.{Entry};

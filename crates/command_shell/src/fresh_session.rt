@@ -3,9 +3,9 @@
 ghost use Rattle.std.specs.Prelude.{◌≡◌, List, IfOk};
 
 use crate::session::Session;
+use debugger::Machine;
 use profile::Config;
 use std::alloc::{AllocError, Global};
-use swi_dispatch_guest::Machine;
 
 impl Session {
     ghost use Rattle.profile.specs.images.Entries.{Entry};

@@ -12,10 +12,10 @@ use crate::error::RunError;
 use crate::session::Session;
 use assembler::{AsmError, Program, Reason, assemble_lines};
 use command_shell_lines::{Block, Origin, read_block, skip_block};
+use debugger::BootError;
 use profile::images::{ImageError, Images};
 use profile::text_lines::Lines;
 use profile::{Sink, WriteFault};
-use swi_dispatch_guest::BootError;
 
 impl Session {
     ghost use Rattle.profile.specs.images.Entries.{refusal_for};

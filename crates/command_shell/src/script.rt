@@ -10,11 +10,11 @@ ghost use Rattle.command_shell.specs.Whole.{AnswersWhole};
 use crate::error::RunError;
 use crate::session::Session;
 use command_shell_lines::{command_of, read_script};
+use debugger::Machine;
 use profile::images::Images;
 use profile::text_lines::Lines;
 use profile::{Config, Sink, Source, Stop};
 use std::alloc::Global;
-use swi_dispatch_guest::Machine;
 
 /// What a script came to.
 #[derive(Clone, Copy, Debug, PartialEq, Eq)]

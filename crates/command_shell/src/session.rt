@@ -9,11 +9,11 @@ use crate::answers::print_unknown;
 use crate::calls::OutsideCall;
 use crate::error::RunError;
 use command_shell_lines::{ScriptCommand, command_of};
+use debugger::{Breaks, Machine};
 use profile::images::Images;
 use profile::text_lines::Lines;
 use profile::{Sink, Stop};
 use std::alloc::Global;
-use swi_dispatch_guest::{Breaks, Machine};
 
 /// What the lines of a script work on beside the images: a machine, its breaks, what is left of the
 /// budget, and the last stop that a line was answered with.

@@ -2,14 +2,14 @@
 
 ghost use Rattle.std.specs.Prelude.{◌≡◌, ◌<◌, ◌≤◌, min, true, None, List, IfOk, OnOk, OnErr};
 ghost use Rattle.profile.specs.declared.stop.Stop.TheVariants.{Budget};
-ghost use Rattle.swi_dispatch_guest.specs.GuestState.{AwaitsOtherTurn, state_of};
+ghost use Rattle.debugger.specs.GuestState.{AwaitsOtherTurn, state_of};
 ghost use Rattle.command_shell.specs.Stepping.{break_refusal_name};
 
 use crate::answers::{print_break, print_refused, print_stepped, print_stop, print_unbreak};
 use crate::session::Session;
+use debugger::{BreakError, Ran};
 use profile::images::Images;
 use profile::{Sink, WriteFault};
-use swi_dispatch_guest::{BreakError, Ran};
 
 impl Session {
     ghost use Rattle.profile.specs.images.Entries.{Entry};

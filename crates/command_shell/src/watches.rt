@@ -2,15 +2,15 @@
 
 ghost use Rattle.std.specs.Prelude.{◌≡◌, ◌==◌, ◌↔◌, ◌<◌, ◌≤◌, [], IsTrue, IfSome, length};
 ghost use Rattle.std.specs.List.{position};
-ghost use Rattle.address_map.specs.Memory.{bytes_of};
+ghost use Rattle.debugger.specs.AddressMapMemory.{bytes_of};
 ghost use Rattle.profile.specs.Firsts.{first_of};
 ghost use Rattle.profile.specs.Outcome.{Leaves};
 ghost use Rattle.profile.specs.Output.{Writes};
 ghost use Rattle.command_shell.specs.WordWatches.{change_of_word, hit_unless_same, is_unchanged_word, mapped_word, mapped_word_text, watch_error_name, watch_change_text, was_text, watch_text, watched_text, watched_words};
 
-use address_map::AddressMap;
 use arrayvec::ArrayVec;
 use command_shell_lines::WordAddress;
+use debugger::AddressMap;
 use profile::{HexText, Sink, WriteFault, push_all, push_parts};
 use std::marker::Model;
 

@@ -14,6 +14,7 @@ mod operands;
 mod reading;
 mod requests;
 
+pub use assembler_text::naming::words::after_spaces;
 pub use blocks::{Block, read_block, skip_block};
 pub use error::ReadingError;
 pub use failed_blocks::FailedBlocks;

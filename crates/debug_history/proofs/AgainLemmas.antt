@@ -11,18 +11,18 @@ use Rattle.profile.specs.Sizes.{Sizes}
 use Rattle.profile.specs.declared.fault.Fault.{Fault}
 use Rattle.profile.specs.declared.stop.Stop.{Stop}
 use Rattle.profile.specs.declared.stop.Stop.TheVariants as stop
-use Rattle.command_shell.specs.Boot.{machine_after_boot}
-use Rattle.command_shell.specs.BootError.{BootError}
-use Rattle.command_shell.specs.MachineState.{MachineState, StepOutcome, stop_of}
-use Rattle.command_shell.specs.Run.{Run, ran}
-use Rattle.command_shell.specs.Writes.{machine_after_poke}
-use Rattle.command_shell.specs.Halt.{Halt}
-use Rattle.command_shell.specs.Calls.{step_made}
-use Rattle.command_shell.specs.Images.{boot_done, boot_found}
-use Rattle.command_shell.specs.Memory.{script_after_poke, script_started_anew, script_with_budget, script_with_last, script_with_machine}
-use Rattle.command_shell.specs.State.{ScriptState, script_start_state}
-use Rattle.command_shell.specs.Stepping.{IsAfterRun, script_after_run, script_run}
-use Rattle.address_map.specs.Bytes.{ok_unless_fault}
+use Rattle.debug_labels.specs.Boot.{machine_after_boot}
+use Rattle.debug_labels.specs.BootError.{BootError}
+use Rattle.debug_tables.specs.MachineState.{MachineState, StepOutcome, stop_of}
+use Rattle.debug_tables.specs.Run.{Run, ran}
+use Rattle.debug_labels.specs.Writes.{machine_after_poke}
+use Rattle.debug_labels.specs.Halt.{Halt}
+use Rattle.debug_tables.specs.Calls.{step_made}
+use Rattle.debug_tables.specs.Images.{boot_done, boot_found}
+use Rattle.debug_tables.specs.Memory.{script_after_poke, script_started_anew, script_with_budget, script_with_last, script_with_machine}
+use Rattle.debug_tables.specs.State.{ScriptState, script_start_state}
+use Rattle.debug_tables.specs.Stepping.{IsAfterRun, script_after_run, script_run}
+use Rattle.debug_labels.specs.Bytes.{ok_unless_fault}
 use Rattle.debug_tables.specs.Stubs.{machine_with_bytes, stubbed_step}
 use Rattle.debug_tables.specs.byte_writes.Put.{put_fault, script_after_put}
 use Rattle.debug_history.specs.Acts.{PastMoment, changed_moment, fresh_moment, moment_after_acts, moment_after_boot, moment_after_deed, moment_after_put, moment_after_steps, moment_after_word, moment_of_script, moment_unless_fault}

@@ -6,17 +6,17 @@ use Rattle.profile.specs.images.Entries.{Entry}
 use Rattle.command_shell_lines.specs.declared.debug_words.stubs.Stub.{Stub}
 use Rattle.profile.specs.declared.stop.Stop.{Stop}
 use Rattle.profile.specs.declared.stop.Stop.TheVariants as stop
-use Rattle.command_shell.specs.Halt.{Halt}
-use Rattle.command_shell.specs.Halt.TheVariants as halt
-use Rattle.command_shell.specs.MachineState.{MachineState, StepOutcome, stop_of}
-use Rattle.command_shell.specs.Run.{count_after, halt_step_count}
-use Rattle.command_shell.specs.Step.{machine_step}
-use Rattle.command_shell.specs.Calls.{answer_after_steps, call_done, call_end, call_made, end_answer, finished_by, step_made, step_then, stop_before_step, stop_before_step_by, stop_answer}
-use Rattle.command_shell.specs.Memory.{script_with_last}
-use Rattle.command_shell.specs.State.{ScriptState}
-use Rattle.command_shell.specs.declared.calls.CallEnd.{CallEnd}
-use Rattle.command_shell.specs.declared.calls.CallEnd.TheVariants as end
-use Rattle.command_shell.proofs.CallLemmas.{call_allowed, call_refused, finished_ends, goes_left, halted_ends}
+use Rattle.debug_labels.specs.Halt.{Halt}
+use Rattle.debug_labels.specs.Halt.TheVariants as halt
+use Rattle.debug_tables.specs.MachineState.{MachineState, StepOutcome, stop_of}
+use Rattle.debug_tables.specs.Run.{count_after, halt_step_count}
+use Rattle.debug_tables.specs.Step.{machine_step}
+use Rattle.debug_tables.specs.Calls.{answer_after_steps, call_done, call_end, call_made, end_answer, finished_by, step_made, step_then, stop_before_step, stop_before_step_by, stop_answer}
+use Rattle.debug_tables.specs.Memory.{script_with_last}
+use Rattle.debug_tables.specs.State.{ScriptState}
+use Rattle.debug_tables.specs.CallEnd.{CallEnd}
+use Rattle.debug_tables.specs.CallEnd.TheVariants as end
+use Rattle.debug_tables.proofs.CallLemmas.{call_allowed, call_refused, finished_ends, goes_left, halted_ends}
 use Rattle.debug_tables.specs.Stubs.{stubbed_step}
 use Rattle.debug_history.specs.Acts.{PastMoment, changed_moment, moment_after_deed, moment_of_script}
 use Rattle.debug_history.specs.Laws.{IsPastOf}
@@ -24,7 +24,7 @@ use Rattle.debug_history.specs.Noted.{is_faulted, past_with_call, past_with_deed
 use Rattle.debug_history.specs.Past.{PastState}
 use Rattle.debug_history.specs.Steps.{steps_after}
 use Rattle.debug_history.specs.declared.act.PastDeed.{PastDeed}
-use Rattle.command_shell.proofs.CallLemmas.{can_step}
+use Rattle.debug_tables.proofs.CallLemmas.{can_step}
 use Rattle.debug_history.proofs.NotedLemmas.{LedTo, deed_noted, fault_halts, led_by, led_more, led_nowhere, led_on, nothing_noted, steps_noted}
 
 -- what the rest of a call leaves

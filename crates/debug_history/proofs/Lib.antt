@@ -1,4 +1,4 @@
-pub use Rattle.command_shell.proofs.CallLemmas as ShellCallLemmas
+pub use Rattle.debug_tables.proofs.CallLemmas as ShellCallLemmas
 pub mod ActLemmas
 pub mod AgainLemmas
 pub mod AheadLemmas

@@ -11,25 +11,25 @@ use Rattle.arm_core.specs.declared.breaks.breaks.BreakError.{BreakError}
 use Rattle.arm_core.specs.breaks.Breaks.{with_break, without_break}
 use Rattle.profile.specs.images.Entries.{Entry, bytes_of_image, can_name_image, refusal_for, with_entry, without_entry}
 use Rattle.profile.specs.declared.fault.Fault.{Fault}
-use Rattle.command_shell.specs.Boot.{machine_after_boot}
-use Rattle.command_shell.specs.BootError.{BootError}
-use Rattle.command_shell.specs.MachineState.{MachineState, StepOutcome}
-use Rattle.command_shell.specs.Step.{module_loaded, store_called}
-use Rattle.command_shell.specs.Writes.{machine_after_poke}
-use Rattle.command_shell.specs.Halt.{Halt}
+use Rattle.debug_labels.specs.Boot.{machine_after_boot}
+use Rattle.debug_labels.specs.BootError.{BootError}
+use Rattle.debug_tables.specs.MachineState.{MachineState, StepOutcome}
+use Rattle.debug_tables.specs.Step.{module_loaded, store_called}
+use Rattle.debug_labels.specs.Writes.{machine_after_poke}
+use Rattle.debug_labels.specs.Halt.{Halt}
 use Rattle.profile.specs.declared.images.error.ImageError.{ImageError}
 use Rattle.profile.specs.declared.images.error.ImageError.TheVariants.{BadName, NameTaken, TooLarge, TableFull}
 use Rattle.debug_lines.specs.LineKinds.{is_refused_block}
-use Rattle.assembler.specs.declared.error.AsmError.{AsmError}
-use Rattle.assembler.specs.Passes.{means_lines}
+use Rattle.debug_tables.specs.AsmError.{AsmError}
+use Rattle.debug_tables.specs.Passes.{means_lines}
 use Rattle.command_shell_lines.specs.Blocks.{block_bytes}
-use Rattle.command_shell.specs.Answers.{break_text, unbreak_text}
-use Rattle.command_shell.specs.Images.{asm_block, asm_answer, boot_done, boot_found, hex_block, hex_answer, image_added, image_opened, image_sized}
-use Rattle.command_shell.specs.Memory.{poke_done, script_with_machine, script_with_register}
-use Rattle.command_shell.specs.Script.{request_answer}
-use Rattle.command_shell.specs.State.{Answered, ScriptState}
-use Rattle.command_shell.specs.Stepping.{breaks_changed}
-use Rattle.command_shell.specs.Views.{flex_answer, heap_answer, shown_or}
+use Rattle.debug_tables.specs.Answers.{break_text, unbreak_text}
+use Rattle.debug_tables.specs.Images.{asm_block, asm_answer, boot_done, boot_found, hex_block, hex_answer, image_added, image_opened, image_sized}
+use Rattle.debug_tables.specs.Memory.{poke_done, script_with_machine, script_with_register}
+use Rattle.debug_tables.specs.Script.{request_answer}
+use Rattle.debug_tables.specs.State.{Answered, ScriptState}
+use Rattle.debug_tables.specs.Stepping.{breaks_changed}
+use Rattle.debug_tables.specs.Views.{flex_answer, heap_answer, shown_or}
 use Rattle.command_shell_lines.specs.Requests.{Request, Areas, Asm, Boot, Break, Call, Code, Flex, Heap, Hex, Load, Mem, Modules, Nothing, Poke, Regs, Run, Set, Step, Unbreak, Unknown}
 use Rattle.debug_history.specs.Acts.{PastMoment, fresh_moment, is_anew, moment_after_acts, moment_after_boot, moment_after_deed, moment_after_program, moment_after_word, moment_of_script}
 use Rattle.debug_history.specs.Laws.{IsPastOf, NotedIsDone}

@@ -1,6 +1,6 @@
 -- Looking into the past changes nothing.
 use Rattle.std.proofs.Common.{◌≡◌, ℕ, Bool, true, false, List, refl}
-use Rattle.command_shell.specs.State.{ScriptState}
+use Rattle.debug_tables.specs.State.{ScriptState}
 use Rattle.debug_history.specs.Answers.{past_asked, past_shown}
 use Rattle.debug_history.specs.Laws.{LookingBackChangesNothing, LooksBackOnly}
 use Rattle.debug_history.specs.Past.{PastState}

@@ -8,13 +8,13 @@ use Rattle.command_shell_lines.specs.declared.debug_words.stubs.Stub.{Stub}
 use Rattle.profile.specs.Sizes.{Sizes}
 use Rattle.profile.specs.declared.stop.Stop.{Stop}
 use Rattle.profile.specs.declared.stop.Stop.TheVariants as stop
-use Rattle.command_shell.specs.Halt.{Halt}
-use Rattle.command_shell.specs.Halt.TheVariants as halt
-use Rattle.command_shell.specs.MachineState.{MachineState, StepOutcome, stop_of}
-use Rattle.command_shell.specs.Run.{Run, count_after, go_on, halt_step_count, is_among, ran, resting, run_after_steps, run_unless_halted}
-use Rattle.command_shell.specs.Step.{machine_step}
-use Rattle.command_shell.specs.State.{ScriptState}
-use Rattle.command_shell.specs.Stepping.{script_after_run, script_run}
+use Rattle.debug_labels.specs.Halt.{Halt}
+use Rattle.debug_labels.specs.Halt.TheVariants as halt
+use Rattle.debug_tables.specs.MachineState.{MachineState, StepOutcome, stop_of}
+use Rattle.debug_tables.specs.Run.{Run, count_after, go_on, halt_step_count, is_among, ran, resting, run_after_steps, run_unless_halted}
+use Rattle.debug_tables.specs.Step.{machine_step}
+use Rattle.debug_tables.specs.State.{ScriptState}
+use Rattle.debug_tables.specs.Stepping.{script_after_run, script_run}
 use Rattle.debug_history.specs.Acts.{PastMoment, changed_moment, fresh_moment, moment_after_acts, moment_after_deed, moment_after_steps, moment_of_script, steps_of_acts, steps_of_deed}
 use Rattle.debug_history.specs.Laws.{IsPastOf}
 use Rattle.debug_history.specs.Noted.{is_faulted, past_with_deed, past_with_steps, past_with_stubbed}

@@ -6,8 +6,8 @@ use Rattle.std.proofs.lemmas.List.{append-nil, drop_all, drop_more, take-append-
 use Rattle.profile.specs.images.Entries.{Entry}
 use Rattle.command_shell_lines.specs.declared.debug_words.stubs.Stub.{Stub}
 use Rattle.profile.specs.Sizes.{Sizes}
-use Rattle.command_shell.specs.State.{ScriptState, script_start_state}
-use Rattle.command_shell.specs.MachineState.{MachineState}
+use Rattle.debug_tables.specs.State.{ScriptState, script_start_state}
+use Rattle.debug_tables.specs.MachineState.{MachineState}
 use Rattle.debug_tables.specs.Stubs.{stubbed_step}
 use Rattle.debug_history.specs.Acts.{PastMoment, changed_moment, fresh_moment, moment_after_acts, moment_after_deed, moment_after_steps, moment_of_script, steps_act, steps_of_acts, steps_of_deed}
 use Rattle.debug_history.specs.Again.{IsAtMoment}

@@ -6,10 +6,10 @@ use Rattle.profile.specs.images.Entries.{Entry}
 use Rattle.command_shell_lines.specs.declared.debug_words.stubs.Stub.{Stub}
 use Rattle.profile.specs.declared.stop.Stop.{Stop}
 use Rattle.profile.specs.declared.stop.Stop.TheVariants as stop
-use Rattle.command_shell.specs.Halt.{Halt}
-use Rattle.command_shell.specs.MachineState.{MachineState, StepOutcome, stop_of}
-use Rattle.command_shell.specs.Step.{machine_step, outcome_of_turn, result_of_instruction, unless_halted}
-use Rattle.command_shell.specs.Run.{Run, go_on, halt_step_count, is_among, ran, resting, run_after_steps, run_unless_halted}
+use Rattle.debug_labels.specs.Halt.{Halt}
+use Rattle.debug_tables.specs.MachineState.{MachineState, StepOutcome, stop_of}
+use Rattle.debug_tables.specs.Step.{machine_step, outcome_of_turn, result_of_instruction, unless_halted}
+use Rattle.debug_tables.specs.Run.{Run, go_on, halt_step_count, is_among, ran, resting, run_after_steps, run_unless_halted}
 use Rattle.debug_tables.specs.Stubs.{StubDeedState, deed_ahead, deed_next, deed_that_fits, deed_unless_halted, machine_after_deed, machine_after_put, step_or_deed, stubbed_step}
 use Rattle.debug_tables.proofs.StubLemmas.{put_halt, settings_halt}
 use Rattle.debug_history.specs.Noted.{is_faulted}

@@ -4,12 +4,12 @@ use Rattle.profile.specs.images.Entries.{Entry, bytes_of_image}
 use Rattle.command_shell_lines.specs.declared.debug_words.stubs.Stub.{Stub}
 use Rattle.profile.specs.Sizes.{Sizes}
 use Rattle.profile.specs.declared.fault.Fault.{Fault}
-use Rattle.command_shell.specs.Boot.{machine_after_boot}
-use Rattle.command_shell.specs.BootError.{BootError}
-use Rattle.command_shell.specs.MachineState.{MachineState, machine_start}
-use Rattle.command_shell.specs.Step.{machine_step, module_loaded, store_called}
-use Rattle.command_shell.specs.Writes.{machine_after_poke, machine_at, machine_unhalted, machine_with_bank_register, machine_with_register, machine_with_status}
-use Rattle.command_shell.specs.State.{ScriptState}
+use Rattle.debug_labels.specs.Boot.{machine_after_boot}
+use Rattle.debug_labels.specs.BootError.{BootError}
+use Rattle.debug_tables.specs.MachineState.{MachineState, machine_start}
+use Rattle.debug_tables.specs.Step.{machine_step, module_loaded, store_called}
+use Rattle.debug_labels.specs.Writes.{machine_after_poke, machine_at, machine_unhalted, machine_with_bank_register, machine_with_register, machine_with_status}
+use Rattle.debug_tables.specs.State.{ScriptState}
 use Rattle.debug_lines.specs.SteppingRequests.{SteppingRequest, Run, stepping_request_of}
 use Rattle.debug_lines.specs.SteppingRequests as asked
 use Rattle.debug_lines.specs.declared.stepping.SteppingCommand.{SteppingCommand}

@@ -2,7 +2,7 @@
 use Rattle.std.specs.Prelude.{◌≡◌, ℕ, Some, unwrap_or}
 use Rattle.profile.specs.Sizes.{Sizes}
 use Rattle.profile.specs.declared.stop.Stop.TheVariants.{Budget}
-use Rattle.command_shell.specs.State.{ScriptState}
+use Rattle.debug_tables.specs.State.{ScriptState}
 use Rattle.debug_history.specs.Acts.{PastMoment}
 
 -- a script whose machine came to that moment; what is left of the budget and the last stop may be others

@@ -2,11 +2,11 @@
 use Rattle.std.specs.Option.{option_map, option_or}
 use Rattle.std.specs.Prelude.{ℕ, Bool, true, false, ◌&&◌, ◌-◌, ◌++◌, nat_le, List, Option, Some, None, if◌then◌else◌}
 use Rattle.profile.specs.Sizes.{Sizes}
-use Rattle.command_shell.specs.State.{ScriptState}
+use Rattle.debug_tables.specs.State.{ScriptState}
 use Rattle.debug_labels.specs.Labels.{ImageLabels}
 use Rattle.debug_labels.specs.Lines.{line_with_numbers}
 use Rattle.debug_labels.specs.place_views.Places.{line_naming_on, where_text}
-use Rattle.command_shell.specs.MachineState.{MachineState}
+use Rattle.debug_tables.specs.MachineState.{MachineState}
 use Rattle.debug_history.specs.Lines.{past_line}
 use Rattle.debug_history.specs.Acts.{fresh_moment, steps_of_acts}
 use Rattle.debug_history.specs.Again.{script_at_moment}

@@ -3,8 +3,8 @@ use Rattle.std.specs.Prelude.{◌≡◌, ◌≤◌, ◌<◌, ℕ, ◌+◌, ◌-�
 use Rattle.profile.specs.images.Entries.{Entry}
 use Rattle.command_shell_lines.specs.declared.debug_words.stubs.Stub.{Stub}
 use Rattle.profile.specs.Sizes.{Sizes}
-use Rattle.command_shell.specs.Script.{request_answer}
-use Rattle.command_shell.specs.State.{ScriptState}
+use Rattle.debug_tables.specs.Script.{request_answer}
+use Rattle.debug_tables.specs.State.{ScriptState}
 use Rattle.command_shell_lines.specs.Requests.{Request}
 use Rattle.debug_history.specs.Acts.{PastMoment, moment_after_acts, moment_after_deed, moment_after_steps, moment_of_script, steps_act, steps_of_acts, steps_of_deed}
 use Rattle.debug_history.specs.Answers.{PastAnswered, past_answered}

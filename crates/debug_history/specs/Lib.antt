@@ -1,9 +1,11 @@
 -- The past of a machine: what was done to it, and how it stood. Begin with Past.
-pub use Rattle.command_shell.specs.Calls as ShellCalls
-pub use Rattle.command_shell.specs.declared.calls.CallEnd
-pub use Rattle.command_shell.specs.Run as MachineRun
-pub use Rattle.command_shell.specs.Step as MachineSteps
-pub use Rattle.command_shell.specs.Halt
+pub use Rattle.debug_labels.specs.Halt
+pub use Rattle.debug_labels.specs.Lines as DebugLabelsLines
+pub use Rattle.debug_labels.specs.Reasons
+pub use Rattle.debug_tables.specs.CallEnd
+pub use Rattle.debug_tables.specs.Calls as ShellCalls
+pub use Rattle.debug_tables.specs.Run as MachineRun
+pub use Rattle.debug_tables.specs.Step as MachineSteps
 pub mod Acts
 pub mod Again
 pub mod Answers

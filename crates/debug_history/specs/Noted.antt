@@ -3,9 +3,9 @@ use Rattle.std.specs.Prelude.{ℕ, zero, suc, ◌+◌, ◌==◌, Bool, true, fal
 use Rattle.command_shell_lines.specs.declared.debug_words.stubs.Stub.{Stub}
 use Rattle.arm_core.specs.Psr.{psr_bits}
 use Rattle.arm_core.specs.State.{register_of}
-use Rattle.command_shell.specs.MachineState.{MachineState}
-use Rattle.command_shell.specs.Halt.{Halt}
-use Rattle.command_shell.specs.Halt.TheVariants as halt
+use Rattle.debug_tables.specs.MachineState.{MachineState}
+use Rattle.debug_labels.specs.Halt.{Halt}
+use Rattle.debug_labels.specs.Halt.TheVariants as halt
 use Rattle.debug_lines.specs.SteppingRequests as stepping
 use Rattle.command_shell_lines.specs.Requests.{Request, Asm, Boot, Call, Hex, Load, Poke, Run, Set, Step}
 use Rattle.debug_history.specs.Past.{PastState, past_with_act, past_with_other_images}

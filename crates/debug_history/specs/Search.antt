@@ -4,17 +4,17 @@ use Rattle.std.specs.Prelude.{â„•, zero, suc, Bool, true, false, is_some, not, â
 use Rattle.std.specs.List.{flat_map}
 use Rattle.std.specs.Option.{option_or}
 use Rattle.std.specs.Result.{result_ok}
-use Rattle.address_map.specs.Bytes.{byte_loaded, word_loaded}
+use Rattle.debug_labels.specs.Bytes.{byte_loaded, word_loaded}
 use Rattle.arm_core.specs.Psr.{psr_bits}
 use Rattle.arm_core.specs.State.{register_in}
 use Rattle.profile.specs.images.Entries.{Entry}
 use Rattle.command_shell_lines.specs.declared.debug_words.stubs.Stub.{Stub}
-use Rattle.os_heap.specs.Payloads.{payload_of}
-use Rattle.os_heap.specs.Store.{Store}
-use Rattle.os_heap.specs.declared.payload.Payload.{Payload}
-use Rattle.os_heap.specs.declared.payload.Payload.TheVariants.{Outside, Inside, Other}
+use Rattle.debug_labels.specs.Payloads.{payload_of}
+use Rattle.debug_tables.specs.Store.{Store}
+use Rattle.debug_labels.specs.Payload.{Payload}
+use Rattle.debug_labels.specs.Payload.TheVariants.{Outside, Inside, Other}
 use Rattle.profile.specs.Sizes.{Sizes}
-use Rattle.command_shell.specs.MachineState.{MachineState}
+use Rattle.debug_tables.specs.MachineState.{MachineState}
 use Rattle.debug_history.specs.Acts.{PastMoment, fresh_moment, moment_after_acts, moment_after_deed, steps_act, steps_of_acts, steps_of_deed}
 use Rattle.debug_history.specs.declared.act.Act.{Act}
 use Rattle.debug_history.specs.declared.act.PastDeed.{PastDeed}

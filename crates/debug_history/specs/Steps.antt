@@ -3,8 +3,8 @@
 use Rattle.std.specs.Prelude.{◌≡◌, ℕ, zero, suc, ◌-◌, List, []}
 use Rattle.profile.specs.images.Entries.{Entry}
 use Rattle.command_shell_lines.specs.declared.debug_words.stubs.Stub.{Stub}
-use Rattle.command_shell.specs.MachineState.{MachineState}
-use Rattle.command_shell.specs.Run.{ran}
+use Rattle.debug_tables.specs.MachineState.{MachineState}
+use Rattle.debug_tables.specs.Run.{ran}
 use Rattle.debug_tables.specs.Stubs.{stubbed_step}
 
 unfoldable pub steps_after : List Stub → List Entry → ℕ → MachineState → MachineState

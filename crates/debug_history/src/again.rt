@@ -1,18 +1,18 @@
 //! What was done to a machine is done to it again.
 
 ghost use Rattle.std.specs.Prelude.{◌≡◌, [], OnOk, IfErr};
-ghost use Rattle.command_shell.specs.Calls.{outside_called};
-ghost use Rattle.command_shell.specs.Error.{IsLineError};
-ghost use Rattle.command_shell.specs.Session.{script_state};
+ghost use Rattle.debug_tables.specs.Calls.{outside_called};
+ghost use Rattle.debug_tables.specs.Error.{IsLineError};
+ghost use Rattle.debug_tables.specs.Session.{script_state};
 ghost use Rattle.debug_history.specs.Acts.{changed_moment, moment_after_acts, moment_after_deed, moment_after_steps, moment_of_script};
 ghost use Rattle.debug_history.specs.Again.{IsAtMoment};
 ghost use Rattle.debug_history.specs.declared.act.PastDeed.TheVariants.{FaultingStep};
 
 use crate::act::{Act, PastDeed};
 use crate::kept_stubs::KeptStubs;
-use command_shell::{Nowhere, OutsideCall, RunError, Session};
 use command_shell_lines::ScriptCommand;
 use debug_tables::byte_writes::put_bytes;
+use debug_tables::{Nowhere, OutsideCall, RunError, Session};
 use profile::WriteFault;
 use profile::images::Images;
 use profile::text_lines::Lines;

@@ -1,23 +1,23 @@
 //! Lines that have to do with the past are answered.
 
 ghost use Rattle.std.specs.Prelude.{◌≡◌, List, option_map, IfErr, IfOk, OnOk};
-ghost use Rattle.command_shell.specs.Error.{IsLineError};
-ghost use Rattle.command_shell.specs.Session.{script_state};
+ghost use Rattle.debug_tables.specs.Error.{IsLineError};
+ghost use Rattle.debug_tables.specs.Session.{script_state};
 ghost use Rattle.debug_history.specs.Answers.{back_until, last_in_past, past_after_past, past_answered, past_asked, past_command, past_gone_back, past_line_answered, script_after_past, undone};
 ghost use Rattle.debug_history.specs.Past.{line_of_last_act};
 ghost use Rattle.debug_history.specs.declared.search.Sought.TheVariants.{Stood};
 ghost use Rattle.debug_labels.specs.place_views.Places.{where_text};
 ghost use Rattle.profile.specs.images.Entries.{Entry};
-ghost use Rattle.command_shell.specs.GuestState.{state_of};
+ghost use Rattle.debug_tables.specs.GuestState.{state_of};
 
 use crate::lines::{PastCommand, past_line};
 use crate::past::Past;
 use crate::search::Sought;
 use crate::texts::last_seen_line;
-use command_shell::{Machine, RunError, Session};
 use command_shell_lines::debug_words::{no_history, push_step, undone_line, when_line};
 use debug_labels::LabelTable;
 use debug_labels::place_views::{line_on, show_where};
+use debug_tables::{Machine, RunError, Session};
 use profile::Config;
 use profile::images::Images;
 use profile::text_sink::TextSink;

@@ -20,6 +20,8 @@ pub use act::{Act, PastDeed};
 pub use again::deed_again;
 pub use answering::PastSetting;
 pub use command_shell_lines::KeptText;
+pub use debug_lines::DebugView;
+pub use debug_tables::Machine;
 pub use kept_stubs::KeptStubs;
 pub use lines::{PastCommand, last_steps_asked, past_line};
 pub use noting::{SteppingNote, StepsBefore, has_returned, is_faulted};

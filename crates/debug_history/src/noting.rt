@@ -1,7 +1,7 @@
 //! What is kept of a line of a script.
 
 ghost use Rattle.std.specs.Prelude.{◌≡◌, List, OnOk};
-ghost use Rattle.command_shell.specs.Session.{script_state};
+ghost use Rattle.debug_tables.specs.Session.{script_state};
 ghost use Rattle.command_shell_lines.specs.Requests.{request_of_command};
 ghost use Rattle.debug_lines.specs.SteppingRequests.{stepping_request_of};
 ghost use Rattle.debug_history.specs.Noted.{has_returned, is_faulted, past_after_request, past_after_stepping, past_with_call, past_with_deed, past_with_gosub, past_with_steps, past_with_stubbed, steps_before};
@@ -11,11 +11,10 @@ use crate::act::{Act, PastDeed};
 use crate::kept_stubs::KeptStubs;
 use crate::past::Past;
 use arm_core::Psr;
-use command_shell::Session;
 use command_shell_lines::{KeptText, Origin, RegisterNumber, ScriptCommand};
 use debug_lines::SteppingCommand;
-use debug_tables::Stubs;
 use debug_tables::routines::ROUTINE_END;
+use debug_tables::{Session, Stubs};
 use profile::Stop;
 use std::alloc::{AllocError, Global};
 

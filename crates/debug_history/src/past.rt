@@ -1,8 +1,8 @@
 //! The past of a machine, and how the machine goes back.
 
 ghost use Rattle.std.specs.Prelude.{◌≡◌, ◌≤◌, ◌<◌, ◌^◌, ◌++◌, true, length, take, Some, IfOk, IfSome, OnErr, OnOk, IfErr};
-ghost use Rattle.command_shell.specs.Error.{IsLineError};
-ghost use Rattle.command_shell.specs.Session.{script_state};
+ghost use Rattle.debug_tables.specs.Error.{IsLineError};
+ghost use Rattle.debug_tables.specs.Session.{script_state};
 ghost use Rattle.debug_history.specs.Acts.{steps_of_acts};
 ghost use Rattle.debug_history.specs.Again.{script_at_moment};
 ghost use Rattle.debug_history.specs.Cutting.{acts_behind, acts_cut};
@@ -10,7 +10,7 @@ ghost use Rattle.debug_history.specs.Past.{acts_before_line, acts_from, acts_unt
 
 use crate::act::Act;
 use crate::again::acts_again;
-use command_shell::{RunError, Session};
+use debug_tables::{RunError, Session};
 use profile::images::Images;
 use profile::{Config, Stop};
 use std::alloc::{AllocError, Global};

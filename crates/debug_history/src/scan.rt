@@ -2,20 +2,19 @@
 
 ghost use Rattle.std.specs.Prelude.{◌≡◌, ◌≤◌, ◌+◌, ◌<◌, ◌^◌, length, OnOk, IfOk, IfErr};
 ghost use Rattle.std.specs.Option.{option_or};
-ghost use Rattle.command_shell.specs.Error.{IsLineError};
-ghost use Rattle.command_shell.specs.Session.{script_state};
+ghost use Rattle.debug_tables.specs.Error.{IsLineError};
+ghost use Rattle.debug_tables.specs.Session.{script_state};
 ghost use Rattle.debug_history.specs.Acts.{fresh_moment, moment_after_acts, moment_of_script, steps_of_acts, steps_of_deed};
 ghost use Rattle.debug_history.specs.Again.{IsAtMoment};
 ghost use Rattle.debug_history.specs.Scan.{scan_past};
 ghost use Rattle.debug_history.specs.Search.{found_between, last_among, last_found, value_in, single_steps, units, units_of_act};
-ghost use Rattle.command_shell.specs.GuestState.{state_of};
+ghost use Rattle.debug_tables.specs.GuestState.{state_of};
 
 use crate::act::{Act, PastDeed};
 use crate::again::{acts_again, deed_again};
 use crate::past::{Past, count_steps};
 use crate::search::{PastFound, Sought};
-use command_shell::{Machine, Nowhere, RunError, Session};
-use debug_tables::Stubs;
+use debug_tables::{Machine, Nowhere, RunError, Session, Stubs};
 use profile::images::Images;
 use profile::{Config, WriteFault};
 use std::alloc::Global;

@@ -1,14 +1,14 @@
 //! What can be looked for in the past, and what is found.
 
 ghost use Rattle.std.specs.Prelude.{◌≡◌, ◌+◌};
-ghost use Rattle.os_heap.specs.Payloads.{payload_of};
+ghost use Rattle.debug_labels.specs.Payloads.{payload_of};
 ghost use Rattle.debug_history.specs.Search.{block_headed_at, block_round, is_same_seen, passes, value_in};
-ghost use Rattle.command_shell.specs.GuestState.{state_of};
+ghost use Rattle.debug_tables.specs.GuestState.{state_of};
 
 use arm_core::Mode;
-use command_shell::Machine;
 use command_shell_lines::{RegisterNumber, WordAddress};
-use os_heap::payload::Payload;
+use debug_labels::Payload;
+use debug_tables::Machine;
 
 /// How many bytes of a block stand before those that it holds: its length.
 const BLOCK_HEAD: u32 = 4;

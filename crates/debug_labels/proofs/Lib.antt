@@ -1,3 +1,4 @@
+pub use Rattle.debugger.proofs.MemoryLemmas
 pub mod LineLemmas
 pub mod ModuleSwiLemmas
 pub mod WalkLemmas

@@ -1,6 +1,6 @@
 -- How the texts of a table of SWIs go on.
 use Rattle.std.proofs.Common.{◌≡◌, ℕ, suc, ◌+◌, ◌-◌, ◌<◌, List, Option, None, refl, ap, ◌∙◌, arith}
-use Rattle.address_map.specs.Bytes.{Bytes}
+use Rattle.debugger.specs.Bytes.{Bytes}
 use Rattle.debug_labels.specs.ModuleSwis.{number_by, number_from, table_text}
 
 number_suc : (more : ℕ) (b : Bytes) (name : List ℕ) (number at : ℕ) → number_from (suc more) b name number at

@@ -1,7 +1,7 @@
 -- Where an image stands that was assembled.
 use Rattle.std.specs.Prelude.{ℕ, List, Option, Some, None, if◌then◌else◌}
 use Rattle.std.specs.Str.{bytes_eq}
-use Rattle.instances_table.specs.Modules.{Module}
+use Rattle.debugger.specs.InstancesTableModules.{Module}
 use Rattle.debug_labels.specs.Labels.{ImageLabels}
 use Rattle.debug_labels.specs.Standing.{start_now}
 use Rattle.profile.specs.Firsts.{first_of}

@@ -3,7 +3,7 @@
 use Rattle.std.specs.Prelude.{ℕ, Bool, not, ◌+◌, ◌-◌, ◌||◌, nat_lt, List, [], ◌∷◌, ◌++◌, ◌&&◌, ◌==◌, codes, Option, Some, None, is_some, option_map, if◌then◌else◌}
 use Rattle.std.specs.List.{join_with_byte}
 use Rattle.profile.specs.Digits.{hex_number}
-use Rattle.address_map.specs.Bytes.{Bytes}
+use Rattle.debugger.specs.Bytes.{Bytes}
 use Rattle.assembler_text.specs.naming.Words.{after_word, is_same_name, word}
 use Rattle.command_shell_lines.specs.Numbers.{script_number}
 use Rattle.command_shell_lines.specs.Requests.{words}

@@ -8,12 +8,12 @@ use Rattle.std.specs.Str.{bytes_eq}
 use Rattle.profile.specs.Firsts.{first_of}
 use Rattle.profile.specs.Sums.{address_further}
 use Rattle.profile.specs.declared.fault.Fault.{Fault}
-use Rattle.address_map.specs.Bytes.{Bytes, word_loaded}
-use Rattle.instances_table.specs.Lookup.{shown_of_module}
-use Rattle.instances_table.specs.Modules.{Module}
-use Rattle.instances_table.specs.declared.parts.ModuleInfo.{ModuleInfo}
-use Rattle.swi_dispatch_answers.specs.Strings.{ends, text_at}
-use Rattle.swi_dispatch_answers.specs.declared.strings.TextEnd.TheVariants as end
+use Rattle.debugger.specs.Bytes.{Bytes, word_loaded}
+use Rattle.debugger.specs.Lookup.{shown_of_module}
+use Rattle.debugger.specs.InstancesTableModules.{Module}
+use Rattle.debugger.specs.ModuleInfo.{ModuleInfo}
+use Rattle.debugger.specs.Strings.{ends, text_at}
+use Rattle.debugger.specs.TextEnd.TheVariants as end
 
 -- a text that isn't empty
 abbrev pub if_some : List ℕ → Option (List ℕ)

@@ -1,7 +1,7 @@
 -- An address by the label that stands there, or nearest below it in the image that stands there.
 use Rattle.std.specs.Prelude.{ℕ, Bool, ◌-◌, ◌&&◌, nat_le, nat_lt, List, [], ◌∷◌, Option, Some, None, option_map, if◌then◌else◌}
 use Rattle.assembler_text.specs.naming.Labels.{Entries}
-use Rattle.instances_table.specs.Modules.{Module}
+use Rattle.debugger.specs.InstancesTableModules.{Module}
 use Rattle.debug_labels.specs.Labels.{ImageLabels}
 use Rattle.debug_labels.specs.Standing.{start_now}
 use Rattle.debug_labels.specs.Words.{Naming, last_with}

@@ -5,9 +5,9 @@ use Rattle.std.specs.Option.{option_or}
 use Rattle.std.specs.Str.{bytes_eq}
 use Rattle.profile.specs.Firsts.{first_of}
 use Rattle.profile.specs.declared.images.module_header.header.Header.{Header}
-use Rattle.instances_table.specs.Lookup.{shown_of_module}
-use Rattle.instances_table.specs.Modules.{Module}
-use Rattle.instances_table.specs.declared.parts.ModuleInfo.{ModuleInfo}
+use Rattle.debugger.specs.Lookup.{shown_of_module}
+use Rattle.debugger.specs.InstancesTableModules.{Module}
+use Rattle.debugger.specs.ModuleInfo.{ModuleInfo}
 use Rattle.debug_labels.specs.Labels.{ImageLabels}
 
 abbrev pub is_titled : Option Header → ModuleInfo → Bool

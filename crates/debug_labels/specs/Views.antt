@@ -4,7 +4,7 @@ use Rattle.std.specs.Fmt.{decimal}
 use Rattle.std.specs.List.{flat_map, list_any}
 use Rattle.profile.specs.Digits.{hex_number, hex_word}
 use Rattle.assembler_text.specs.naming.Labels.{Entries}
-use Rattle.instances_table.specs.Modules.{Module}
+use Rattle.debugger.specs.InstancesTableModules.{Module}
 use Rattle.debug_labels.specs.Labels.{ImageLabels}
 use Rattle.debug_labels.specs.Places.{LabelledPlace, place_of}
 use Rattle.debug_labels.specs.Standing.{start_now}

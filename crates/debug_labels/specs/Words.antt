@@ -4,12 +4,12 @@ use Rattle.std.specs.Prelude.{ℕ, Bool, true, ◌+◌, ◌-◌, ◌%◌, ◌^�
 use Rattle.std.specs.List.{slice_split}
 use Rattle.std.specs.Option.{option_or}
 use Rattle.std.specs.Str.{bytes_eq}
-use Rattle.arm_core.specs.State.{State, register_of}
+use Rattle.debugger.specs.State.{State, register_of}
 use Rattle.assembler_text.specs.naming.Labels.{address_of}
 use Rattle.assembler_text.specs.naming.Names.{register_named}
 use Rattle.assembler_text.specs.naming.Words.{after_word, word}
 use Rattle.command_shell_lines.specs.Numbers.{script_number}
-use Rattle.instances_table.specs.Modules.{Module}
+use Rattle.debugger.specs.InstancesTableModules.{Module}
 use Rattle.debug_labels.specs.Labels.{ImageLabels}
 use Rattle.debug_labels.specs.Standing.{place_now}
 

@@ -5,7 +5,7 @@ ghost use Rattle.debug_labels.specs.Images.{image_place, image_place_if_named, i
 
 use crate::labels::LabelledImage;
 use crate::words::PlaceNames;
-use instances::Instances;
+use debugger::Instances;
 
 /// Where an image stands now, and how many bytes it has.
 #[derive(Clone, Copy, Debug, PartialEq, Eq)]

@@ -15,8 +15,11 @@ mod standing;
 mod views;
 mod words;
 
+pub use debugger::views::{push_banked_name, push_flags, push_quoted, show_banks, show_words};
+pub use debugger::{
+    InstanceInfo, Instances, MAX_TEXT, ModuleInfo, Payload, TextEnd, hex_byte, next_word, text_at,
+};
 pub use images::ImagePlace;
-pub use instances::{InstanceInfo, Instances, ModuleInfo};
 pub use labels::LabelTable;
 pub use places::PlaceLabel;
 pub use words::PlaceNames;

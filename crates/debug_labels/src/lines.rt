@@ -2,16 +2,16 @@
 
 ghost use Rattle.std.specs.Prelude.{◌≡◌, ◌≤◌, ◌++◌, IfOk, IfSome, OnOk, option_map};
 ghost use Rattle.std.specs.List.{join_with_byte};
-ghost use Rattle.address_map.specs.Memory.{bytes_of};
+ghost use Rattle.debugger.specs.AddressMapMemory.{bytes_of};
 ghost use Rattle.command_shell_lines.specs.Requests.{words};
 ghost use Rattle.debug_labels.specs.Lines.{has_places_behind, is_place_word, is_text_check, before_swi, kept_by_size, kept_untraced, kept_words, looks_back, unnumbered_word};
 
 use crate::module_swis::swi_of_modules;
 use crate::words::PlaceNames;
-use address_map::AddressMap;
 use assembler_text::naming::words::{after_word, is_name, word};
 use command_shell_lines::debug_words::text_behind;
 use command_shell_lines::number_of;
+use debugger::AddressMap;
 use profile::HexText;
 use profile::text_lines::cut;
 use std::alloc::{AllocError, Global};

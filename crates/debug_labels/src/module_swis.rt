@@ -2,15 +2,12 @@
 
 ghost use Rattle.std.specs.Prelude.{◌≡◌, ◌≤◌, ◌<◌, ◌+◌, ◌^◌, length, IfSome, slice_get};
 ghost use Rattle.std.specs.Option.{option_map, option_and_then};
-ghost use Rattle.address_map.specs.Memory.{bytes_of};
-ghost use Rattle.instances_table.specs.Lookup.{shown_of_module};
+ghost use Rattle.debugger.specs.AddressMapMemory.{bytes_of};
+ghost use Rattle.debugger.specs.Lookup.{shown_of_module};
 ghost use Rattle.debug_labels.specs.ModuleSwis.{number_from, number_in_table, own_name, swi_of_module, swi_of_modules, table_of, table_text};
 
-use address_map::AddressMap;
 use arrayvec::ArrayVec;
-use instances::{Instances, ModuleInfo};
-use swi_dispatch_answers::strings::text_at;
-use swi_dispatch_answers::{MAX_TEXT, TextEnd};
+use debugger::{AddressMap, Instances, MAX_TEXT, ModuleInfo, TextEnd, text_at};
 
 // A chunk's SWIs.
 const MOST_SWIS: u32 = 64;

@@ -7,7 +7,7 @@ ghost use Rattle.debug_labels.specs.Words.{last_with};
 
 use crate::labels::{Label, LabelledImage};
 use crate::words::PlaceNames;
-use instances::Instances;
+use debugger::Instances;
 
 /// A label of an image, and how many bytes behind it.
 #[derive(Clone, Copy, Debug)]

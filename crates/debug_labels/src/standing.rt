@@ -3,10 +3,10 @@
 ghost use Rattle.std.specs.Prelude.{◌≡◌, slice_get};
 ghost use Rattle.std.specs.Option.{option_and_then};
 ghost use Rattle.debug_labels.specs.Standing.{is_titled};
-ghost use Rattle.instances_table.specs.Lookup.{shown_of_module};
+ghost use Rattle.debugger.specs.Lookup.{shown_of_module};
 
 use crate::labels::LabelledImage;
-use instances::{Instances, ModuleInfo};
+use debugger::{Instances, ModuleInfo};
 use profile::images::module_header::Header;
 
 impl LabelledImage {

@@ -9,7 +9,7 @@ ghost use Rattle.debug_labels.specs.Views.{label_line, labels_text, first_names_
 use crate::labels::{Label, LabelledImage};
 use crate::places::PlaceLabel;
 use crate::words::PlaceNames;
-use instances::Instances;
+use debugger::Instances;
 use itoa::Buffer;
 use profile::{HexText, Sink, WriteFault, push_all, push_parts};
 

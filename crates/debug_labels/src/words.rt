@@ -6,11 +6,10 @@ ghost use Rattle.assembler_text.specs.naming.Labels.{address_of};
 ghost use Rattle.debug_labels.specs.Words.{further, label_if_meant, last_with, register_value};
 
 use crate::labels::{Label, LabelTable, LabelledImage};
-use arm_core::Cpu;
 use assembler_text::naming::names::register_named;
 use assembler_text::naming::words::{after_word, word};
 use command_shell_lines::number_of;
-use instances::Instances;
+use debugger::{Cpu, Instances};
 use profile::text_lines::cut;
 use std::marker::Model;
 

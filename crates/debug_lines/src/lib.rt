@@ -23,6 +23,8 @@ mod tracing;
 mod whole_requests;
 
 pub use block_ends::missing_ends;
+pub use command_shell_lines::WordAddress;
+pub use command_shell_lines::debug_words::is_spelt;
 pub use expectations::Expectation;
 pub use line_kinds::{asks_nothing, is_named_image, is_refused_block, takes_steps};
 pub use modes::ModeCommand;

@@ -6,8 +6,8 @@ use Rattle.std.specs.Str.Lines.{lines}
 use Rattle.std.proofs.Math.Seq.{take-length}
 use Rattle.std.proofs.lemmas.List.{append-nil}
 use Rattle.profile.specs.Digits.{hex_word}
-use Rattle.assembler.specs.Passes.{labels_of_lines}
-use Rattle.assembler.specs.declared.error.AsmError.{AsmError}
+use Rattle.debug_tables.specs.Passes.{labels_of_lines}
+use Rattle.debug_tables.specs.AsmError.{AsmError}
 use Rattle.assembler_text.specs.declared.naming.reason.Reason.TheVariants.{Memory}
 use Rattle.assembler_text.specs.naming.Labels.{Entries}
 use Rattle.assembler_text.specs.naming.Words.{after_word}

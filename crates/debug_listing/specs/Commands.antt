@@ -7,13 +7,13 @@ use Rattle.profile.specs.Firsts.{first_of}
 use Rattle.profile.specs.declared.error.ErrorNumber.{ErrorNumber}
 use Rattle.address_map.specs.Bytes.{Bytes}
 use Rattle.command_shell_lines.specs.Requests.{is_same_word}
-use Rattle.instances.specs.Reading.{slot_meant}
+use Rattle.debug_labels.specs.Reading.{slot_meant}
 use Rattle.instances_table.specs.Lookup.{shown_of_module}
 use Rattle.instances_table.specs.Modules.{Module}
 use Rattle.instances_table.specs.declared.parts.ModuleInfo.{ModuleInfo}
 use Rattle.instances_table.specs.plans.Code.{private_of}
-use Rattle.swi_dispatch_answers.specs.Strings.{ends, text_at}
-use Rattle.swi_dispatch_answers.specs.declared.strings.TextEnd.TheVariants as end
+use Rattle.debug_labels.specs.Strings.{ends, text_at}
+use Rattle.debug_labels.specs.TextEnd.TheVariants as end
 use Rattle.debug_listing.specs.Tables.{CommandList, commands_of}
 use Rattle.debug_listing.specs.declared.commands.CommandSearch.{CommandSearch}
 use Rattle.debug_listing.specs.declared.commands.CommandSearch.TheVariants.{Outside, Found}

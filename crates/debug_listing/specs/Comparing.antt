@@ -8,7 +8,7 @@ use Rattle.byteorder.specs.Endian.{little_number}
 use Rattle.profile.specs.Digits.{hex_word}
 use Rattle.profile.specs.images.Entries.{Entry, bytes_of_image}
 use Rattle.assembler_text.specs.Printing.{print}
-use Rattle.command_shell.specs.Answers.{refused_text}
+use Rattle.debug_tables.specs.Answers.{refused_text}
 
 -- a word by its number, its lowest byte first
 abbrev pub word_of_bytes : List ℕ → ℕ → ℕ

@@ -8,7 +8,7 @@ use Rattle.std.specs.Option.{option_and_then}
 use Rattle.profile.specs.Digits.{hex_number}
 use Rattle.profile.specs.Firsts.{first_of}
 use Rattle.address_map.specs.Bytes.{Bytes}
-use Rattle.command_shell.specs.MachineState.{MachineState}
+use Rattle.debug_tables.specs.MachineState.{MachineState}
 use Rattle.command_shell_lines.specs.Requests.{is_same_word}
 use Rattle.command_shell_lines.specs.debug_words.Texts.{text_behind}
 use Rattle.instances_table.specs.Lookup.{shown_of_module}

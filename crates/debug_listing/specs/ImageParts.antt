@@ -3,8 +3,8 @@ use Rattle.std.specs.Prelude.{ℕ, not, ◌%◌, ◌^◌, ◌==◌, ◌&&◌, �
 use Rattle.std.specs.Int.{is_in_range}
 use Rattle.profile.specs.Sums.{address_further}
 use Rattle.address_map.specs.Bytes.{Bytes}
-use Rattle.swi_dispatch_answers.specs.Strings.{ends, text_at}
-use Rattle.swi_dispatch_answers.specs.declared.strings.TextEnd.TheVariants as end
+use Rattle.debug_labels.specs.Strings.{ends, text_at}
+use Rattle.debug_labels.specs.TextEnd.TheVariants as end
 
 -- where code at an offset of an image can be entered
 abbrev pub code_place : ℕ → ℕ → ℕ → Option ℕ

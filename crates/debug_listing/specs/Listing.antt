@@ -7,12 +7,12 @@ use Rattle.std.specs.Prelude.{ℕ, Bool, ◌%◌, ◌/◌, ◌^◌, ◌==◌, na
 use Rattle.std.specs.Fmt.{decimal}
 use Rattle.std.specs.List.{flat_map}
 use Rattle.address_map.specs.Bytes.{Bytes}
-use Rattle.command_shell.specs.MachineState.{MachineState}
+use Rattle.debug_tables.specs.MachineState.{MachineState}
 use Rattle.instances_table.specs.Lookup.{shown_of_module}
 use Rattle.instances_table.specs.Modules.{Module}
 use Rattle.instances_table.specs.declared.parts.ModuleInfo.{ModuleInfo}
-use Rattle.swi_dispatch_answers.specs.Strings.{ends, text_at}
-use Rattle.swi_dispatch_answers.specs.declared.strings.TextEnd.TheVariants as end
+use Rattle.debug_labels.specs.Strings.{ends, text_at}
+use Rattle.debug_labels.specs.TextEnd.TheVariants as end
 use Rattle.debug_listing.specs.ImageParts.{shown_character}
 use Rattle.debug_listing.specs.Tables.{commands_of}
 use Rattle.debug_listing.specs.declared.tables.CommandEntry.{CommandEntry}

@@ -7,8 +7,8 @@ use Rattle.std.specs.Int.{from_be_bytes, from_le_bytes, w32}
 use Rattle.std.specs.Str.Lines.{lines}
 use Rattle.profile.specs.Digits.{hex_word}
 use Rattle.profile.specs.images.Entries.{Entry, refusal_for, with_entry}
-use Rattle.assembler.specs.Passes.{labels_of_lines}
-use Rattle.assembler.specs.declared.error.AsmError.{AsmError}
+use Rattle.debug_tables.specs.Passes.{labels_of_lines}
+use Rattle.debug_tables.specs.AsmError.{AsmError}
 use Rattle.assembler_text.specs.naming.Labels.{Entries}
 use Rattle.assembler_text.specs.naming.Words.{after_spaces, after_word, is_end_of_line, is_same_name, word}
 use Rattle.command_shell_lines.specs.Requests.{Request, Asm}

@@ -9,8 +9,8 @@ use Rattle.profile.specs.Sums.{address_further}
 use Rattle.profile.specs.declared.fault.Fault.{Fault}
 use Rattle.address_map.specs.Bytes.{Bytes, word_loaded}
 use Rattle.instances_table.specs.declared.parts.ModuleInfo.{ModuleInfo}
-use Rattle.swi_dispatch_answers.specs.Strings.{ends, next_word, text_at}
-use Rattle.swi_dispatch_answers.specs.declared.strings.TextEnd.TheVariants as end
+use Rattle.debug_labels.specs.Strings.{ends, next_word, text_at}
+use Rattle.debug_labels.specs.TextEnd.TheVariants as end
 use Rattle.debug_listing.specs.declared.tables.CommandEntry.{CommandEntry}
 use Rattle.debug_listing.specs.declared.tables.EntryRead.{EntryRead}
 use Rattle.debug_listing.specs.declared.tables.EntryRead.TheVariants as read

@@ -9,11 +9,9 @@ ghost use Rattle.debug_listing.specs.Commands.{command_found, command_if, found_
 
 use crate::tables::{CommandEntry, commands_of};
 use address_map::AddressMap;
-use debug_labels::{Instances, ModuleInfo};
+use debug_labels::{Instances, MAX_TEXT, ModuleInfo, TextEnd, text_at};
 use profile::memory_map::PRIVATE_WORDS;
 use std::alloc::{AllocError, Global};
-use swi_dispatch_answers::strings::text_at;
-use swi_dispatch_answers::{MAX_TEXT, TextEnd};
 
 /// A command: its entry, its module's image, and the private word of the module's preferred instance.
 #[derive(Clone, Copy, Debug)]

@@ -3,7 +3,7 @@
 ghost use Rattle.std.specs.Prelude.{◌≡◌, IfOk, slice_get};
 ghost use Rattle.std.specs.Option.{option_and_then};
 ghost use Rattle.address_map.specs.Memory.{bytes_of};
-ghost use Rattle.command_shell.specs.GuestState.{state_of};
+ghost use Rattle.debug_tables.specs.GuestState.{state_of};
 ghost use Rattle.instances_table.specs.Lookup.{shown_of_module};
 ghost use Rattle.debug_listing.specs.Describing.{if_titled, module_described, module_meant, module_of_title};
 

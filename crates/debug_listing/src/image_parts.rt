@@ -7,10 +7,9 @@ ghost use Rattle.debug_listing.specs.ImageParts.{code_place, shown_character, sy
 use address_map::AddressMap;
 use arrayvec::ArrayVec;
 use command_shell_lines::Origin;
+use debug_labels::{MAX_TEXT, TextEnd, text_at};
 use profile::memory_map::ADDRESS_LIMIT;
 use std::alloc::{AllocError, Global};
-use swi_dispatch_answers::strings::text_at;
-use swi_dispatch_answers::{MAX_TEXT, TextEnd};
 
 /// Where the code at an offset of an image can be entered, if it can.
 pub fn code_place(image: u32, len: u32, offset: u32) -> Option<Origin>

@@ -14,9 +14,10 @@ mod source_listing;
 mod tables;
 mod tails;
 
+pub use command_shell_lines::Origin;
 pub use commands::{CommandSearch, FoundCommand, command_found};
 pub use comparing::push_comparison;
-pub use debug_labels::place_views::names_on;
+pub use debug_labels::place_views::{line_on, names_on};
 pub use debug_tables::byte_writes::put_bytes;
 pub use describing::{module_described, module_meant};
 pub use image_parts::{code_place, syntax_line, text_of_image};

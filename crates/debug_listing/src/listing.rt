@@ -3,19 +3,17 @@
 ghost use Rattle.std.specs.Prelude.{◌≡◌, ◌++◌, map, OnOk, IfOk, slice_get};
 ghost use Rattle.std.specs.List.{flat_map};
 ghost use Rattle.address_map.specs.Memory.{bytes_of};
-ghost use Rattle.command_shell.specs.GuestState.{state_of};
+ghost use Rattle.debug_tables.specs.GuestState.{state_of};
 ghost use Rattle.debug_listing.specs.Listing.{command_line, commands_numbered, commands_text, commands_text_of, table_end_text, table_lines, text_shown_at, command_use_text, command_words_text};
 ghost use Rattle.debug_listing.specs.ImageParts.{shown_character};
 
 use crate::image_parts::push_shown;
 use crate::tables::{CommandEntry, commands_of};
 use address_map::AddressMap;
-use debug_labels::{Instances, ModuleInfo};
+use debug_labels::{Instances, MAX_TEXT, ModuleInfo, TextEnd, text_at};
 use debug_tables::run_meter::Machine;
 use itoa::Buffer;
 use std::alloc::{AllocError, Global};
-use swi_dispatch_answers::strings::text_at;
-use swi_dispatch_answers::{MAX_TEXT, TextEnd};
 
 /// The commands of all modules, the oldest first.
 ///

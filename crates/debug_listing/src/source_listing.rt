@@ -7,10 +7,11 @@ ghost use Rattle.command_shell_lines.specs.Blocks.{block_lines};
 ghost use Rattle.command_shell_lines.specs.Requests.{request_of_command};
 ghost use Rattle.debug_listing.specs.SourceListing.{bytes_made, digits_made, made_word, in_columns, labelled_lines, line_offset, listing_text, made_text, listing_row, rows_behind, rows_text, sources_after, times_text};
 
-use assembler::{Labels, labels_of_lines};
+use assembler_text::naming::Labels;
 use assembler_text::naming::words::{after_spaces, after_word, is_end, is_name, word};
 use command_shell_lines::{ScriptCommand, is_block_end};
 use debug_tables::counts::StepCounts;
+use debug_tables::labels_of_lines;
 use itoa::Buffer;
 use profile::HexText;
 use profile::images::{ImageError, Images};

@@ -5,10 +5,8 @@ ghost use Rattle.address_map.specs.Memory.{bytes_of};
 ghost use Rattle.debug_listing.specs.Tables.{commands_of, command_entry_at, entry_of_words, header_word, loaded_word, table_from};
 
 use address_map::AddressMap;
-use debug_labels::ModuleInfo;
+use debug_labels::{MAX_TEXT, ModuleInfo, TextEnd, next_word, text_at};
 use std::alloc::{AllocError, Global};
-use swi_dispatch_answers::strings::{next_word, text_at};
-use swi_dispatch_answers::{MAX_TEXT, TextEnd};
 
 // Where the header has the offset of the table.
 const TABLE_WORD: u32 = 0x18;

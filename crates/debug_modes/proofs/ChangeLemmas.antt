@@ -7,7 +7,7 @@ use Rattle.debug_modes.specs.Changes.{IsModeAnswer, stubs_answer, watches_answer
 use Rattle.debug_modes.specs.declared.modes.DebugModes.{DebugModes}
 use Rattle.debug_tables.specs.StubNames.{stub_error_name}
 use Rattle.debug_tables.specs.WordWatches.{watch_error_name}
-use Rattle.command_shell_lines.specs.declared.debug_words.stubs.Stub.{Stub}
+use Rattle.debug_lines.specs.Stub.{Stub}
 use Rattle.debug_tables.specs.declared.stubs.StubError.{StubError}
 use Rattle.command_shell.specs.declared.watches.WordWatchError.{WordWatchError}
 

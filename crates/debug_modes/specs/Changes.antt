@@ -10,7 +10,7 @@ use Rattle.debug_tables.specs.counts.Counts.{counts_begun, counts_stopped}
 use Rattle.debug_tables.specs.StubNames.{stub_error_name}
 use Rattle.debug_tables.specs.Stubs.{with_stub, without_stub}
 use Rattle.debug_tables.specs.WordWatches.{watch_error_name, with_word_watch, without_word_watch}
-use Rattle.command_shell_lines.specs.declared.debug_words.stubs.Stub.{Stub}
+use Rattle.debug_lines.specs.Stub.{Stub}
 use Rattle.debug_tables.specs.declared.stubs.StubError.{StubError}
 use Rattle.command_shell.specs.declared.watches.WordWatchError.{WordWatchError}
 use Rattle.command_shell.specs.MachineState.{MachineState}

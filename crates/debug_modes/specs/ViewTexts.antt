@@ -1,7 +1,7 @@
 -- What lines show that only look.
 use Rattle.std.specs.Prelude.{ℕ, ◌++◌, List, codes}
 use Rattle.command_shell.specs.MachineState.{MachineState}
-use Rattle.command_shell_lines.specs.debug_words.NamedBytes.{named_bytes, or_no_bytes}
+use Rattle.command_shell.specs.NamedBytes.{named_bytes, or_no_bytes}
 use Rattle.debug_labels.specs.Labels.{ImageLabels}
 use Rattle.debug_labels.specs.Views.{labels_text}
 use Rattle.debug_labels.specs.place_views.Frames.{frames_text}
@@ -12,8 +12,8 @@ use Rattle.debug_modes.specs.declared.help.TheConstants.{HELP}
 use Rattle.debug_modes.specs.expectations.Dump.{dump_text}
 use Rattle.debug_modes.specs.expectations.Why.{why_text}
 use Rattle.debug_tables.specs.byte_writes.Find.{find_text}
-use Rattle.debugger.specs.views.Banks.{banks_text}
-use Rattle.debugger.specs.views.Words.{memory_words_text}
+use Rattle.debug_labels.specs.Banks.{banks_text}
+use Rattle.debug_labels.specs.DebuggerWords.{memory_words_text}
 
 abbrev pub view_text : List ImageLabels → MachineState → ViewRequest → List ℕ
 view_text labels s (Words address count) = memory_words_text s.store.bytes address count

@@ -1,7 +1,7 @@
 -- What a line EXPECT is answered. Begin with Checks.
-pub use Rattle.debugger.specs.Flex
-pub use Rattle.debugger.specs.Heap
-pub use Rattle.debugger.specs.views
+pub use Rattle.debug_labels.specs.Flex
+pub use Rattle.debug_labels.specs.Heap
+pub use Rattle.debug_labels.specs.Debuggerviews as views
 pub mod Checks
 pub mod Dump
 pub mod Endings

@@ -8,10 +8,8 @@ ghost use Rattle.command_shell.specs.GuestState.{state_of};
 use crate::answers::{at_line, limit_line, refused_line};
 use crate::modes::DebugModes;
 use crate::stub_lines::{stub_number, with_stub_number};
-use command_shell::Machine;
-use command_shell_lines::WordAddress;
-use command_shell_lines::debug_words::Stub;
-use debug_lines::ModeCommand;
+use command_shell::{Machine, Stub};
+use debug_lines::{ModeCommand, WordAddress};
 use std::alloc::{AllocError, Global};
 
 impl DebugModes {

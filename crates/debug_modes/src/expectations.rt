@@ -13,7 +13,7 @@ pub mod status;
 pub mod why;
 
 pub use checks::{Mismatch, SeenMachine, check};
-pub use debugger::views::{show_banks, show_words};
+pub use debug_labels::{show_banks, show_words};
 pub use dump::show_dump;
 pub use endings::{answer_parts, begins_ending, push_line_answer};
 pub use halted::{halting_fault, push_halted};

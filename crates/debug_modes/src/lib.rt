@@ -15,6 +15,8 @@ mod stub_lines;
 mod view_texts;
 
 pub use answers::refused_line;
+pub use command_shell::RegisterNumber;
+pub use debug_labels::Instances;
 pub use help::HELP;
 pub use modes::DebugModes;
 pub use own_answers::{forget_text, form_line, put_text, refusal_line, text_of, unknown_line};

@@ -3,8 +3,7 @@
 ghost use Rattle.std.specs.Prelude.{◌≡◌};
 ghost use Rattle.debug_modes.specs.Changes.{stub_number, with_stub_number};
 
-use command_shell::without_x_bit;
-use command_shell_lines::debug_words::Stub;
+use command_shell::{Stub, without_x_bit};
 
 /// The number of a SWI that a line shows as CALL takes it, without its X bit.
 pub(crate) fn stub_number(number: u32) -> u32

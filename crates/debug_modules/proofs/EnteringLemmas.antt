@@ -2,16 +2,16 @@
 use Rattle.std.proofs.Common.{◌≡◌, ℕ, Bool, true, false, List, ◌++◌, Result, Ok, Err, ap, sym, subst, ◌∙◌}
 use Rattle.std.specs.Prelude.{OnOk, if◌then◌else◌}
 use Rattle.arm_core.specs.declared.psr.Psr.{Psr}
-use Rattle.command_shell.specs.Memory.{script_with_budget, script_with_register, script_with_status}
-use Rattle.command_shell.specs.State.{ScriptState}
-use Rattle.command_shell_lines.specs.declared.debug_words.stubs.Stub.{Stub}
+use Rattle.debug_modes.specs.Memory.{script_with_budget, script_with_register, script_with_status}
+use Rattle.debug_modes.specs.State.{ScriptState}
+use Rattle.debug_runs.specs.Stub.{Stub}
 use Rattle.debug_history.specs.Noted.{has_returned, past_after_stepping, past_with_deed}
 use Rattle.debug_history.specs.Past.{PastState}
 use Rattle.debug_history.specs.declared.act.PastDeed.TheVariants.{Bytes, Register, Status}
 use Rattle.debug_history.specs.declared.noting.SteppingNote.{SteppingNote}
 use Rattle.debug_history.specs.declared.noting.StepsBefore.{StepsBefore}
 use Rattle.debug_runs.specs.Labels.{ImageLabels}
-use Rattle.debug_lines.specs.SteppingRequests.{Gosub, SteppingRequest}
+use Rattle.debug_modes.specs.SteppingRequests.{Gosub, SteppingRequest}
 use Rattle.debug_modes.specs.declared.modes.DebugModes.{DebugModes}
 use Rattle.debug_modules.specs.Answers.{IsModuleAnswered, Steps, command_called, command_put_by, code_error_text}
 use Rattle.debug_modules.specs.Entering.{at_entry, module_code_entered, past_at_entry, status_gone_back, supervisor, with_status_back}

@@ -1,3 +1,11 @@
+pub use Rattle.debug_history.proofs.AgainLemmas
+pub use Rattle.debug_history.proofs.CallNotedLemmas
+pub use Rattle.debug_history.proofs.LineNotedLemmas
+pub use Rattle.debug_history.proofs.NotedLemmas
+pub use Rattle.debug_history.proofs.PieceLemmas
+pub use Rattle.debug_history.proofs.StepLemmas
+pub use Rattle.debug_runs.proofs.PlainLemmas
+pub use Rattle.debug_runs.proofs.TracedLemmas
 pub mod EnteringLemmas
 pub mod ServiceLemmas
 pub mod TailLemmas

@@ -6,8 +6,8 @@ use Rattle.debug_modules.specs.Services.{ServiceState, entry_of_service, served_
 use Rattle.debug_modules.specs.Taking.{HasLineSteps, LineSteps}
 use Rattle.debug_modules.specs.declared.services.ServiceCode.{ServiceCode}
 use Rattle.arm_core.specs.State.{register_of}
-use Rattle.command_shell.specs.Memory.{script_with_budget}
-use Rattle.command_shell.specs.State.{ScriptState}
+use Rattle.debug_modes.specs.Memory.{script_with_budget}
+use Rattle.debug_modes.specs.State.{ScriptState}
 use Rattle.debug_history.specs.Past.{PastState}
 use Rattle.debug_modes.specs.declared.modes.DebugModes.{DebugModes}
 

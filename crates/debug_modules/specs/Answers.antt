@@ -4,10 +4,10 @@ use Rattle.std.specs.Option.{option_map, option_or}
 use Rattle.profile.specs.FaultNames.{fault_name}
 use Rattle.profile.specs.declared.fault.Fault.{Fault}
 use Rattle.profile.specs.images.Entries.{Entry, bytes_of_image}
-use Rattle.command_shell.specs.Answers.{refused_text}
-use Rattle.command_shell.specs.MachineState.{MachineState}
-use Rattle.command_shell.specs.Memory.{script_with_budget}
-use Rattle.command_shell.specs.State.{ScriptState}
+use Rattle.debug_modes.specs.Answers.{refused_text}
+use Rattle.debug_modes.specs.MachineState.{MachineState}
+use Rattle.debug_modes.specs.Memory.{script_with_budget}
+use Rattle.debug_modes.specs.State.{ScriptState}
 use Rattle.debug_history.specs.Noted.{has_returned, past_with_deed}
 use Rattle.debug_history.specs.Past.{PastState}
 use Rattle.debug_history.specs.declared.act.PastDeed.TheVariants.{Bytes}

@@ -5,13 +5,13 @@
 use Rattle.std.specs.Prelude.{ℕ, false, List, if◌then◌else◌}
 use Rattle.arm_core.specs.declared.psr.Mode.TheVariants.{Supervisor}
 use Rattle.arm_core.specs.declared.psr.Psr.{Psr}
-use Rattle.command_shell.specs.Memory.{script_with_register, script_with_status}
-use Rattle.command_shell.specs.State.{ScriptState}
+use Rattle.debug_modes.specs.Memory.{script_with_register, script_with_status}
+use Rattle.debug_modes.specs.State.{ScriptState}
 use Rattle.debug_history.specs.Noted.{has_returned, past_with_deed}
 use Rattle.debug_history.specs.Past.{PastState}
 use Rattle.debug_history.specs.declared.act.PastDeed.TheVariants.{Register, Status}
 use Rattle.debug_runs.specs.Labels.{ImageLabels}
-use Rattle.debug_lines.specs.SteppingRequests.{Gosub}
+use Rattle.debug_modes.specs.SteppingRequests.{Gosub}
 use Rattle.debug_modes.specs.declared.modes.DebugModes.{DebugModes}
 use Rattle.debug_modules.specs.Taking.{LineSteps, line_steps}
 use Rattle.debug_modules.specs.declared.entering.ModuleEntry.{ModuleEntry}

@@ -2,7 +2,7 @@
 -- (Services).
 use Rattle.std.specs.Prelude.{◌≡◌, ◌<◌, ◌≤◌, ◌⊎◌, ℕ, ◌+◌, ◌-◌, ◌%◌, ◌/◌, Bool, true, false, not, ◌==◌, ◌&&◌, ◌||◌, List, [], ◌∷◌, length, take, slice_index, Option, Some, None}
 use Rattle.std.specs.List.{count_by, range_with_len}
-use Rattle.command_shell.specs.State.{ScriptState}
+use Rattle.debug_modes.specs.State.{ScriptState}
 use Rattle.debug_history.specs.Past.{PastState}
 use Rattle.debug_runs.specs.Labels.{ImageLabels}
 use Rattle.debug_modes.specs.declared.modes.DebugModes.{DebugModes}

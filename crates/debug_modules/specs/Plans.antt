@@ -5,8 +5,8 @@
 -- are this project's own.
 use Rattle.std.specs.Prelude.{ℕ, Bool, false, ◌%◌, ◌/◌, ◌||◌, is_some, nat_lt, List, [], ◌∷◌, ◌++◌, length, codes, Option, Some, None, Result, Ok, Err, if◌then◌else◌}
 use Rattle.address_map.specs.Bytes.{Bytes}
-use Rattle.command_shell.specs.Answers.{refused_text}
-use Rattle.command_shell.specs.MachineState.{MachineState}
+use Rattle.debug_modes.specs.Answers.{refused_text}
+use Rattle.debug_modes.specs.MachineState.{MachineState}
 use Rattle.debug_listing.specs.Commands.{command_found}
 use Rattle.debug_listing.specs.ImageParts.{code_place, syntax_line, text_of_image}
 use Rattle.debug_listing.specs.Tails.{tail_words}

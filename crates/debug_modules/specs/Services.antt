@@ -7,10 +7,10 @@ use Rattle.std.specs.Option.{option_map}
 use Rattle.arm_core.specs.State.{register_of}
 use Rattle.profile.specs.Sums.{address_further}
 use Rattle.address_map.specs.Bytes.{Bytes}
-use Rattle.command_shell.specs.MachineState.{MachineState}
-use Rattle.command_shell.specs.Memory.{script_with_budget}
-use Rattle.command_shell.specs.State.{ScriptState}
-use Rattle.command_shell_lines.specs.Requests.{is_same_word}
+use Rattle.debug_modes.specs.MachineState.{MachineState}
+use Rattle.debug_modes.specs.Memory.{script_with_budget}
+use Rattle.debug_modes.specs.State.{ScriptState}
+use Rattle.debug_listing.specs.CommandShellLinesRequests.{is_same_word}
 use Rattle.debug_history.specs.Noted.{has_returned}
 use Rattle.debug_history.specs.Past.{PastState}
 use Rattle.debug_runs.specs.Labels.{ImageLabels}

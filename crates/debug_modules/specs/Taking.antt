@@ -1,13 +1,13 @@
 -- Lines that take steps, in the modes that are set, and what is kept of them.
 use Rattle.std.specs.Prelude.{◌≡◌, ℕ, ◌-◌, Bool, List}
-use Rattle.command_shell.specs.MachineState.{MachineState}
-use Rattle.command_shell.specs.State.{ScriptState}
+use Rattle.debug_modes.specs.MachineState.{MachineState}
+use Rattle.debug_modes.specs.State.{ScriptState}
 use Rattle.debug_history.specs.Noted.{has_returned, is_faulted, past_after_stepping, steps_before}
 use Rattle.debug_history.specs.Past.{PastState}
 use Rattle.debug_history.specs.declared.noting.SteppingNote.{SteppingNote}
 use Rattle.debug_history.specs.declared.noting.StepsBefore.{StepsBefore}
 use Rattle.debug_runs.specs.Labels.{ImageLabels}
-use Rattle.debug_lines.specs.SteppingRequests.{SteppingRequest}
+use Rattle.debug_modes.specs.SteppingRequests.{SteppingRequest}
 use Rattle.debug_modes.specs.Modes.{answer_of_line}
 use Rattle.debug_modes.specs.declared.modes.DebugModes.{DebugModes}
 use Rattle.debug_runs.specs.Lines.{SteppingAnswer, stepping_answer}

@@ -2,7 +2,7 @@
 
 ghost use Rattle.std.specs.Prelude.{◌≡◌, List, option_map, IfOk, OnOk};
 ghost use Rattle.profile.specs.images.Entries.{Entry};
-ghost use Rattle.command_shell.specs.Session.{script_state};
+ghost use Rattle.debug_modes.specs.Session.{script_state};
 ghost use Rattle.debug_modules.specs.Answers.{IsModuleAnswered, command_answered, command_called, command_put, code_error_text, module_line_answered, modes_after_modules, past_after_modules, script_after_modules, service_answered, shown_of};
 ghost use Rattle.debug_modules.specs.Taking.{HasLineSteps};
 
@@ -10,15 +10,13 @@ use crate::comparing::images_compared;
 use crate::entering::{ModuleEntry, enter_code};
 use crate::plans::{CommandPlan, TAIL, command_plan, tail_bytes};
 use crate::services::{call_service, is_served};
-use command_shell::Session;
-use debug_history::{KeptText, Past, PastDeed, has_returned};
-use debug_lines::DebugView;
+use debug_history::{DebugView, KeptText, Past, PastDeed, has_returned};
 use debug_listing::{
     ModuleRequest, commands_text, listing_text, module_described, module_meant, module_request,
     names_on, put_bytes,
 };
 use debug_modes::{DebugModes, refused_line, view_text};
-use debug_runs::{LabelTable, LineAnswer};
+use debug_runs::{LabelTable, LineAnswer, Session};
 use profile::images::Images;
 use std::alloc::{AllocError, Global};
 

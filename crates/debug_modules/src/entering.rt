@@ -2,8 +2,8 @@
 
 ghost use Rattle.std.specs.Prelude.{◌≡◌, ◌≤◌, List, IfOk, OnOk};
 ghost use Rattle.profile.specs.images.Entries.{Entry};
-ghost use Rattle.command_shell.specs.Memory.{script_with_register, script_with_status};
-ghost use Rattle.command_shell.specs.Session.{script_state};
+ghost use Rattle.debug_modes.specs.Memory.{script_with_register, script_with_status};
+ghost use Rattle.debug_modes.specs.Session.{script_state};
 ghost use Rattle.debug_history.specs.Noted.{past_with_deed};
 ghost use Rattle.debug_history.specs.declared.act.PastDeed.TheVariants.{Register, Status};
 ghost use Rattle.debug_modules.specs.Entering.{at_entry, module_code_entered, past_at_entry, status_gone_back, supervisor};
@@ -11,12 +11,10 @@ ghost use Rattle.debug_modules.specs.Taking.{HasLineSteps};
 
 use crate::taking::take_steps;
 use arm_core::{Mode, Psr};
-use command_shell::Session;
-use command_shell_lines::{Origin, RegisterNumber};
 use debug_history::{Past, PastDeed, has_returned};
-use debug_lines::SteppingCommand;
-use debug_modes::DebugModes;
-use debug_runs::{LabelTable, LineAnswer};
+use debug_listing::Origin;
+use debug_modes::{DebugModes, RegisterNumber};
+use debug_runs::{LabelTable, LineAnswer, Session, SteppingCommand};
 use profile::images::Images;
 use std::alloc::{AllocError, Global};
 

@@ -2,13 +2,13 @@
 
 ghost use Rattle.std.specs.Prelude.{◌≡◌, ◌≤◌, length, IfOk};
 ghost use Rattle.address_map.specs.Memory.{bytes_of};
-ghost use Rattle.command_shell.specs.Answers.{refused_text};
-ghost use Rattle.command_shell.specs.GuestState.{state_of};
+ghost use Rattle.debug_modes.specs.Answers.{refused_text};
+ghost use Rattle.debug_modes.specs.GuestState.{state_of};
 ghost use Rattle.debug_modules.specs.Plans.{command_plan, found_plan, command_plan_of, tail_bytes};
 
 use crate::entering::ModuleEntry;
 use address_map::AddressMap;
-use command_shell::Machine;
+use debug_history::Machine;
 use debug_listing::{
     CommandSearch, FoundCommand, code_place, command_found, syntax_line, text_of_image, word_count,
 };

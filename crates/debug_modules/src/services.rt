@@ -2,9 +2,9 @@
 
 ghost use Rattle.std.specs.Prelude.{◌≡◌, ◌≤◌, List, IfOk, OnOk};
 ghost use Rattle.arm_core.specs.State.{register_of};
-ghost use Rattle.command_shell.specs.GuestState.{state_of};
-ghost use Rattle.command_shell.specs.Session.{script_state};
-ghost use Rattle.command_shell.specs.State.{ScriptState};
+ghost use Rattle.debug_modes.specs.GuestState.{state_of};
+ghost use Rattle.debug_modes.specs.Session.{script_state};
+ghost use Rattle.debug_modes.specs.State.{ScriptState};
 ghost use Rattle.debug_history.specs.Past.{PastState};
 ghost use Rattle.debug_modes.specs.declared.modes.DebugModes.{DebugModes};
 ghost use Rattle.profile.specs.images.Entries.{Entry};
@@ -12,13 +12,10 @@ ghost use Rattle.debug_modules.specs.Services.{claimed_text, is_service_meant, i
 ghost use Rattle.debug_modules.specs.Taking.{HasLineSteps};
 
 use crate::entering::{ModuleEntry, enter_code};
-use command_shell::{Machine, Session};
-use command_shell_lines::Origin;
-use debug_history::{Past, has_returned};
-use debug_listing::{code_place, loaded_word};
-use debug_modes::DebugModes;
-use debug_runs::{LabelTable, LineAnswer};
-use instances::Instances;
+use debug_history::{Machine, Past, has_returned};
+use debug_listing::{Origin, code_place, loaded_word};
+use debug_modes::{DebugModes, Instances};
+use debug_runs::{LabelTable, LineAnswer, Session};
 use instances_table::{ModuleInfo, Name};
 use profile::images::Images;
 use profile::memory_map::PRIVATE_WORDS;

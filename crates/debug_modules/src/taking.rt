@@ -2,15 +2,13 @@
 
 ghost use Rattle.std.specs.Prelude.{◌≡◌, List, IfOk};
 ghost use Rattle.profile.specs.images.Entries.{Entry};
-ghost use Rattle.command_shell.specs.Session.{script_state};
-ghost use Rattle.debug_lines.specs.SteppingRequests.{stepping_request_of};
+ghost use Rattle.debug_modes.specs.Session.{script_state};
+ghost use Rattle.debug_modes.specs.SteppingRequests.{stepping_request_of};
 ghost use Rattle.debug_modules.specs.Taking.{HasLineSteps, line_steps};
 
-use command_shell::Session;
 use debug_history::{Past, SteppingNote, StepsBefore, has_returned, is_faulted};
-use debug_lines::SteppingCommand;
 use debug_modes::DebugModes;
-use debug_runs::{LabelTable, LineAnswer, answer_stepping};
+use debug_runs::{LabelTable, LineAnswer, Session, SteppingCommand, answer_stepping};
 use profile::images::Images;
 use std::alloc::{AllocError, Global};
 

@@ -8,7 +8,7 @@ use Rattle.command_shell_lines.specs.Blocks.{lines_in_block}
 use Rattle.debug_session.specs.DebugState.{DebugState}
 use Rattle.trace_effects.specs.record_text.Spelling.{comma_before, string_text}
 use Rattle.debug_records.specs.AnswerHeads.{answer_fields, answer_head}
-use Rattle.command_shell.specs.MachineState.{MachineState}
+use Rattle.trace_json.specs.MachineState.{MachineState}
 use Rattle.debug_records.specs.LineRecords.{Adds, Changes, IsOfForm, IsRecord, RecordForm, Whole, answer_form, block_field, line_head, strings_text}
 use Rattle.debug_records.specs.Moments.{IsAlike}
 use Rattle.debug_records.specs.declared.counts.LineCounts.{LineCounts}

@@ -5,11 +5,11 @@ use Rattle.std.proofs.lemmas.Bool.{cases_Bool, false≢true, le-ltb, lt-ltb}
 use Rattle.std.proofs.lemmas.List.{append-nil}
 use Rattle.arm_core.specs.State.{State}
 use Rattle.profile.specs.images.Entries.{Entry}
-use Rattle.command_shell.specs.MachineState.{MachineState, StepOutcome}
-use Rattle.command_shell.specs.Step.{machine_step}
+use Rattle.trace_json.specs.MachineState.{MachineState, StepOutcome}
+use Rattle.trace_json.specs.Step.{machine_step}
 use Rattle.command_shell_lines.specs.declared.debug_words.stubs.Stub.{Stub}
-use Rattle.debug_tables.specs.Stubs.{StubDeedState, deed_ahead, stubbed_step}
-use Rattle.debug_tables.proofs.StubLemmas.{real_steps}
+use Rattle.debug_session.specs.Stubs.{StubDeedState, deed_ahead, stubbed_step}
+use Rattle.debug_session.proofs.StubLemmas.{real_steps}
 use Rattle.trace_effects.specs.Cause.{cause_of}
 use Rattle.trace_effects.specs.changes.Laws.{core_after}
 use Rattle.trace_effects.specs.declared.record_text.text.RecordText.{RecordText}

@@ -7,7 +7,7 @@ use Rattle.address_map.specs.Bytes.{Bytes, word_at}
 use Rattle.arm_core.specs.State.{State}
 use Rattle.arm_core.specs.declared.psr.Mode.{Mode}
 use Rattle.arm_core.specs.declared.psr.Psr.{Psr}
-use Rattle.command_shell.specs.MachineState.{MachineState}
+use Rattle.trace_json.specs.MachineState.{MachineState}
 use Rattle.trace_effects.specs.changes.Laws.{registers_after}
 use Rattle.trace_effects.specs.declared.changes.registers.RegisterChange.{RegisterChange}
 use Rattle.trace_effects.specs.declared.shown_words.words.ShownWord.{ShownWord}

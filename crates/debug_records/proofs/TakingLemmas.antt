@@ -1,17 +1,17 @@
 -- What a step of the twin leaves of its machine.
 use Rattle.std.proofs.Common.{◌≡◌, ◌∙◌, ℕ, List, Option, Some, None, refl, sym, ap}
 use Rattle.profile.specs.images.Entries.{Entry}
-use Rattle.command_shell.specs.Calls.{first_step, outside_called, step_made}
-use Rattle.command_shell.specs.MachineState.{MachineState, StepOutcome}
-use Rattle.command_shell.specs.Memory.{script_with_budget}
-use Rattle.command_shell.specs.State.{ScriptState}
-use Rattle.command_shell.specs.Step.{machine_step}
-use Rattle.command_shell.specs.declared.calls.OutsideCall.{OutsideCall}
+use Rattle.debug_session.specs.Calls.{first_step, outside_called, step_made}
+use Rattle.trace_json.specs.MachineState.{MachineState, StepOutcome}
+use Rattle.debug_session.specs.Memory.{script_with_budget}
+use Rattle.debug_session.specs.State.{ScriptState}
+use Rattle.trace_json.specs.Step.{machine_step}
+use Rattle.debug_session.specs.OutsideCall.{OutsideCall}
 use Rattle.command_shell_lines.specs.declared.debug_words.stubs.Stub.{Stub}
-use Rattle.command_shell.specs.Writes.{machine_with_register}
-use Rattle.debug_tables.specs.Routines.{script_at_routine}
-use Rattle.debug_tables.specs.Stubs.{StubDeedState, deed_ahead, machine_after_deed, script_after_deed, stubbed_step}
-use Rattle.debug_tables.proofs.StubLemmas.{deed_is_step, deed_steps, real_steps, stub_unhalted}
+use Rattle.debug_session.specs.Writes.{machine_with_register}
+use Rattle.debug_session.specs.Routines.{script_at_routine}
+use Rattle.debug_session.specs.Stubs.{StubDeedState, deed_ahead, machine_after_deed, script_after_deed, stubbed_step}
+use Rattle.debug_session.proofs.StubLemmas.{deed_is_step, deed_steps, real_steps, stub_unhalted}
 use Rattle.debug_records.specs.Moments.{IsSet}
 
 pub deed_made : (stubs : List Stub) (images : List Entry) (s one after : ScriptState) (deed : Option StubDeedState) (d : StubDeedState)

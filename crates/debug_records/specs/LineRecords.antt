@@ -13,7 +13,7 @@ use Rattle.trace_effects.specs.record_text.Spelling.{comma_before, string_text}
 use Rattle.command_shell_lines.specs.Blocks.{lines_in_block}
 use Rattle.debug_lines.specs.DebugRequests.{debug_opens_block}
 use Rattle.debug_session.specs.DebugState.{DebugState}
-use Rattle.command_shell.specs.MachineState.{MachineState}
+use Rattle.trace_json.specs.MachineState.{MachineState}
 use Rattle.debug_records.specs.AnswerHeads.{answer_fields, answer_head, line_counts}
 use Rattle.debug_records.specs.AnsweredLines.{RecordedLine, AreLinesBetween, RecordingState, answer_by, is_remark_request, is_reset_request, next_line, request_read, state_answered, steps_asked, steps_of_line}
 use Rattle.debug_records.specs.Moments.{AreStepsOfLine, IsMoment, behind_fields}

@@ -5,11 +5,11 @@
 use Rattle.std.specs.Prelude.{◌≡◌, ℕ, ◌+◌, min, ◌-◌, ◌%◌, ◌<◌, ◌^◌, ◌==◌, nat_lt, Bool, true, false, is_some, List, [], ◌∷◌, ◌++◌, codes, Option, Some, None, IfSome}
 use Rattle.std.specs.Fmt.{decimal}
 use Rattle.profile.specs.images.Entries.{Entry}
-use Rattle.command_shell.specs.Calls.{outside_called}
-use Rattle.command_shell.specs.MachineState.{MachineState}
-use Rattle.command_shell.specs.declared.calls.OutsideCall.{OutsideCall}
+use Rattle.debug_session.specs.Calls.{outside_called}
+use Rattle.trace_json.specs.MachineState.{MachineState}
+use Rattle.debug_session.specs.OutsideCall.{OutsideCall}
 use Rattle.command_shell_lines.specs.declared.debug_words.stubs.Stub.{Stub}
-use Rattle.debug_tables.specs.Stubs.{stubbed_step}
+use Rattle.debug_session.specs.Stubs.{stubbed_step}
 use Rattle.trace_effects.specs.changes.Laws.{CoreChanges, core_after}
 use Rattle.trace_effects.specs.declared.shown_words.words.ShownWord.{ShownWord}
 use Rattle.trace_json.specs.CoreFields.{core_fields}

@@ -7,8 +7,8 @@ use Rattle.debug_session.specs.Session.{debug_state}
 use Rattle.debug_session.specs.declared.session.DebugSettings.{DebugSettings}
 use Rattle.debug_records.specs.AnsweredLines.{RecordingState}
 use Rattle.debug_session.specs.declared.session.DebugSession.{DebugSession}
-use Rattle.command_shell.specs.GuestState.{state_of}
-use Rattle.command_shell.specs.MachineState.{MachineState}
+use Rattle.trace_json.specs.GuestState.{state_of}
+use Rattle.trace_json.specs.MachineState.{MachineState}
 use Rattle.debug_records.specs.declared.recorder.Recorder.{Recorder}
 use Rattle.debug_records.specs.declared.recorder.Twin.{Twin}
 

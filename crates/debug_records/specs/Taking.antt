@@ -1,6 +1,6 @@
 -- How the twin takes the steps of a line, for their records.
 use Rattle.std.specs.Prelude.{◌≡◌, Bool, true, false, List, []}
-use Rattle.command_shell.specs.MachineState.{MachineState}
+use Rattle.trace_json.specs.MachineState.{MachineState}
 use Rattle.trace_effects.specs.declared.record_text.text.RecordText.{RecordText}
 use Rattle.trace_json.specs.Moments.{ChangesKept, IsKeptBefore, IsMadeOutside, is_copied}
 use Rattle.trace_json.specs.declared.step.StepBefore.{StepBefore}

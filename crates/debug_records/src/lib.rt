@@ -17,6 +17,7 @@ mod standing;
 mod steps;
 mod taking;
 
+pub use command_shell_lines::read_script;
 pub use debug_session::{
     DebugSession, DebugSettings, ReportForm, RunError, RunMeter, begins_ending, push_missing_end,
 };

@@ -12,20 +12,19 @@ ghost use Rattle.debug_records.specs.LineRecords.{Adds, AreRecorded, AreRecords,
 ghost use Rattle.debug_records.specs.Moments.{IsAlike};
 ghost use Rattle.debug_records.specs.Recording.{recording_state, session_machine, twin_machine};
 ghost use Rattle.debug_session.specs.Session.{debug_state};
-ghost use Rattle.command_shell.specs.MachineState.{MachineState};
+ghost use Rattle.trace_json.specs.MachineState.{MachineState};
 
 use crate::answers::AnswerParts;
 use crate::counts::LineCounts;
 use crate::recorder::{Recorder, SteppedLine, Twin};
 use crate::records::{line_head, push_whole};
 use crate::taking::take_or_let;
-use command_shell::RunError;
 use command_shell_lines::{ScriptCommand, command_of, skip_block};
 use debug_lines::{
     DebugCommand, ModeCommand, SteppingCommand, is_script_command, is_script_line, simple_command,
     stepping_in, tidied,
 };
-use debug_session::{DebugSession, is_faulted};
+use debug_session::{CommandShellRunError as RunError, DebugSession, is_faulted};
 use profile::Sink;
 use profile::text_lines::Lines;
 use profile::text_sink::TextSink;

@@ -1,7 +1,7 @@
 //! The steps of a line, taken one by one by the twin.
 
 ghost use Rattle.std.specs.Prelude.{◌≡◌, ◌<◌, ◌==◌, true, is_some, IfOk, OnOk};
-ghost use Rattle.command_shell.specs.GuestState.{state_of};
+ghost use Rattle.trace_json.specs.GuestState.{state_of};
 ghost use Rattle.debug_records.specs.LineRecords.{Adds};
 ghost use Rattle.debug_records.specs.Moments.{AreStepRecords, AreSteps, IsRest, IsStepRecord};
 ghost use Rattle.debug_records.specs.Recording.{twin_machine};
@@ -13,15 +13,16 @@ use crate::records::{push_moment, skip_head, step_head};
 use crate::taking::{
     enter_first, make_call, outside_call, settle_last, take_or_let, take_rest, written_by_stub,
 };
-use command_shell::{Machine, OutsideCall, RunError};
 use debug_lines::SteppingCommand;
-use debug_session::DebugSession;
+use debug_session::{CommandShellRunError as RunError, DebugSession, OutsideCall};
 use profile::Sink;
 use profile::text_sink::TextSink;
 use std::alloc::{AllocError, Global};
 use trace_effects::record_text::RecordText;
 use trace_effects::shown_registers::WrittenRegisters;
-use trace_json::{MachineCopy, StepBefore, plain_steps_store, push_skip, push_skip_changes};
+use trace_json::{
+    Machine, MachineCopy, StepBefore, plain_steps_store, push_skip, push_skip_changes,
+};
 
 impl Twin {
     /// Records the steps that the session has taken in a line, so many, where so many were taken before:

@@ -1,17 +1,15 @@
 //! Steps of the twin, and what is set in it before and behind them.
 
 ghost use Rattle.std.specs.Prelude.{◌≡◌, ◌<◌, ◌==◌, false, List, OnOk};
-ghost use Rattle.command_shell.specs.Calls.{outside_called};
-ghost use Rattle.command_shell.specs.GuestState.{state_of};
+ghost use Rattle.debug_session.specs.Calls.{outside_called};
+ghost use Rattle.trace_json.specs.GuestState.{state_of};
 ghost use Rattle.debug_records.specs.Moments.{IsSet};
 ghost use Rattle.command_shell_lines.specs.declared.debug_words.stubs.Stub.{Stub};
-ghost use Rattle.debug_tables.specs.Stubs.{deed_ahead, stubbed_step};
+ghost use Rattle.debug_session.specs.Stubs.{deed_ahead, stubbed_step};
 
 use crate::recorder::SteppedLine;
-use command_shell::{OutsideCall, Session};
 use debug_lines::SteppingCommand;
-use debug_session::{DebugSession, StubDeed};
-use debug_tables::routines::enter;
+use debug_session::{DebugSession, OutsideCall, Session, StubDeed, enter};
 use profile::WriteFault;
 use profile::images::Images;
 use profile::text_sink::TextSink;

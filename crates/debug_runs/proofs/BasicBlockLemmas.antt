@@ -8,10 +8,10 @@ use Rattle.profile.specs.declared.stop.Stop.TheVariants as stop
 use Rattle.profile.specs.declared.fault.Fault.TheVariants.{AddressException, DataUnmapped}
 use Rattle.address_map.specs.Bytes.{Bytes, ok_unless_fault, word_at, word_loaded, word_start}
 use Rattle.debug_labels.specs.Labels.{ImageLabels}
-use Rattle.swi_dispatch_guest.specs.GuestState.{AreCoreSteps, state_of}
-use Rattle.command_shell.specs.Value.{MachineValue}
-use Rattle.command_shell.specs.State.{ScriptState}
-use Rattle.command_shell.specs.Stepping.{IsAfterSilentSteps}
+use Rattle.debug_tables.specs.GuestState.{AreCoreSteps, state_of}
+use Rattle.law_machine.specs.Value.{MachineValue}
+use Rattle.debug_tables.specs.State.{ScriptState}
+use Rattle.debug_tables.specs.Stepping.{IsAfterSilentSteps}
 use Rattle.debug_tables.specs.counts.Counts.{CountTable, step_counted, steps_counted}
 use Rattle.debug_tables.specs.WordFlows.{word_flow}
 use Rattle.debug_tables.specs.declared.modes.StepModes.{StepModes}
@@ -19,7 +19,7 @@ use Rattle.debug_tables.specs.declared.step_words.WordFlow.{WordFlow}
 use Rattle.debug_tables.specs.declared.step_words.WordFlow.TheVariants.{Straight, Branches, Stores}
 use Rattle.debug_runs.specs.BasicBlocks.{RunsOnBehind, HasFlow, IsAfterBlock, IsBasicBlock, block_places, stays_short, next_word_of}
 use Rattle.debug_runs.specs.Silent.{IsAfterSilentUpTo}
-use Rattle.swi_dispatch_guest.proofs.RunLoop.{ran-none}
+use Rattle.law_machine.proofs.RunLoop.{ran-none}
 use Rattle.debug_runs.specs.Runs.{end_of_unseen}
 use Rattle.debug_runs.specs.TraceWriter.{is_step_shown}
 use Rattle.debug_runs.specs.declared.basic_blocks.BasicBlock.{BasicBlock}

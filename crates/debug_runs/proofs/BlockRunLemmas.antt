@@ -4,13 +4,13 @@ use Rattle.profile.specs.declared.stop.Stop.{Stop}
 use Rattle.address_map.specs.Bytes.{Bytes}
 use Rattle.arm_core.specs.declared.turn.StepEnd.TheVariants as turn
 use Rattle.debug_labels.specs.Labels.{ImageLabels}
-use Rattle.swi_dispatch_guest.specs.GuestState.{AreCoreSteps, TakesTurn}
-use Rattle.swi_dispatch_guest.specs.MachineState.{MachineState, StepOutcome}
-use Rattle.swi_dispatch_guest.specs.Run.{Run, is_among, ran}
-use Rattle.swi_dispatch_guest.specs.Step.{machine_step}
-use Rattle.command_shell.specs.Calls.{step_made}
-use Rattle.command_shell.specs.State.{ScriptState}
-use Rattle.command_shell.specs.Stepping.{script_after_silent}
+use Rattle.debug_tables.specs.GuestState.{AreCoreSteps, TakesTurn}
+use Rattle.debug_tables.specs.MachineState.{MachineState, StepOutcome}
+use Rattle.debug_tables.specs.Run.{Run, is_among, ran}
+use Rattle.debug_tables.specs.Step.{machine_step}
+use Rattle.debug_tables.specs.Calls.{step_made}
+use Rattle.debug_tables.specs.State.{ScriptState}
+use Rattle.debug_tables.specs.Stepping.{script_after_silent}
 use Rattle.debug_tables.proofs.CountsLemmas.CountLemmas.{uncounted}
 use Rattle.debug_tables.specs.counts.Counts.{CountTable, step_counted, steps_counted}
 use Rattle.debug_tables.specs.WordWatches.{watch_hit}

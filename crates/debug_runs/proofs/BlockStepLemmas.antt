@@ -9,17 +9,17 @@ use Rattle.address_map.specs.Bytes.{Bytes, word_loaded}
 use Rattle.arm_core.specs.State.{State}
 use Rattle.arm_core.specs.declared.turn.StepEnd.{StepEnd}
 use Rattle.arm_core.specs.declared.turn.StepEnd.TheVariants as turn
-use Rattle.os_heap.specs.Store.{owned_in}
-use Rattle.swi_dispatch_guest.specs.declared.halt.Halt.{Halt}
-use Rattle.swi_dispatch_guest.specs.GuestState.{TakesTurn}
-use Rattle.swi_dispatch_guest.specs.MachineState.{MachineState, Tables}
-use Rattle.swi_dispatch_guest.specs.Step.{Turned, result_of_instruction}
-use Rattle.command_shell.specs.State.{ScriptState}
+use Rattle.law_machine.specs.Store.{owned_in}
+use Rattle.law_machine.specs.Halt.{Halt}
+use Rattle.debug_tables.specs.GuestState.{TakesTurn}
+use Rattle.debug_tables.specs.MachineState.{MachineState, Tables}
+use Rattle.debug_tables.specs.Step.{Turned, result_of_instruction}
+use Rattle.debug_tables.specs.State.{ScriptState}
 use Rattle.debug_tables.proofs.FlowLemmas.{step_keeps}
 use Rattle.debug_tables.specs.Routines.{routine_end}
 use Rattle.debug_tables.specs.WordFlows.{KeepsToFlow, KeepsToFlowIfDone, word_flow}
 use Rattle.debug_tables.specs.WordWatches.{is_unchanged_word, mapped_word, watch_hit, watched_change}
-use Rattle.command_shell.specs.declared.watches.WatchHit.{WatchHit}
+use Rattle.debug_tables.specs.WatchHit.{WatchHit}
 use Rattle.debug_tables.specs.declared.step_words.WordFlow.{WordFlow}
 use Rattle.debug_tables.specs.declared.step_words.WordFlow.TheVariants.{Straight, Branches, Anywhere, Stores}
 use Rattle.debug_runs.specs.BasicBlocks.{HasFlow, IsBasicBlock, stays_short, next_word_of}

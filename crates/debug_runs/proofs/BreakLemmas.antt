@@ -8,15 +8,15 @@ use Rattle.std.specs.Prelude.{nat_le, nat_lt}
 use Rattle.profile.specs.Outcome.{Leaves, bind}
 use Rattle.profile.specs.declared.stop.Stop.{Stop}
 use Rattle.profile.specs.declared.stop.Stop.TheVariants as stop
-use Rattle.swi_dispatch_guest.proofs.RunLoop.{ran-none}
-use Rattle.swi_dispatch_guest.specs.MachineState.{MachineState}
-use Rattle.swi_dispatch_guest.specs.GuestState.{AreCoreSteps}
-use Rattle.swi_dispatch_guest.specs.Run.{is_among, silent_run, ran}
+use Rattle.law_machine.proofs.RunLoop.{ran-none}
+use Rattle.debug_tables.specs.MachineState.{MachineState}
+use Rattle.debug_tables.specs.GuestState.{AreCoreSteps}
+use Rattle.debug_tables.specs.Run.{is_among, silent_run, ran}
 use Rattle.arm_core.specs.breaks.Breaks.{without_break, without_place}
 use Rattle.arm_core.specs.declared.breaks.breaks.BreakError.{BreakError}
 use Rattle.arm_core.specs.declared.breaks.breaks.BreakError.TheVariants as error
-use Rattle.command_shell.specs.State.{ScriptState}
-use Rattle.command_shell.specs.Stepping.{IsAfterSilentSteps, script_after_silent, script_with_break, script_without_break}
+use Rattle.debug_tables.specs.State.{ScriptState}
+use Rattle.debug_tables.specs.Stepping.{IsAfterSilentSteps, script_after_silent, script_with_break, script_without_break}
 use Rattle.std.proofs.Math.Bool.{and-true}
 use Rattle.debug_runs.specs.Silent.{IsAfterSilentUpTo}
 

@@ -3,22 +3,22 @@ use Rattle.std.proofs.Common.{◌≡◌, ◌∙◌, ℕ, Bool, true, false, List
 use Rattle.std.specs.Prelude.{◌==◌, if◌then◌else◌}
 use Rattle.profile.specs.MemoryMap.{return_gate}
 use Rattle.profile.specs.declared.fault.Fault.{Fault}
-use Rattle.os_heap.specs.Store.{owned_in}
-use Rattle.arm_step.specs.Step.{executed_if_fetched, result_of_step}
+use Rattle.law_machine.specs.Store.{owned_in}
+use Rattle.law_machine.specs.Step.{executed_if_fetched, result_of_step}
 use Rattle.address_map.specs.Bytes.{Bytes, word_loaded}
 use Rattle.arm_core.specs.State.{State}
 use Rattle.arm_core.specs.declared.turn.StepEnd.{StepEnd}
 use Rattle.arm_core.specs.declared.turn.StepEnd.TheVariants as turn
-use Rattle.swi_dispatch_guest.proofs.Silent.{done_step}
-use Rattle.swi_dispatch_guest.specs.declared.halt.Halt.{Halt}
-use Rattle.swi_dispatch_guest.specs.MachineState.{MachineState, StepOutcome}
-use Rattle.swi_dispatch_guest.specs.GuestState.{TakesTurn}
-use Rattle.swi_dispatch_guest.specs.Step.{Turned, machine_step, result_of_instruction}
-use Rattle.command_shell.specs.State.{ScriptState}
+use Rattle.law_machine.proofs.Silent.{done_step}
+use Rattle.law_machine.specs.Halt.{Halt}
+use Rattle.debug_tables.specs.MachineState.{MachineState, StepOutcome}
+use Rattle.debug_tables.specs.GuestState.{TakesTurn}
+use Rattle.debug_tables.specs.Step.{Turned, machine_step, result_of_instruction}
+use Rattle.debug_tables.specs.State.{ScriptState}
 use Rattle.debug_runs.specs.Runs.{next_step}
 use Rattle.debug_tables.specs.Stubs.{StubDeedState, deed_ahead, deed_of_swi, deed_that_fits, deed_unless_empty, deed_unless_fetched, deed_unless_halted, stub_end, swi_in_turn}
 use Rattle.debug_tables.specs.declared.modes.StepModes.{StepModes}
-use Rattle.command_shell_lines.specs.declared.debug_words.stubs.Stub.{Stub}
+use Rattle.debug_lines.specs.Stub.{Stub}
 use Rattle.debug_tables.proofs.StubLemmas.{real_steps}
 
 abbrev pub with_stubs : List Stub → StepModes

@@ -25,24 +25,24 @@ use Rattle.arm_decode.specs.Fields.{condition_in}
 use Rattle.arm_decode.specs.declared.action.Action.{Action}
 use Rattle.arm_decode.specs.declared.action.Action.TheVariants as action
 use Rattle.arm_decode.specs.declared.condition.Condition.{Condition}
-use Rattle.arm_step.specs.Step.{acted_if_decoded, executed_if_fetched, result_of_action, result_of_step, result_of_word}
-use Rattle.os_heap.specs.Store.{IsSound, Store, find_heap, owned_in}
-use Rattle.os_heap.proofs.Found.{found_heap, found_start}
-use Rattle.os_heap_words.specs.lists.Heap.{HeapList, IsHeapIn}
-use Rattle.os_heap_words.proofs.ListsLemmas.HeadWords.{head_inside}
-use Rattle.swi_dispatch_guest.specs.GuestState.{GuestState, IsGuest, IsState, state_of}
-use Rattle.swi_dispatch_guest.specs.MachineState.{MachineState}
-use Rattle.swi_dispatch_guest.specs.Moves.{Step, swi_of_turn}
-use Rattle.swi_dispatch_guest.specs.Step.{machine_step, result_of_instruction, without_x}
-use Rattle.swi_dispatch_guest.proofs.Kept.{short_name}
+use Rattle.law_machine.specs.Step.{acted_if_decoded, executed_if_fetched, result_of_action, result_of_step, result_of_word}
+use Rattle.law_machine.specs.Store.{IsSound, Store, find_heap, owned_in}
+use Rattle.law_machine.proofs.Found.{found_heap, found_start}
+use Rattle.law_machine.specs.Heap.{HeapList, IsHeapIn}
+use Rattle.law_machine.proofs.HeadWords.{head_inside}
+use Rattle.debug_tables.specs.GuestState.{GuestState, IsGuest, IsState, state_of}
+use Rattle.debug_tables.specs.MachineState.{MachineState}
+use Rattle.law_machine.specs.SwiDispatchGuestMoves.{Step, swi_of_turn}
+use Rattle.debug_tables.specs.Step.{machine_step, result_of_instruction, without_x}
+use Rattle.law_machine.proofs.Kept.{short_name}
 use Rattle.law_machine.specs.heap_alone.Storing.{is_stored, stores_by, stores_if_decoded, stores_if_fetched}
 use Rattle.law_machine.specs.heap_alone.ModuleMoves.{is_at_gate}
 use Rattle.law_machine.specs.live_bytes.HeapWrites.{IsHeadByte, IsWrittenFor}
 use Rattle.law_machine.specs.other_bytes.MoveWrites.{IsErrorByte, IsOfCall, OtherBytesStay}
-use Rattle.trace_effects.specs.Cause.{cause_if_fetched, cause_of, swi_if_decoded, swi_of_action, swi_of_cause}
-use Rattle.trace_effects.specs.Leaving.{call_leaves, moves_no_block, named_call_stays}
-use Rattle.trace_effects.specs.declared.cause.Cause.{Cause}
-use Rattle.trace_effects.specs.declared.cause.Cause.TheVariants.{Gate, Unmapped, Skipped, Word}
+use Rattle.trace_text.specs.Cause.{cause_if_fetched, cause_of, swi_if_decoded, swi_of_action, swi_of_cause}
+use Rattle.trace_text.specs.Leaving.{call_leaves, moves_no_block, named_call_stays}
+use Rattle.trace_text.specs.TraceEffectsCause.{Cause}
+use Rattle.trace_text.specs.TraceEffectsCause.TheVariants.{Gate, Unmapped, Skipped, Word}
 use Rattle.trace_text.specs.Copies.{KeptStore, kept_of}
 use Rattle.trace_text.specs.Words.{is_shown_elsewhere}
 use Rattle.trace_text.specs.heaps.Limits.{limits_in, limits_of_heap}

@@ -7,8 +7,8 @@ use Rattle.std.specs.Prelude.{◌↔◌, IsSome, OnOk, is_some, nat_lt}
 use Rattle.std.specs.List.{flat_map}
 use Rattle.profile.specs.declared.stop.Stop.TheVariants as stop
 use Rattle.debug_labels.specs.Labels.{ImageLabels}
-use Rattle.command_shell.specs.Calls.{step_made}
-use Rattle.command_shell.specs.State.{ScriptState}
+use Rattle.debug_tables.specs.Calls.{step_made}
+use Rattle.debug_tables.specs.State.{ScriptState}
 use Rattle.profile.specs.text_sink.TextSink.{sink_text_of}
 use Rattle.debug_runs.proofs.RunLemmas.{first_of_left, no_step, step_on, step_over}
 use Rattle.debug_runs.specs.LastSteps.{LastState, StepText, steps_before_text, last_run, last_answer, last_text, no_last, printed_line, text_of_step, texts_of_run, texts_unless, whole_text, with_step, with_steps, without_first, last_ones_of}

@@ -4,11 +4,11 @@ use Rattle.std.proofs.lemmas.List.{append-nil}
 use Rattle.std.specs.Prelude.{OnOk, min, nat_le}
 use Rattle.profile.specs.declared.stop.Stop.{Stop}
 use Rattle.debug_labels.specs.Labels.{ImageLabels}
-use Rattle.swi_dispatch_guest.specs.MachineState.{StepOutcome}
-use Rattle.swi_dispatch_guest.specs.Step.{module_loaded, store_called}
+use Rattle.debug_tables.specs.MachineState.{StepOutcome}
+use Rattle.debug_tables.specs.Step.{module_loaded, store_called}
 use Rattle.trace_text.specs.Step.{call_start_text, load_start_text}
-use Rattle.command_shell.specs.Calls.{stop_before_step_by}
-use Rattle.command_shell.specs.State.{Answered, IsAnswered, ScriptState}
+use Rattle.debug_tables.specs.Calls.{stop_before_step_by}
+use Rattle.debug_tables.specs.State.{Answered, IsAnswered, ScriptState}
 use Rattle.profile.specs.text_sink.TextSink.{sink_text_of}
 use Rattle.profile.specs.declared.text_sink.TextSink.{TextSink}
 use Rattle.debug_runs.specs.Endings.{line_end_answer}

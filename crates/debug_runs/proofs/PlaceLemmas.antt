@@ -2,10 +2,10 @@
 use Rattle.std.proofs.Common.{◌≡◌, ◌<◌, ℕ, zero, suc, ◌-◌, false, length, List, [], ◌∷◌, Option, Some, None, Result, arith, refl, subst, sym, ap, ◌∙◌}
 use Rattle.std.specs.Prelude.{OnOk, min}
 use Rattle.profile.specs.declared.stop.Stop.{Stop}
-use Rattle.swi_dispatch_guest.specs.MachineState.{StepOutcome}
-use Rattle.swi_dispatch_guest.specs.Step.{module_loaded, store_called}
-use Rattle.command_shell.specs.Calls.{step_made, stop_before_step_by}
-use Rattle.command_shell.specs.State.{ScriptState}
+use Rattle.debug_tables.specs.MachineState.{StepOutcome}
+use Rattle.debug_tables.specs.Step.{module_loaded, store_called}
+use Rattle.debug_tables.specs.Calls.{step_made, stop_before_step_by}
+use Rattle.debug_tables.specs.State.{ScriptState}
 use Rattle.debug_tables.proofs.CountsLemmas.CountLemmas.{uncounted}
 use Rattle.debug_tables.specs.counts.Counts.{CountTable, step_counted, steps_counted}
 use Rattle.debug_lines.specs.SteppingRequests.{Run, Step, Call, Load, Finish, Gosub, RunLast}

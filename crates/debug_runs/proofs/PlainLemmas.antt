@@ -3,24 +3,24 @@ use Rattle.std.proofs.Math.Bool.{and-true}
 use Rattle.std.proofs.Common.{◌≡◌, ℕ, zero, suc, ◌+◌, ◌-◌, ◌==◌, ◌&&◌, ◌++◌, Bool, true, false, List, [], ◌∷◌, Option, Some, None, if◌then◌else◌, ap, append_assoc, arith, refl, subst, sym, ◌∙◌, length}
 use Rattle.std.proofs.lemmas.Bool.{and_parts, eqb-true}
 use Rattle.std.proofs.lemmas.Bool.Decides.{nat_tests}
-use Rattle.swi_dispatch_guest.proofs.RunLoop.{ran-halted, ran-none}
+use Rattle.law_machine.proofs.RunLoop.{ran-halted, ran-none}
 use Rattle.std.proofs.lemmas.List.{append-nil}
 use Rattle.std.specs.Prelude.{IsSome, min, nat_le}
 use Rattle.profile.specs.declared.stop.Stop.{Stop}
 use Rattle.profile.specs.declared.stop.Stop.TheVariants as stop
 use Rattle.debug_labels.specs.Labels.{ImageLabels}
 use Rattle.profile.specs.images.Entries.{Entry}
-use Rattle.swi_dispatch_guest.specs.declared.halt.Halt.{Halt}
-use Rattle.swi_dispatch_guest.specs.declared.halt.Halt.TheVariants as halt
-use Rattle.swi_dispatch_guest.specs.MachineState.{MachineState, StepOutcome, stop_of}
-use Rattle.swi_dispatch_guest.specs.Run.{Run, count_after, go_on, is_among, ran, resting, run_after_steps, run_unless_halted}
-use Rattle.swi_dispatch_guest.specs.Step.{machine_step, module_loaded, store_called, without_x}
-use Rattle.command_shell.specs.Answers.{stepped_text, stop_text}
-use Rattle.command_shell.specs.Calls.{answer_after_steps, call_end, call_end_by, call_made, finished_by, step_made, step_then, stop_before_step, stop_before_step_by, stop_answer}
-use Rattle.command_shell.specs.State.{Answered, ScriptState, answer}
-use Rattle.command_shell.specs.Stepping.{script_after_run, script_run}
-use Rattle.command_shell.specs.declared.calls.CallEnd.TheVariants as cend
-use Rattle.command_shell.proofs.CallLemmas.{call_allowed, call_refused, finished_ends, halted_ends}
+use Rattle.law_machine.specs.Halt.{Halt}
+use Rattle.law_machine.specs.Halt.TheVariants as halt
+use Rattle.debug_tables.specs.MachineState.{MachineState, StepOutcome, stop_of}
+use Rattle.debug_tables.specs.Run.{Run, count_after, go_on, is_among, ran, resting, run_after_steps, run_unless_halted}
+use Rattle.debug_tables.specs.Step.{machine_step, module_loaded, store_called, without_x}
+use Rattle.debug_tables.specs.Answers.{stepped_text, stop_text}
+use Rattle.debug_tables.specs.Calls.{answer_after_steps, call_end, call_end_by, call_made, finished_by, step_made, step_then, stop_before_step, stop_before_step_by, stop_answer}
+use Rattle.debug_tables.specs.State.{Answered, ScriptState, answer}
+use Rattle.debug_tables.specs.Stepping.{script_after_run, script_run}
+use Rattle.debug_tables.specs.CallEnd.TheVariants as cend
+use Rattle.debug_tables.proofs.CallLemmas.{call_allowed, call_refused, finished_ends, halted_ends}
 use Rattle.trace_text.specs.Step.{call_start_text, load_start_text}
 use Rattle.debug_runs.specs.Endings.{line_end_answer, answer_of_steps}
 use Rattle.debug_runs.specs.Laws.{AreScriptLines, IsScriptAnswer, IsFreshUnhalted}

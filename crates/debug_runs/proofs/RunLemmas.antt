@@ -8,12 +8,12 @@ use Rattle.profile.specs.declared.stop.Stop.TheVariants as stop
 use Rattle.address_map.specs.Bytes.{Bytes}
 use Rattle.debug_labels.specs.Labels.{ImageLabels}
 use Rattle.profile.specs.Firsts.{first_of}
-use Rattle.swi_dispatch_guest.specs.declared.halt.Halt.{Halt}
-use Rattle.swi_dispatch_guest.specs.declared.halt.Halt.TheVariants as halt
-use Rattle.swi_dispatch_guest.specs.MachineState.{StepOutcome, stop_of}
-use Rattle.swi_dispatch_guest.specs.Run.{count_after}
-use Rattle.command_shell.specs.Calls.{step_made}
-use Rattle.command_shell.specs.State.{ScriptState}
+use Rattle.law_machine.specs.Halt.{Halt}
+use Rattle.law_machine.specs.Halt.TheVariants as halt
+use Rattle.debug_tables.specs.MachineState.{StepOutcome, stop_of}
+use Rattle.debug_tables.specs.Run.{count_after}
+use Rattle.debug_tables.specs.Calls.{step_made}
+use Rattle.debug_tables.specs.State.{ScriptState}
 use Rattle.profile.specs.text_sink.TextSink.{sink_text_of}
 use Rattle.debug_runs.specs.Runs.{SteppingRun, call_run, end_after, run_end_by, is_reached, next_step, run_behind, run_ended, run_step, run_unless, steps_run, text_of_next, watched_end}
 use Rattle.debug_runs.specs.TraceWriter.{one_answer, answer_of_step}
@@ -24,7 +24,7 @@ use Rattle.debug_runs.specs.declared.running.RunEnd.{RunEnd}
 use Rattle.debug_runs.specs.declared.running.RunEnd.TheVariants as end
 use Rattle.debug_runs.specs.declared.running.RunGoal.{RunGoal}
 use Rattle.debug_runs.specs.declared.writer.TraceWriter.{TraceWriter}
-use Rattle.command_shell.specs.declared.watches.WatchHit.{WatchHit}
+use Rattle.debug_tables.specs.WatchHit.{WatchHit}
 
 -- a step after which a run ends, and one after which it goes on
 pub step_over : (watches : List ℕ) (g : RunGoal) (s next : ScriptState) (o : StepOutcome) (text : List ℕ) (f : ScriptState → SteppingRun) (e : RunEnd)

@@ -10,18 +10,18 @@ use Rattle.profile.specs.declared.stop.Stop.{Stop}
 use Rattle.profile.specs.declared.stop.Stop.TheVariants as stop
 use Rattle.debug_labels.specs.Labels.{ImageLabels}
 use Rattle.profile.specs.images.Entries.{Entry}
-use Rattle.swi_dispatch_guest.proofs.LawFramesLemmas.Keeping.{only_the_gate_closes}
-use Rattle.swi_dispatch_guest.specs.SwiDispatchAnswersFrame.{Frame}
-use Rattle.swi_dispatch_guest.specs.declared.halt.Halt.{Halt}
-use Rattle.swi_dispatch_guest.specs.MachineState.{MachineState, StepOutcome}
-use Rattle.swi_dispatch_guest.specs.Run.{Run, count_after, go_on, is_among, silent_run, ran, resting, run_after_steps}
-use Rattle.swi_dispatch_guest.specs.Step.{machine_step}
-use Rattle.swi_dispatch_guest.specs.GuestState.{AreCoreSteps}
-use Rattle.command_shell_lines.specs.declared.debug_words.stubs.Stub.{Stub}
-use Rattle.swi_dispatch_guest.proofs.RunLoop.{ran-none}
-use Rattle.command_shell.specs.Calls.{step_made}
-use Rattle.command_shell.specs.State.{ScriptState}
-use Rattle.command_shell.specs.Stepping.{IsAfterSilentSteps, script_after_silent}
+use Rattle.law_machine.proofs.Keeping.{only_the_gate_closes}
+use Rattle.debug_labels.specs.Frame.{Frame}
+use Rattle.law_machine.specs.Halt.{Halt}
+use Rattle.debug_tables.specs.MachineState.{MachineState, StepOutcome}
+use Rattle.debug_tables.specs.Run.{Run, count_after, go_on, is_among, silent_run, ran, resting, run_after_steps}
+use Rattle.debug_tables.specs.Step.{machine_step}
+use Rattle.debug_tables.specs.GuestState.{AreCoreSteps}
+use Rattle.debug_lines.specs.Stub.{Stub}
+use Rattle.law_machine.proofs.RunLoop.{ran-none}
+use Rattle.debug_tables.specs.Calls.{step_made}
+use Rattle.debug_tables.specs.State.{ScriptState}
+use Rattle.debug_tables.specs.Stepping.{IsAfterSilentSteps, script_after_silent}
 use Rattle.debug_runs.specs.Silent.{IsAfterSilentUpTo, stay_open}
 use Rattle.debug_runs.specs.Runs.{SteppingRun, are_unseen, end_after, end_of_unseen, is_reached, next_step, run_behind, run_end_by, run_ended, run_step, run_unless, steps_run, text_of_next}
 use Rattle.debug_runs.specs.TraceWriter.{is_step_shown, one_answer, answer_of_step, untold_text, whole_step_text}

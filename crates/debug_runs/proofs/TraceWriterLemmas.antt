@@ -4,12 +4,12 @@ use Rattle.std.proofs.lemmas.Bool.{eqb-true}
 use Rattle.std.proofs.lemmas.List.{append-nil}
 use Rattle.std.specs.Prelude.{OnOk}
 use Rattle.std.specs.Io.KnownBytes.{Appends}
-use Rattle.swi_dispatch_guest.specs.MachineState.{StepOutcome, outcome_with}
-use Rattle.command_shell.specs.Calls.{step_made}
-use Rattle.command_shell.specs.State.{ScriptState, IsAnswered, answer}
-use Rattle.command_shell.specs.declared.calls.OutsideCall.{OutsideCall}
+use Rattle.debug_tables.specs.MachineState.{StepOutcome, outcome_with}
+use Rattle.debug_tables.specs.Calls.{step_made}
+use Rattle.debug_tables.specs.State.{ScriptState, IsAnswered, answer}
+use Rattle.debug_tables.specs.OutsideCall.{OutsideCall}
 use Rattle.trace_text.specs.Step.{Known, known_of, known_outside, start_text, step_end_text, step_text}
-use Rattle.trace_effects.specs.Columns.{below_text}
+use Rattle.trace_text.specs.Columns.{below_text}
 use Rattle.profile.specs.text_sink.TextSink.{sink_text_of}
 use Rattle.debug_runs.specs.Calls.{outside_start_text, outside_text}
 use Rattle.debug_runs.specs.TraceWriter.{is_step_shown, answer_of_step, untold_text}

@@ -3,10 +3,10 @@ use Rattle.std.proofs.Common.{◌≡◌, ℕ, zero, suc, ◌-◌, ◌++◌, fals
 use Rattle.std.specs.Prelude.{min, nat_le}
 use Rattle.profile.specs.declared.stop.Stop.{Stop}
 use Rattle.debug_labels.specs.Labels.{ImageLabels}
-use Rattle.swi_dispatch_guest.specs.MachineState.{StepOutcome}
-use Rattle.swi_dispatch_guest.specs.Step.{module_loaded, store_called}
-use Rattle.command_shell.specs.Calls.{step_made, stop_before_step_by}
-use Rattle.command_shell.specs.State.{ScriptState}
+use Rattle.debug_tables.specs.MachineState.{StepOutcome}
+use Rattle.debug_tables.specs.Step.{module_loaded, store_called}
+use Rattle.debug_tables.specs.Calls.{step_made, stop_before_step_by}
+use Rattle.debug_tables.specs.State.{ScriptState}
 use Rattle.trace_text.specs.Step.{call_start_text, load_start_text}
 use Rattle.debug_runs.specs.Endings.{line_end_answer}
 use Rattle.debug_runs.specs.LastSteps.{last_run}

@@ -4,11 +4,11 @@ use Rattle.std.specs.Prelude.{◌≡◌, ◌≢◌, ◌⊎◌, ◌≤◌, ◌<�
 use Rattle.profile.specs.declared.stop.Stop.{Stop}
 use Rattle.address_map.specs.Bytes.{Bytes, word_loaded}
 use Rattle.debug_labels.specs.Labels.{ImageLabels}
-use Rattle.swi_dispatch_guest.specs.GuestState.{AreCoreSteps}
-use Rattle.swi_dispatch_guest.specs.MachineState.{MachineState}
-use Rattle.swi_dispatch_guest.specs.Run.{is_among, silent_run, ran}
-use Rattle.command_shell.specs.State.{ScriptState}
-use Rattle.command_shell.specs.Stepping.{script_after_silent}
+use Rattle.debug_tables.specs.GuestState.{AreCoreSteps}
+use Rattle.debug_tables.specs.MachineState.{MachineState}
+use Rattle.debug_tables.specs.Run.{is_among, silent_run, ran}
+use Rattle.debug_tables.specs.State.{ScriptState}
+use Rattle.debug_tables.specs.Stepping.{script_after_silent}
 use Rattle.debug_tables.specs.counts.Counts.{CountTable, steps_counted}
 use Rattle.debug_tables.specs.Routines.{routine_end}
 use Rattle.debug_tables.specs.WordFlows.{word_flow}

@@ -1,8 +1,8 @@
 -- A call from outside, as the code has it.
 use Rattle.std.specs.Prelude.{ℕ, List}
-use Rattle.command_shell.specs.declared.calls.OutsideCall.{OutsideCall}
-use Rattle.command_shell.specs.declared.calls.OutsideCall.TheVariants as outside
-use Rattle.swi_dispatch_guest.specs.MachineState.{MachineState, StepOutcome}
+use Rattle.debug_tables.specs.OutsideCall.{OutsideCall}
+use Rattle.debug_tables.specs.OutsideCall.TheVariants as outside
+use Rattle.debug_tables.specs.MachineState.{MachineState, StepOutcome}
 use Rattle.trace_text.specs.Step.{call_start_text, load_start_text}
 use Rattle.debug_runs.specs.TraceWriter.{call_text_behind}
 

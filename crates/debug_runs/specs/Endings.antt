@@ -2,17 +2,17 @@
 use Rattle.std.specs.Prelude.{Bool, ◌-◌}
 use Rattle.profile.specs.declared.stop.Stop.{Stop}
 use Rattle.profile.specs.declared.stop.Stop.TheVariants as stop
-use Rattle.command_shell.specs.Answers.{stepped_text}
-use Rattle.command_shell.specs.Calls.{call_text, stop_answer}
-use Rattle.command_shell.specs.Memory.{script_with_last}
-use Rattle.command_shell.specs.State.{ScriptState, Answered, answer}
+use Rattle.debug_tables.specs.Answers.{stepped_text}
+use Rattle.debug_tables.specs.Calls.{call_text, stop_answer}
+use Rattle.debug_tables.specs.Memory.{script_with_last}
+use Rattle.debug_tables.specs.State.{ScriptState, Answered, answer}
 use Rattle.debug_tables.specs.Routines.{CallerState, returned_text, script_back}
 use Rattle.debug_tables.specs.WordWatches.{watch_text}
 use Rattle.debug_runs.specs.declared.endings.EndKind.{EndKind}
 use Rattle.debug_runs.specs.declared.endings.EndKind.TheVariants as kind
 use Rattle.debug_runs.specs.declared.running.RunEnd.{RunEnd}
 use Rattle.debug_runs.specs.declared.running.RunEnd.TheVariants as end
-use Rattle.command_shell.specs.declared.watches.WatchHit.{WatchHit}
+use Rattle.debug_tables.specs.WatchHit.{WatchHit}
 
 -- STEP: where the machine stands, if all steps could be taken and were, else the stop line
 abbrev pub answer_of_steps : Bool → ScriptState → Stop → Answered

@@ -4,10 +4,10 @@ use Rattle.std.specs.Prelude.{ℕ, zero, suc, ◌+◌, ◌-◌, ◌++◌, nat_lt
 use Rattle.std.specs.Fmt.{decimal}
 use Rattle.std.specs.List.{flat_map}
 use Rattle.debug_labels.specs.Labels.{ImageLabels}
-use Rattle.command_shell.specs.Calls.{step_made}
-use Rattle.command_shell.specs.State.{ScriptState}
+use Rattle.debug_tables.specs.Calls.{step_made}
+use Rattle.debug_tables.specs.State.{ScriptState}
 use Rattle.trace_text.specs.Below.{prints_word}
-use Rattle.trace_effects.specs.Columns.{below_text}
+use Rattle.trace_text.specs.Columns.{below_text}
 use Rattle.debug_runs.specs.Runs.{SteppingRun, end_after, next_step, steps_run}
 use Rattle.debug_runs.specs.TraceWriter.{whole_step_text}
 use Rattle.debug_runs.specs.declared.running.RunEnd.{RunEnd}

@@ -2,9 +2,9 @@
 use Rattle.std.specs.Prelude.{◌≡◌, ◌≤◌, ℕ, true, false, List, ◌++◌, Option, None, Some, IsSome}
 use Rattle.std.specs.List.{flat_map}
 use Rattle.debug_labels.specs.Labels.{ImageLabels}
-use Rattle.command_shell.specs.Script.{request_answer}
-use Rattle.command_shell.specs.State.{Answered, ScriptState}
-use Rattle.command_shell_lines.specs.Requests as script
+use Rattle.debug_tables.specs.Script.{request_answer}
+use Rattle.debug_tables.specs.State.{Answered, ScriptState}
+use Rattle.debug_lines.specs.Requests as script
 use Rattle.debug_lines.specs.SteppingRequests.{SteppingRequest, Run, Step, Call, Load, RunLast}
 use Rattle.debug_runs.specs.LastSteps.{texts_of_run, whole_text}
 use Rattle.debug_runs.specs.Lines.{SteppingAnswer, stepping_answer}

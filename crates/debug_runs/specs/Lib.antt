@@ -9,9 +9,9 @@ pub use Rattle.debug_tables.specs.StubNames
 pub use Rattle.debug_tables.specs.Stubs
 pub use Rattle.debug_tables.specs.WordWatches
 pub use Rattle.debug_tables.specs.counts
-pub use Rattle.command_shell_lines.specs.declared.debug_words.stubs.Stub
+pub use Rattle.debug_lines.specs.Stub
 pub use Rattle.debug_tables.specs.declared.stubs.StubError
-pub use Rattle.command_shell.specs.declared.watches.WordWatchError
+pub use Rattle.debug_tables.specs.WordWatchError
 pub mod BasicBlocks
 pub mod Calls
 pub mod Endings

@@ -5,11 +5,11 @@ use Rattle.std.specs.Prelude.{ℕ, zero, suc, false, ◌-◌, ◌++◌, min, nat
 use Rattle.profile.specs.declared.stop.Stop.{Stop}
 use Rattle.debug_labels.specs.Labels.{ImageLabels}
 use Rattle.debug_lines.specs.SteppingRequests.{SteppingRequest, Run, Step, Call, Load, Finish, Gosub, RunLast}
-use Rattle.swi_dispatch_guest.specs.MachineState.{StepOutcome}
-use Rattle.swi_dispatch_guest.specs.Step.{module_loaded, store_called}
-use Rattle.command_shell.specs.Answers.{refused_text}
-use Rattle.command_shell.specs.Calls.{stop_before_step_by}
-use Rattle.command_shell.specs.State.{ScriptState, Answered, answer}
+use Rattle.debug_tables.specs.MachineState.{StepOutcome}
+use Rattle.debug_tables.specs.Step.{module_loaded, store_called}
+use Rattle.debug_tables.specs.Answers.{refused_text}
+use Rattle.debug_tables.specs.Calls.{stop_before_step_by}
+use Rattle.debug_tables.specs.State.{ScriptState, Answered, answer}
 use Rattle.trace_text.specs.Step.{call_start_text, load_start_text}
 use Rattle.debug_runs.specs.Endings.{line_end_answer}
 use Rattle.debug_runs.specs.LastSteps.{last_run}

@@ -3,10 +3,10 @@
 use Rattle.std.specs.Prelude.{ℕ, zero, suc, ◌-◌, min, List, [], ◌∷◌, length, Option, Some, None}
 use Rattle.profile.specs.declared.stop.Stop.{Stop}
 use Rattle.debug_lines.specs.SteppingRequests.{SteppingRequest, Run, Step, Call, Load, Finish, Gosub, RunLast}
-use Rattle.swi_dispatch_guest.specs.MachineState.{StepOutcome}
-use Rattle.swi_dispatch_guest.specs.Step.{module_loaded, store_called}
-use Rattle.command_shell.specs.Calls.{step_made, stop_before_step_by}
-use Rattle.command_shell.specs.State.{ScriptState}
+use Rattle.debug_tables.specs.MachineState.{StepOutcome}
+use Rattle.debug_tables.specs.Step.{module_loaded, store_called}
+use Rattle.debug_tables.specs.Calls.{step_made, stop_before_step_by}
+use Rattle.debug_tables.specs.State.{ScriptState}
 use Rattle.debug_tables.specs.Routines.{script_at_routine}
 use Rattle.debug_runs.specs.Runs.{end_after, next_step}
 use Rattle.debug_runs.specs.declared.running.RunEnd.{RunEnd}

@@ -2,7 +2,7 @@
 use Rattle.std.specs.Prelude.{◌≡◌, ◌++◌, ℕ, List}
 use Rattle.profile.specs.text_sink.TextSink.{sink_text_of}
 use Rattle.profile.specs.declared.text_sink.TextSink.{TextSink}
-use Rattle.command_shell.specs.State.{ScriptState}
+use Rattle.debug_tables.specs.State.{ScriptState}
 use Rattle.debug_runs.specs.Lines.{SteppingAnswer}
 use Rattle.debug_runs.specs.Runs.{SteppingRun}
 use Rattle.debug_runs.specs.declared.running.RunEnd.{RunEnd}

@@ -4,11 +4,11 @@ use Rattle.std.specs.Prelude.{ℕ, zero, suc, Bool, false, not, ◌-◌, ◌==�
 use Rattle.profile.specs.declared.stop.Stop.{Stop}
 use Rattle.profile.specs.declared.stop.Stop.TheVariants as stop
 use Rattle.debug_labels.specs.Labels.{ImageLabels}
-use Rattle.swi_dispatch_guest.specs.declared.halt.Halt.{Halt}
-use Rattle.swi_dispatch_guest.specs.MachineState.{MachineState, StepOutcome, stop_of}
-use Rattle.swi_dispatch_guest.specs.Run.{is_among}
-use Rattle.command_shell.specs.Calls.{step_made}
-use Rattle.command_shell.specs.State.{ScriptState}
+use Rattle.law_machine.specs.Halt.{Halt}
+use Rattle.debug_tables.specs.MachineState.{MachineState, StepOutcome, stop_of}
+use Rattle.debug_tables.specs.Run.{is_among}
+use Rattle.debug_tables.specs.Calls.{step_made}
+use Rattle.debug_tables.specs.State.{ScriptState}
 use Rattle.debug_tables.specs.Routines.{routine_end}
 use Rattle.debug_tables.specs.Stubs.{stubbed_step}
 use Rattle.debug_runs.specs.TraceWriter.{is_step_shown, one_answer, answer_of_step, whole_step_text}
@@ -18,7 +18,7 @@ use Rattle.debug_runs.specs.declared.running.RunEnd.{RunEnd}
 use Rattle.debug_runs.specs.declared.running.RunEnd.TheVariants as end
 use Rattle.debug_runs.specs.declared.running.RunGoal.{RunGoal}
 use Rattle.debug_runs.specs.declared.running.RunGoal.TheVariants as goal
-use Rattle.command_shell.specs.declared.watches.WatchHit.{WatchHit}
+use Rattle.debug_tables.specs.WatchHit.{WatchHit}
 
 -- a run without a goal ends where it is stopped
 abbrev pub is_reached : RunGoal → MachineState → Bool

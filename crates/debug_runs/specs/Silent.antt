@@ -2,11 +2,11 @@
 use Rattle.std.specs.Prelude.{◌≡◌, ◌==◌, ℕ, Bool, true, false, nat_lt, List, length, None, if◌then◌else◌}
 use Rattle.profile.specs.MemoryMap.{return_gate}
 use Rattle.profile.specs.declared.stop.Stop.{Stop}
-use Rattle.swi_dispatch_guest.specs.MachineState.{MachineState}
-use Rattle.swi_dispatch_guest.specs.Run.{is_among, silent_run, ran}
-use Rattle.swi_dispatch_guest.specs.GuestState.{AreCoreSteps}
-use Rattle.command_shell.specs.State.{ScriptState}
-use Rattle.command_shell.specs.Stepping.{script_after_silent}
+use Rattle.debug_tables.specs.MachineState.{MachineState}
+use Rattle.debug_tables.specs.Run.{is_among, silent_run, ran}
+use Rattle.debug_tables.specs.GuestState.{AreCoreSteps}
+use Rattle.debug_tables.specs.State.{ScriptState}
+use Rattle.debug_tables.specs.Stepping.{script_after_silent}
 
 -- whether more frames than so many are open, and the next step, which doesn't begin at the return gate,
 -- closes none

@@ -7,18 +7,18 @@ use Rattle.arm_core.specs.State.{State}
 use Rattle.debug_labels.specs.Labels.{ImageLabels}
 use Rattle.debug_labels.specs.Places.{LabelledPlace, place_of}
 use Rattle.debug_labels.specs.place_views.Places.{naming_on}
-use Rattle.swi_dispatch_guest.specs.MachineState.{MachineState, StepOutcome}
-use Rattle.trace_effects.specs.changes.Status.{following_word}
-use Rattle.trace_effects.specs.Cause.{cause_of}
-use Rattle.trace_effects.specs.declared.cause.Cause.{Cause}
+use Rattle.debug_tables.specs.MachineState.{MachineState, StepOutcome}
+use Rattle.trace_text.specs.Status.{following_word}
+use Rattle.trace_text.specs.Cause.{cause_of}
+use Rattle.trace_text.specs.TraceEffectsCause.{Cause}
 use Rattle.trace_text.specs.Below.{prints_word}
-use Rattle.trace_effects.specs.Columns.{below_text, columns_text}
+use Rattle.trace_text.specs.Columns.{below_text, columns_text}
 use Rattle.trace_text.specs.Core.{core_words}
 use Rattle.trace_text.specs.Instruction.{branch_destination, front_text, what_text}
 use Rattle.trace_text.specs.Step.{known_outside, step_end_text, step_text}
-use Rattle.command_shell_lines.specs.declared.debug_words.stubs.Stub.{Stub}
+use Rattle.debug_lines.specs.Stub.{Stub}
 use Rattle.debug_tables.specs.Stubs.{StubDeedState, deed_ahead}
-use Rattle.trace_effects.specs.word_text.Stored.{stored_below, stored_here, word_values_from}
+use Rattle.trace_text.specs.Stored.{stored_below, stored_here, word_values_from}
 
 -- `image:label:`, before a step at whose address a label stands
 abbrev pub step_label_line : Option LabelledPlace → List ℕ

@@ -3,19 +3,18 @@
 
 ghost use Rattle.std.specs.Prelude.{◌≡◌, ◌≤◌, ◌<◌, ◌+◌, ◌*◌, ◌-◌, ◌^◌, ℕ, Option, None, false, List, IfOk, OnOk};
 ghost use Rattle.profile.specs.images.Entries.{Entry};
-ghost use Rattle.command_shell.specs.Session.{script_state};
+ghost use Rattle.debug_tables.specs.Session.{script_state};
 ghost use Rattle.debug_tables.specs.counts.Counts.{steps_counted};
 ghost use Rattle.debug_labels.specs.Labels.{ImageLabels};
 ghost use Rattle.debug_runs.specs.BasicBlocks.{RunsOnBehind, IsAfterBlock, IsBasicBlock, block_places, stays_short};
 ghost use Rattle.debug_runs.specs.TraceWriter.{is_step_shown};
-ghost use Rattle.swi_dispatch_guest.specs.GuestState.{state_of};
+ghost use Rattle.debug_tables.specs.GuestState.{state_of};
 
 use crate::running::{RunEnd, RunGoal, count_at, end_of_unseen};
 use crate::silent::take_up_to;
-use command_shell::{Machine, Session};
 use debug_tables::counts::StepCounts;
 use debug_tables::routines::ROUTINE_END;
-use debug_tables::{StepModes, WordFlow, word_flow};
+use debug_tables::{Machine, Session, StepModes, WordFlow, word_flow};
 use profile::WriteFault;
 use profile::memory_map::ADDRESS_LIMIT;
 

@@ -3,15 +3,14 @@
 ghost use Rattle.std.specs.Prelude.{◌≡◌, List, OnOk};
 ghost use Rattle.profile.specs.images.Entries.{Entry};
 ghost use Rattle.profile.specs.Output.{Writes};
-ghost use Rattle.command_shell.specs.Answers.{refused_text};
-ghost use Rattle.command_shell.specs.Session.{script_state};
-ghost use Rattle.command_shell.specs.State.{IsAnswered};
+ghost use Rattle.debug_tables.specs.Answers.{refused_text};
+ghost use Rattle.debug_tables.specs.Session.{script_state};
+ghost use Rattle.debug_tables.specs.State.{IsAnswered};
 ghost use Rattle.debug_runs.specs.Endings.{goal_answer, line_end_answer, line_stop_answer, routine_answer, answer_of_steps, watch_answer};
 
 use crate::running::RunEnd;
-use command_shell::{CallEnd, Session, print_stepped};
 use debug_tables::routines::{Caller, go_back, print_returned};
-use debug_tables::{WatchHit, push_watch};
+use debug_tables::{CallEnd, Session, WatchHit, print_stepped, push_watch};
 use profile::{Sink, Stop, WriteFault, push_parts};
 
 /// What the steps of a line are for.

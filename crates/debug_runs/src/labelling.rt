@@ -4,12 +4,12 @@ ghost use Rattle.std.specs.Prelude.{◌≡◌, option_map};
 ghost use Rattle.debug_labels.specs.Places.{shown_of_place_label};
 ghost use Rattle.profile.specs.Output.{Writes};
 ghost use Rattle.debug_runs.specs.TraceWriter.{label_ahead, label_itself, label_line_in, step_label_line};
-ghost use Rattle.swi_dispatch_guest.specs.GuestState.{state_of};
+ghost use Rattle.debug_tables.specs.GuestState.{state_of};
 
-use command_shell::Machine;
 use debug_labels::{LabelTable, PlaceLabel, PlaceNames};
+use debug_tables::Machine;
 use profile::{Sink, WriteFault, push_parts};
-use trace_effects::Cause;
+use trace_text::Cause;
 use trace_text::instruction::branch_destination;
 
 /// Writes `image:label:` where a label stands at the program counter.

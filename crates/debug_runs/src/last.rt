@@ -1,8 +1,8 @@
 //! A run whose last steps are shown, once it has ended.
 
 ghost use Rattle.std.specs.Prelude.{◌≡◌, ◌≤◌, ◌<◌, ◌+◌, ◌^◌, ◌++◌, None, IfOk, OnOk};
-ghost use Rattle.command_shell.specs.Calls.{step_made};
-ghost use Rattle.command_shell.specs.Session.{script_state};
+ghost use Rattle.debug_tables.specs.Calls.{step_made};
+ghost use Rattle.debug_tables.specs.Session.{script_state};
 ghost use Rattle.debug_tables.specs.counts.Counts.{steps_counted};
 ghost use Rattle.debug_runs.specs.LastSteps.{last_run, text_of_step, texts_of_run, with_step, with_steps};
 ghost use Rattle.debug_runs.specs.Places.{places_of_run};
@@ -15,7 +15,7 @@ use crate::context::StepContext;
 use crate::last_steps::{KeptStep, LastSteps};
 use crate::running::{RunEnd, RunGoal, count_at, end_after};
 use crate::writer::TraceWriter;
-use command_shell::Session;
+use debug_tables::Session;
 use debug_tables::counts::StepCounts;
 use profile::text_sink::TextSink;
 use profile::{Stop, WriteFault, push_all};

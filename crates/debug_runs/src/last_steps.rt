@@ -3,13 +3,13 @@
 ghost use Rattle.std.specs.Prelude.{◌≡◌, ◌<◌, ◌+◌, ◌-◌, ◌^◌, ◌++◌, IfOk, OnOk};
 ghost use Rattle.std.specs.List.{flat_map};
 ghost use Rattle.profile.specs.Output.{Writes};
-ghost use Rattle.command_shell.specs.Session.{script_state};
+ghost use Rattle.debug_tables.specs.Session.{script_state};
 ghost use Rattle.debug_runs.specs.LastSteps.{steps_before_text, whole_text};
 ghost use Rattle.profile.specs.text_sink.TextSink.{sink_text_of};
 
 use crate::context::StepContext;
 use crate::writer::TraceWriter;
-use command_shell::Session;
+use debug_tables::Session;
 use itoa::Buffer;
 use profile::text_sink::TextSink;
 use profile::{Sink, WriteFault, push_all, push_parts};
@@ -34,7 +34,7 @@ impl Model for KeptStep {
 }
 
 impl KeptStep {
-    ghost use Rattle.command_shell.specs.Calls.{step_made};
+    ghost use Rattle.debug_tables.specs.Calls.{step_made};
     ghost use Rattle.debug_runs.specs.LastSteps.{text_of_step};
     ghost use Rattle.debug_runs.specs.Runs.{next_step};
 

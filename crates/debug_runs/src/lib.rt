@@ -18,6 +18,7 @@ mod stub_lines;
 mod writer;
 
 pub use debug_labels::{ImagePlace, LabelTable, PlaceNames};
-pub use debug_tables::StepModes;
+pub use debug_lines::SteppingCommand;
 pub use debug_tables::counts::StepCounts;
+pub use debug_tables::{Session, StepModes};
 pub use lines::{LineAnswer, answer_stepping};

@@ -2,8 +2,8 @@
 
 ghost use Rattle.std.specs.Prelude.{◌≡◌, ◌≤◌, ◌<◌, ◌-◌, ◌%◌, ◌^◌, [], List, length, IfOk, OnOk};
 ghost use Rattle.profile.specs.images.Entries.{Entry};
-ghost use Rattle.command_shell.specs.Calls.{first_step, stop_before_step_by};
-ghost use Rattle.command_shell.specs.Session.{script_state};
+ghost use Rattle.debug_tables.specs.Calls.{first_step, stop_before_step_by};
+ghost use Rattle.debug_tables.specs.Session.{script_state};
 ghost use Rattle.debug_runs.specs.Calls.{outside_start_text};
 ghost use Rattle.debug_runs.specs.Endings.{line_end_answer};
 ghost use Rattle.debug_lines.specs.SteppingRequests.{Gosub, RunLast, stepping_request_of};
@@ -19,12 +19,11 @@ use crate::endings::{EndKind, print_line_end, print_refused};
 use crate::last::run_last;
 use crate::running::{RunEnd, RunGoal, run_steps, take_call};
 use crate::writer::TraceWriter;
-use command_shell::{OutsideCall, Session};
 use debug_labels::LabelTable;
 use debug_lines::SteppingCommand;
-use debug_tables::StepModes;
 use debug_tables::counts::StepCounts;
 use debug_tables::routines::{caller_of, enter};
+use debug_tables::{OutsideCall, Session, StepModes};
 use profile::images::Images;
 use profile::text_sink::TextSink;
 use profile::{Stop, WriteFault};

@@ -2,9 +2,9 @@
 
 ghost use Rattle.std.specs.Prelude.{◌≡◌, ◌≤◌, ◌<◌, ◌-◌, ℕ, List, None, IfOk, OnOk};
 ghost use Rattle.profile.specs.images.Entries.{Entry};
-ghost use Rattle.command_shell.specs.Calls.{first_step};
-ghost use Rattle.command_shell.specs.Session.{script_state};
-ghost use Rattle.command_shell.specs.State.{ScriptState};
+ghost use Rattle.debug_tables.specs.Calls.{first_step};
+ghost use Rattle.debug_tables.specs.Session.{script_state};
+ghost use Rattle.debug_tables.specs.State.{ScriptState};
 ghost use Rattle.debug_runs.specs.Runs.{call_run, end_after, end_of_unseen, is_reached, steps_run, watched_end};
 ghost use Rattle.debug_runs.specs.Calls.{outside_text};
 ghost use Rattle.debug_runs.specs.BasicBlocks.{RunsOnBehind};
@@ -12,16 +12,15 @@ ghost use Rattle.debug_runs.specs.Places.{places_of_call, places_of_run};
 ghost use Rattle.debug_runs.specs.Reported.{IsAfterStepping};
 ghost use Rattle.debug_tables.specs.counts.Counts.{step_counted, steps_counted};
 ghost use Rattle.debug_tables.specs.WordWatches.{watched_words};
-ghost use Rattle.swi_dispatch_guest.specs.GuestState.{state_of};
+ghost use Rattle.debug_tables.specs.GuestState.{state_of};
 
 use crate::basic_blocks::take_basic_blocks;
 use crate::context::StepContext;
 use crate::silent::take_silently;
 use crate::writer::{TraceWriter, is_step_shown};
-use command_shell::{Machine, OutsideCall, Session};
 use debug_tables::counts::StepCounts;
 use debug_tables::routines::ROUTINE_END;
-use debug_tables::{WatchHit, WatchedWord, first_change};
+use debug_tables::{Machine, OutsideCall, Session, WatchHit, WatchedWord, first_change};
 use profile::{Stop, WriteFault};
 
 /// What a run is for.

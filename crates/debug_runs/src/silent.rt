@@ -3,15 +3,15 @@
 ghost use Rattle.std.specs.Prelude.{◌≡◌, ◌≤◌, ◌<◌, ◌-◌, ◌++◌, ◌∷◌, [], ℕ, Option, None, true, false, List};
 ghost use Rattle.debug_labels.specs.Labels.{ImageLabels};
 ghost use Rattle.profile.specs.images.Entries.{Entry};
-ghost use Rattle.command_shell.specs.Session.{script_state};
+ghost use Rattle.debug_tables.specs.Session.{script_state};
 ghost use Rattle.debug_runs.specs.Silent.{IsAfterSilentUpTo, stay_open};
 ghost use Rattle.debug_runs.specs.Runs.{are_unseen, end_of_unseen, run_unless, steps_run};
 ghost use Rattle.debug_tables.specs.declared.modes.StepModes.{StepModes};
-ghost use Rattle.swi_dispatch_guest.specs.GuestState.{state_of};
-ghost use Rattle.swi_dispatch_guest.specs.Run.{is_among};
+ghost use Rattle.debug_tables.specs.GuestState.{state_of};
+ghost use Rattle.debug_tables.specs.Run.{is_among};
 
 use crate::running::RunGoal;
-use command_shell::Session;
+use debug_tables::Session;
 use debug_tables::routines::ROUTINE_END;
 use profile::memory_map::RETURN_GATE;
 

@@ -5,19 +5,16 @@ ghost use Rattle.std.specs.Io.KnownBytes.{Appends};
 ghost use Rattle.trace_text.specs.Instruction.{front_text};
 ghost use Rattle.debug_runs.specs.TraceWriter.{stub_line, stub_words};
 ghost use Rattle.profile.specs.text_sink.TextSink.{sink_text_of};
-ghost use Rattle.swi_dispatch_guest.specs.GuestState.{state_of};
+ghost use Rattle.debug_tables.specs.GuestState.{state_of};
 
 use arm_core::Cpu;
-use command_shell::Machine;
+use debug_tables::Machine;
 use profile::text_sink::TextSink;
 use profile::{Sink, WriteFault, push_all};
 use std::alloc::Global;
-use trace_effects::Cause;
-use trace_effects::changes::following_word;
-use trace_effects::columns::push_line;
-use trace_effects::word_text::{push_stored_below, push_stored_here};
 use trace_text::core_text::push_core;
 use trace_text::instruction::{push_front, text_of};
+use trace_text::{Cause, following_word, push_line, push_stored_below, push_stored_here};
 
 /// Writes the line of a step in whose place a stub did something, by the core before it and the machine
 /// after it, what stood at the program counter, and what stood in the words that were stored.

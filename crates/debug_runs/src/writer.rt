@@ -2,8 +2,8 @@
 
 ghost use Rattle.std.specs.Io.KnownBytes.{Appends};
 ghost use Rattle.std.specs.Prelude.{◌≡◌, ◌<◌, ◌++◌, [], List, Some, IfOk, OnOk};
-ghost use Rattle.command_shell.specs.Session.{script_state};
-ghost use Rattle.swi_dispatch_guest.specs.GuestState.{state_of};
+ghost use Rattle.debug_tables.specs.Session.{script_state};
+ghost use Rattle.debug_tables.specs.GuestState.{state_of};
 ghost use Rattle.trace_text.specs.Start.{known_in};
 ghost use Rattle.trace_text.specs.Step.{known_outside};
 ghost use Rattle.profile.specs.images.Entries.{Entry};
@@ -15,17 +15,16 @@ ghost use Rattle.profile.specs.text_sink.TextSink.{sink_text_of};
 use crate::context::StepContext;
 use crate::labelling::{label_ahead, push_label_line};
 use crate::stub_lines::push_stub_line;
-use command_shell::{Machine, OutsideCall, Session};
-use debug_tables::StubDeed;
+use debug_tables::{Machine, OutsideCall, Session, StubDeed};
 use itoa::Buffer;
 use law_machine::other_bytes::laws::other_bytes_stay;
 use profile::images::Images;
 use profile::text_sink::TextSink;
 use profile::{Sink, WriteFault, push_all, push_parts};
 use std::alloc::Global;
-use trace_effects::word_text::old_words;
-use trace_effects::{Cause, StoredWords};
-use trace_text::{LineRooms, StepStart, StoreCopy, push_prints_line};
+use trace_text::{
+    Cause, LineRooms, StepStart, StoreCopy, StoredWords, old_words, push_prints_line,
+};
 
 /// What is shown of the steps of a line, and what the guest prints in them.
 #[derive(Drop)]
@@ -42,8 +41,8 @@ pub(crate) struct TraceWriter {
 }
 
 impl TraceWriter {
-    ghost use Rattle.command_shell.specs.Calls.{first_step, step_made};
-    ghost use Rattle.swi_dispatch_guest.specs.Step.{machine_step};
+    ghost use Rattle.debug_tables.specs.Calls.{first_step, step_made};
+    ghost use Rattle.debug_tables.specs.Step.{machine_step};
     ghost use Rattle.trace_text.specs.Step.{step_text};
     ghost use Rattle.debug_runs.specs.Runs.{next_step, text_of_next};
     ghost use Rattle.debug_tables.specs.Stubs.{script_after_deed};

@@ -3,7 +3,7 @@ use Rattle.std.proofs.Common.{◌≡◌, ◌≤◌, ℕ, zero, suc, ◌+◌, Boo
 use Rattle.std.specs.Prelude.{◌&&◌, is_none, nat_lt, if◌then◌else◌}
 use Rattle.std.proofs.lemmas.Bool.{cases_Bool}
 use Rattle.std.proofs.lemmas.List.{append-nil}
-use Rattle.assembler.specs.declared.error.AsmError.{AsmError}
+use Rattle.debug_tables.specs.AsmError.{AsmError}
 use Rattle.profile.specs.images.Entries.{Entry}
 use Rattle.debug_tables.specs.BlockErrors.{block_errors, further_errors, is_assembled, next_error, with_others}
 use Rattle.debug_tables.specs.BlockErrorTexts.{text_with_errors}
@@ -17,14 +17,14 @@ use Rattle.command_shell_lines.specs.Requests.{Request, Nothing, Hex, Asm, Boot,
 use Rattle.debug_lines.specs.DebugRequests.{is_script_request}
 use Rattle.debug_session.specs.AsBefore.{LookingLeavesTheMachine, ScriptAsBefore, are_script_lines, stepping_lines}
 use Rattle.command_shell_lines.specs.FailedBlocks.{FailedBlockPlace, block_reason, failed_after}
-use Rattle.debug_modes.specs.expectations.Checks.{check_answer}
-use Rattle.debug_modes.specs.expectations.reports.Reports.{answer_in}
-use Rattle.debug_modes.specs.declared.expectations.reports.reports.ReportForm.{ReportForm}
-use Rattle.debug_modes.specs.Modes.{takes_over}
+use Rattle.debug_modules.specs.Checks.{check_answer}
+use Rattle.debug_modules.specs.Reports.{answer_in}
+use Rattle.debug_modules.specs.ReportForm.{ReportForm}
+use Rattle.debug_modules.specs.Modes.{takes_over}
 use Rattle.debug_session.specs.DebugScript.{checked_answer, state_after_line, state_with_answer, plain_line_answer, seen_of, some_lines_answer, answer_or_refused, failed_with_block, with_block_noted, with_line_below}
 use Rattle.debug_lines.specs.LineKinds.{asks_nothing, is_refused_block, takes_steps}
 use Rattle.debug_session.specs.DebugState.{DebugAnswered, DebugState, then_debugged}
-use Rattle.debug_modes.specs.declared.expectations.reports.reports.ReportForm.TheVariants.{Answers}
+use Rattle.debug_modules.specs.ReportForm.TheVariants.{Answers}
 use Rattle.debug_session.specs.declared.session.DebugSettings.{DebugSettings}
 use Rattle.debug_session.proofs.UnreadLemmas.{IsUnread, budget_unread}
 

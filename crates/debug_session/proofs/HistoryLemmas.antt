@@ -9,32 +9,32 @@ use Rattle.debug_tables.specs.run_meter.Script.{request_answer}
 use Rattle.debug_tables.specs.run_meter.MachineState.{machine_start, stop_of}
 use Rattle.debug_tables.specs.run_meter.State.{Answered, ScriptState, script_start_state}
 use Rattle.command_shell_lines.specs.debug_words.NamedBytes.{bytes_written, named_bytes, or_no_bytes}
-use Rattle.debug_labels.specs.Labels.{ImageLabels}
+use Rattle.debug_modules.specs.Labels.{ImageLabels}
 use Rattle.debug_lines.specs.DebugRequests as own
 use Rattle.debug_lines.specs.SteppingRequests as stepping
-use Rattle.debug_history.specs.Answers.{PastAnswered, back_until, last_in_past, past_answered, past_asked, past_command, past_gone_back, past_shown, undone}
-use Rattle.debug_history.specs.Laws.{IsPastOf}
-use Rattle.debug_history.specs.Lines.{last_steps_asked}
+use Rattle.debug_modules.specs.DebugHistoryAnswers.{PastAnswered, back_until, last_in_past, past_answered, past_asked, past_command, past_gone_back, past_shown, undone}
+use Rattle.debug_modules.specs.DebugHistoryLaws.{IsPastOf}
+use Rattle.debug_modules.specs.DebugHistoryLines.{last_steps_asked}
 use Rattle.debug_lines.specs.LineKinds.{asks_nothing, is_refused_block}
-use Rattle.debug_history.specs.Noted.{is_faulted, past_after_request, past_with_deed}
-use Rattle.debug_history.specs.Acts.{PastMoment, moment_after_acts}
-use Rattle.debug_history.specs.Past.{PastState, line_of_last_act, moment_after_past, past_from_start}
+use Rattle.debug_modules.specs.Noted.{is_faulted, past_after_request, past_with_deed}
+use Rattle.debug_modules.specs.Acts.{PastMoment, moment_after_acts}
+use Rattle.debug_modules.specs.Past.{PastState, line_of_last_act, moment_after_past, past_from_start}
 use Rattle.command_shell_lines.specs.debug_words.PastTexts.{no_history_text}
-use Rattle.debug_history.specs.declared.act.PastDeed.TheVariants as deed
-use Rattle.debug_history.specs.declared.lines.PastCommand.{PastCommand}
-use Rattle.debug_history.specs.declared.lines.PastCommand.TheVariants as past
-use Rattle.debug_history.specs.declared.search.PastFound.{PastFound}
-use Rattle.debug_history.specs.declared.search.Sought.TheVariants.{Stood}
-use Rattle.debug_history.proofs.LineNotedLemmas.{image_forgotten, noted_is_done, refused_block}
-use Rattle.debug_history.proofs.AgainLemmas.{beside_at, moment_at, put_at}
-use Rattle.debug_history.proofs.NotedLemmas.{deed_noted}
+use Rattle.debug_modules.specs.PastDeed.TheVariants as deed
+use Rattle.debug_modules.specs.PastCommand.{PastCommand}
+use Rattle.debug_modules.specs.PastCommand.TheVariants as past
+use Rattle.debug_modules.specs.PastFound.{PastFound}
+use Rattle.debug_modules.specs.Sought.TheVariants.{Stood}
+use Rattle.debug_modules.proofs.LineNotedLemmas.{image_forgotten, noted_is_done, refused_block}
+use Rattle.debug_modules.proofs.AgainLemmas.{beside_at, moment_at, put_at}
+use Rattle.debug_modules.proofs.NotedLemmas.{deed_noted}
 use Rattle.profile.specs.Outcome.{Leaves}
-use Rattle.debug_modes.specs.OwnAnswers.{put_text}
+use Rattle.debug_modules.specs.OwnAnswers.{put_text}
 use Rattle.command_shell_lines.specs.FailedBlocks.{block_reason}
-use Rattle.debug_modes.specs.Modes.{answer_of_line}
-use Rattle.debug_modes.specs.expectations.Checks.{check_answer, status_after_pattern}
-use Rattle.debug_modes.specs.expectations.Halted.{halting_fault}
-use Rattle.debug_modes.specs.expectations.reports.Reports.{report_of_refusal, with_refusal, answer_in}
+use Rattle.debug_modules.specs.Modes.{answer_of_line}
+use Rattle.debug_modules.specs.Checks.{check_answer, status_after_pattern}
+use Rattle.debug_modules.specs.Halted.{halting_fault}
+use Rattle.debug_modules.specs.Reports.{report_of_refusal, with_refusal, answer_in}
 use Rattle.debug_session.specs.DebugScript.{answer_or_refused, checked_answer, plain_line_answer, bytes_done, past_line_by, past_line_or_steps, put_found, script_line_answer_in, seen_of, set_pc_by, state_after_line, state_with_answer, stepping_line_answer, stepping_now, with_block_noted}
 use Rattle.debug_session.specs.DebugState.{DebugAnswered, DebugState}
 use Rattle.debug_session.specs.History.{HistoryChangesNoAnswer, IsSameButPast, IsUnhaltedWhereFresh, PastIsOfTheMachine}

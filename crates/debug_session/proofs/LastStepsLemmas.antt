@@ -5,42 +5,42 @@ use Rattle.std.proofs.lemmas.Bool.Decides.{nat_tests}
 use Rattle.profile.specs.images.Entries.{Entry}
 use Rattle.profile.specs.declared.stop.Stop.{Stop}
 use Rattle.profile.specs.declared.stop.Stop.TheVariants as stop
-use Rattle.debug_labels.specs.Labels.{ImageLabels}
-use Rattle.debug_history.specs.Halt.{Halt}
+use Rattle.debug_modules.specs.Labels.{ImageLabels}
+use Rattle.debug_tables.specs.Halt.{Halt}
 use Rattle.debug_tables.specs.run_meter.MachineState.{MachineState, StepOutcome, stop_of}
-use Rattle.debug_history.specs.MachineRun.{count_after}
-use Rattle.debug_history.specs.MachineSteps.{machine_step, module_loaded, store_called}
-use Rattle.debug_history.specs.ShellCalls.{answer_after_steps, call_end, call_made, finished_by, step_made, stop_answer, stop_before_step, stop_before_step_by}
-use Rattle.debug_history.specs.CallEnd.{CallEnd}
-use Rattle.debug_history.specs.CallEnd.TheVariants as cend
-use Rattle.debug_history.proofs.ShellCallLemmas.{call_allowed, finished_ends, halted_ends}
+use Rattle.debug_tables.specs.Run.{count_after}
+use Rattle.debug_tables.specs.Step.{machine_step, module_loaded, store_called}
+use Rattle.debug_tables.specs.Calls.{answer_after_steps, call_end, call_made, finished_by, step_made, stop_answer, stop_before_step, stop_before_step_by}
+use Rattle.debug_tables.specs.CallEnd.{CallEnd}
+use Rattle.debug_tables.specs.CallEnd.TheVariants as cend
+use Rattle.debug_tables.proofs.CallLemmas.{call_allowed, finished_ends, halted_ends}
 use Rattle.debug_tables.specs.run_meter.Memory.{script_with_budget, script_with_last}
 use Rattle.debug_tables.specs.run_meter.State.{ScriptState}
 use Rattle.debug_lines.specs.SteppingRequests.{SteppingRequest}
 use Rattle.debug_lines.specs.SteppingRequests as asked
-use Rattle.debug_history.specs.Acts.{PastMoment, changed_moment, moment_after_deed, moment_after_steps, moment_of_script, steps_behind, stubs_of_deed}
-use Rattle.debug_history.specs.Again.{IsAtMoment}
-use Rattle.debug_history.specs.Steps.{steps_after}
-use Rattle.debug_history.specs.declared.act.PastDeed.{PastDeed}
-use Rattle.debug_history.specs.declared.act.PastDeed.TheVariants as deed
-use Rattle.debug_history.proofs.AgainLemmas.{IsBeside, at_moment, beside_at, beside_both, moment_at}
-use Rattle.debug_history.proofs.StepLemmas.{halted_left, none_left, steps_added}
-use Rattle.debug_runs.specs.Lines.{stepping_answer}
-use Rattle.debug_runs.proofs.PlainLemmas.{lines_are}
-use Rattle.debug_runs.proofs.TracedLemmas.{same_line}
+use Rattle.debug_modules.specs.Acts.{PastMoment, changed_moment, moment_after_deed, moment_after_steps, moment_of_script, steps_behind, stubs_of_deed}
+use Rattle.debug_modules.specs.Again.{IsAtMoment}
+use Rattle.debug_modules.specs.Steps.{steps_after}
+use Rattle.debug_modules.specs.PastDeed.{PastDeed}
+use Rattle.debug_modules.specs.PastDeed.TheVariants as deed
+use Rattle.debug_modules.proofs.AgainLemmas.{IsBeside, at_moment, beside_at, beside_both, moment_at}
+use Rattle.debug_modules.proofs.StepLemmas.{halted_left, none_left, steps_added}
+use Rattle.debug_modules.specs.Lines.{stepping_answer}
+use Rattle.debug_modules.proofs.PlainLemmas.{lines_are}
+use Rattle.debug_modules.proofs.TracedLemmas.{same_line}
 use Rattle.debug_session.specs.LastSteps.{modes_with_stubs, script_at_past, script_to_trace, steps_shown}
 use Rattle.command_shell_lines.specs.declared.debug_words.stubs.Stub.{Stub}
-use Rattle.debug_runs.specs.Endings.{line_end_answer}
-use Rattle.debug_runs.specs.Lines.{answer_unless}
-use Rattle.debug_runs.specs.Runs.{SteppingRun, end_after, next_step, run_behind, run_ended, run_unless, steps_run, text_of_next}
-use Rattle.debug_runs.specs.TraceWriter.{one_answer}
-use Rattle.debug_runs.specs.declared.endings.EndKind.TheVariants as kind
-use Rattle.debug_runs.specs.declared.running.RunEnd.{RunEnd}
-use Rattle.debug_runs.specs.declared.running.RunEnd.TheVariants as end
-use Rattle.debug_runs.specs.declared.running.RunGoal.{RunGoal}
-use Rattle.debug_runs.specs.declared.running.RunGoal.TheVariants as goal
+use Rattle.debug_modules.specs.Endings.{line_end_answer}
+use Rattle.debug_modules.specs.Lines.{answer_unless}
+use Rattle.debug_modules.specs.Runs.{SteppingRun, end_after, next_step, run_behind, run_ended, run_unless, steps_run, text_of_next}
+use Rattle.debug_modules.specs.TraceWriter.{one_answer}
+use Rattle.debug_modules.specs.EndKind.TheVariants as kind
+use Rattle.debug_modules.specs.RunEnd.{RunEnd}
+use Rattle.debug_modules.specs.RunEnd.TheVariants as end
+use Rattle.debug_modules.specs.RunGoal.{RunGoal}
+use Rattle.debug_modules.specs.RunGoal.TheVariants as goal
 use Rattle.debug_tables.specs.declared.modes.StepModes.{StepModes}
-use Rattle.debug_history.proofs.StepLemmas.{steps_halted}
+use Rattle.debug_modules.proofs.StepLemmas.{steps_halted}
 use Rattle.debug_session.proofs.RunPastLemmas.{IsRun, ended_left, enough_after, goes_unhalted, left_by, run_less, steps_are_run}
 
 -- a script that went on to a moment, and what is left of its steps

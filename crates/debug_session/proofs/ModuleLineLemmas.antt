@@ -6,17 +6,17 @@ use Rattle.profile.specs.Outcome.{Leaves}
 use Rattle.profile.specs.declared.fault.Fault.{Fault}
 use Rattle.profile.specs.images.Entries.{Entry}
 use Rattle.arm_core.specs.declared.psr.Psr.{Psr}
-use Rattle.debug_history.proofs.AgainLemmas.{beside_at, moment_at, put_at}
-use Rattle.debug_history.proofs.NotedLemmas.{deed_noted}
-use Rattle.debug_history.specs.Laws.{IsPastOf}
-use Rattle.debug_history.specs.Noted.{has_returned, past_with_deed}
-use Rattle.debug_history.specs.Past.{PastState}
-use Rattle.debug_history.specs.declared.act.PastDeed.TheVariants as deed
-use Rattle.debug_labels.specs.Labels.{ImageLabels}
+use Rattle.debug_modules.proofs.AgainLemmas.{beside_at, moment_at, put_at}
+use Rattle.debug_modules.proofs.NotedLemmas.{deed_noted}
+use Rattle.debug_modules.specs.DebugHistoryLaws.{IsPastOf}
+use Rattle.debug_modules.specs.Noted.{has_returned, past_with_deed}
+use Rattle.debug_modules.specs.Past.{PastState}
+use Rattle.debug_modules.specs.PastDeed.TheVariants as deed
+use Rattle.debug_modules.specs.Labels.{ImageLabels}
 use Rattle.debug_lines.specs.SteppingRequests as stepping
-use Rattle.debug_modes.specs.Modes.{answer_of_line}
-use Rattle.debug_modes.specs.declared.modes.DebugModes.{DebugModes}
-use Rattle.debug_modes.specs.expectations.Why.{why_text}
+use Rattle.debug_modules.specs.Modes.{answer_of_line}
+use Rattle.debug_modules.specs.DebugModes.{DebugModes}
+use Rattle.debug_modules.specs.Why.{why_text}
 use Rattle.debug_modules.specs.Answers.{ModuleAnswered, ModuleShown, Steps, Text, command_by, command_called, command_put_by, entered_so, error_below, module_answered, module_line_answered, module_line_asked, modes_after_modules, only_shown, past_after_modules, script_after_modules}
 use Rattle.debug_modules.specs.Entering.{at_entry, back_if_returned, module_code_entered, past_at_entry, status_gone_back, supervisor, with_status_back}
 use Rattle.debug_modules.specs.Plans.{command_plan, tail_address, tail_bytes}

@@ -2,7 +2,7 @@
 use Rattle.std.proofs.Common.{◌≡◌, ℕ, Bool, true, false, List, Option, Some, None, refl, ap, subst, sym, ◌∙◌}
 use Rattle.std.specs.Prelude.{if◌then◌else◌}
 use Rattle.std.proofs.lemmas.Bool.{not-true}
-use Rattle.debug_labels.specs.Lines.{LineNaming}
+use Rattle.debug_modules.specs.DebugLabelsLines.{LineNaming}
 use Rattle.command_shell_lines.specs.Requests.{opens_block}
 use Rattle.debug_lines.specs.DebugRequests.{DebugRequest, Script, Stepping, Mode, Remark, View, SetPc, SetPsr, Put, Write, Forget, Counts, Reset, Quit, Expect, Repeat, NotKnown, debug_opens_block, is_known, is_repeatable, own_request, own_request_by, repeated_line, simple_request}
 use Rattle.debug_lines.specs.Repeats.{repeated_text}

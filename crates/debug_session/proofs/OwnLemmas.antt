@@ -12,26 +12,26 @@ use Rattle.debug_tables.specs.run_meter.State.{Answered, IsAnswered, ScriptState
 use Rattle.debug_tables.specs.run_meter.Memory.{script_started_anew, script_with_budget}
 use Rattle.command_shell_lines.specs.Requests.{Request, Nothing, Hex, Asm, Boot, Run, Regs, Set, Poke, Call, Load, Step, Break, Unbreak, Mem, Code, Heap, Areas, Modules, Flex, Unknown, opens_block}
 use Rattle.command_shell_lines.specs.FailedBlocks.{FailedBlockPlace, block_reason}
-use Rattle.debug_modes.specs.expectations.Endings.{ending_of, output_of}
-use Rattle.debug_labels.specs.Labels.{ImageLabels}
-use Rattle.debug_modes.specs.declared.modes.DebugModes.{DebugModes}
+use Rattle.debug_modules.specs.DebugModesEndings.{ending_of, output_of}
+use Rattle.debug_modules.specs.Labels.{ImageLabels}
+use Rattle.debug_modules.specs.DebugModes.{DebugModes}
 use Rattle.debug_session.specs.Naming.{labels_with_block}
 use Rattle.debug_session.specs.DebugScript.{machine_change_answer, checked_answer, labels_after, past_after_line, simple_request_answer, state_after_line, state_with_answer, script_line_answer, script_line_answer_by, answer_or_refused, line_in_modes_answer, past_after_reset, view_answer, with_block_noted}
 use Rattle.debug_lines.specs.LineKinds.{asks_nothing, is_named_image, is_refused_block, takes_steps}
-use Rattle.debug_history.specs.Noted.{is_faulted, past_after_request, past_with_deed}
-use Rattle.debug_history.specs.Past.{PastState, past_from_start}
-use Rattle.debug_history.specs.declared.act.PastDeed.{PastDeed}
-use Rattle.debug_history.specs.declared.act.PastDeed.TheVariants.{Anew}
+use Rattle.debug_modules.specs.Noted.{is_faulted, past_after_request, past_with_deed}
+use Rattle.debug_modules.specs.Past.{PastState, past_from_start}
+use Rattle.debug_modules.specs.PastDeed.{PastDeed}
+use Rattle.debug_modules.specs.PastDeed.TheVariants.{Anew}
 use Rattle.profile.specs.images.Entries.{Entry}
 use Rattle.debug_tables.specs.run_meter.Session.{script_state}
 use Rattle.debug_session.specs.DebugState.{DebugAnswered, DebugState, IsDebugged, debug_answer}
 use Rattle.debug_session.specs.Session.{debug_state}
-use Rattle.debug_modes.specs.declared.expectations.reports.reports.CheckTally.{CheckTally}
+use Rattle.debug_modules.specs.CheckTally.{CheckTally}
 use Rattle.debug_session.specs.declared.session.DebugSession.{DebugSession}
-use Rattle.debug_modes.specs.expectations.reports.Reports.{answer_in, is_untested}
+use Rattle.debug_modules.specs.Reports.{answer_in, is_untested}
 use Rattle.debug_session.specs.ExitStatus.{debug_status}
-use Rattle.debug_modes.specs.declared.expectations.reports.reports.ReportForm.{ReportForm}
-use Rattle.debug_modes.specs.declared.expectations.reports.reports.ReportForm.TheVariants.{Answers, Tap}
+use Rattle.debug_modules.specs.ReportForm.{ReportForm}
+use Rattle.debug_modules.specs.ReportForm.TheVariants.{Answers, Tap}
 use Rattle.debug_session.specs.declared.session.DebugSettings.{DebugSettings}
 
 pub untested_status : (d : DebugState) (untested : Bool) (last : Option Stop) (status : ℕ)

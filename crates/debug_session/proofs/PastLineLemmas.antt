@@ -3,8 +3,8 @@ use Rattle.std.proofs.Common.{◌≡◌, ℕ, List, [], Option, Some, None, ap, 
 use Rattle.std.specs.Prelude.{unwrap_or}
 use Rattle.std.specs.Option.{option_map}
 use Rattle.debug_tables.specs.run_meter.State.{ScriptState}
-use Rattle.debug_history.specs.Answers.{PastAnswered, past_after_past, past_line_answered, script_after_past}
-use Rattle.debug_history.specs.Past.{PastState}
+use Rattle.debug_modules.specs.DebugHistoryAnswers.{PastAnswered, past_after_past, past_line_answered, script_after_past}
+use Rattle.debug_modules.specs.Past.{PastState}
 use Rattle.debug_session.specs.DebugScript.{module_line_answer, past_line_by, past_line_or_steps, view_answer}
 use Rattle.debug_session.specs.LastSteps.{last_steps_answer}
 use Rattle.debug_session.specs.DebugState.{DebugAnswered, DebugState, IsDebugged}

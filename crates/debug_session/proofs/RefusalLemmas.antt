@@ -3,18 +3,18 @@ use Rattle.std.proofs.Common.{◌≡◌, ℕ, Bool, true, false, List, [], ◌++
 use Rattle.std.proofs.lemmas.List.{append-nil}
 use Rattle.std.specs.Prelude.{codes}
 use Rattle.std.specs.Fmt.{decimal}
-use Rattle.debug_modes.specs.declared.expectations.reports.reports.ReportForm.{ReportForm}
-use Rattle.debug_modes.specs.expectations.reports.Reports.{report_of_refusal}
-use Rattle.debug_modes.specs.declared.expectations.reports.reports.ReportForm.TheVariants.{Answers}
+use Rattle.debug_modules.specs.ReportForm.{ReportForm}
+use Rattle.debug_modules.specs.Reports.{report_of_refusal}
+use Rattle.debug_modules.specs.ReportForm.TheVariants.{Answers}
 use Rattle.debug_session.specs.AsBefore.{BlockAnsweredAsBefore, LineRefusedAsBefore, RefusedAsBefore}
 use Rattle.debug_lines.specs.LineKinds.{is_refused_block}
 use Rattle.debug_session.specs.DebugScript.{state_after_line, answer_or_refused}
 use Rattle.debug_session.specs.DebugState.{DebugState}
 use Rattle.debug_session.specs.Naming.{naming_of}
-use Rattle.debug_modes.specs.OwnAnswers.{reasoned_text}
+use Rattle.debug_modules.specs.OwnAnswers.{reasoned_text}
 use Rattle.debug_session.specs.Refusals.{GoesOnBehind}
 use Rattle.debug_session.specs.declared.session.DebugSettings.{DebugSettings}
-use Rattle.debug_labels.specs.Reasons.{refusal_reason}
+use Rattle.debug_modules.specs.Reasons.{refusal_reason}
 use Rattle.debug_tables.specs.BlockErrorTexts.{block_errors_text, text_with_errors}
 use Rattle.command_shell_lines.specs.Requests.{Request}
 

@@ -6,32 +6,32 @@ use Rattle.std.proofs.Math.Bool.{and-false}
 use Rattle.std.proofs.lemmas.Bool.Decides.{nat_tests}
 use Rattle.profile.specs.declared.stop.Stop.{Stop}
 use Rattle.profile.specs.declared.stop.Stop.TheVariants as stop
-use Rattle.debug_labels.specs.Labels.{ImageLabels}
-use Rattle.debug_history.specs.Halt.{Halt}
-use Rattle.debug_history.specs.Halt.TheVariants as halt
+use Rattle.debug_modules.specs.Labels.{ImageLabels}
+use Rattle.debug_tables.specs.Halt.{Halt}
+use Rattle.debug_tables.specs.Halt.TheVariants as halt
 use Rattle.debug_tables.specs.run_meter.MachineState.{StepOutcome, stop_of}
-use Rattle.debug_history.specs.MachineRun.{count_after}
-use Rattle.debug_history.specs.ShellCalls.{step_made, stop_before_step_by}
+use Rattle.debug_tables.specs.Run.{count_after}
+use Rattle.debug_tables.specs.Calls.{step_made, stop_before_step_by}
 use Rattle.debug_tables.specs.run_meter.Memory.{script_with_last}
-use Rattle.debug_history.specs.CallEnd.TheVariants as cend
-use Rattle.debug_history.proofs.ShellCallLemmas.{can_step}
+use Rattle.debug_tables.specs.CallEnd.TheVariants as cend
+use Rattle.debug_tables.proofs.CallLemmas.{can_step}
 use Rattle.debug_tables.specs.run_meter.State.{ScriptState}
 use Rattle.debug_tables.specs.declared.modes.StepModes.{StepModes}
 use Rattle.command_shell_lines.specs.declared.debug_words.stubs.Stub.{Stub}
-use Rattle.debug_runs.specs.Endings.{line_end_answer, line_stop_answer}
-use Rattle.debug_runs.specs.Lines.{answer_unless}
-use Rattle.debug_runs.specs.Runs.{SteppingRun, end_after, next_step, run_behind, run_end_by, run_ended, run_unless, steps_run, text_of_next}
-use Rattle.debug_runs.specs.TraceWriter.{one_answer}
-use Rattle.debug_runs.specs.declared.endings.EndKind.{EndKind}
-use Rattle.debug_runs.specs.declared.endings.EndKind.TheVariants as kind
-use Rattle.debug_runs.specs.declared.running.RunEnd.{RunEnd}
-use Rattle.debug_runs.specs.declared.running.RunEnd.TheVariants as end
-use Rattle.debug_runs.specs.declared.running.RunGoal.{RunGoal}
-use Rattle.debug_history.specs.Laws.{IsPastOf}
-use Rattle.debug_history.specs.Noted.{is_faulted, past_with_stubbed}
-use Rattle.debug_history.specs.Past.{PastState}
-use Rattle.debug_history.proofs.CallNotedLemmas.{IsCalled, called_end, called_on, none_taken}
-use Rattle.debug_history.proofs.NotedLemmas.{led_more, led_nowhere, steps_noted}
+use Rattle.debug_modules.specs.Endings.{line_end_answer, line_stop_answer}
+use Rattle.debug_modules.specs.Lines.{answer_unless}
+use Rattle.debug_modules.specs.Runs.{SteppingRun, end_after, next_step, run_behind, run_end_by, run_ended, run_unless, steps_run, text_of_next}
+use Rattle.debug_modules.specs.TraceWriter.{one_answer}
+use Rattle.debug_modules.specs.EndKind.{EndKind}
+use Rattle.debug_modules.specs.EndKind.TheVariants as kind
+use Rattle.debug_modules.specs.RunEnd.{RunEnd}
+use Rattle.debug_modules.specs.RunEnd.TheVariants as end
+use Rattle.debug_modules.specs.RunGoal.{RunGoal}
+use Rattle.debug_modules.specs.DebugHistoryLaws.{IsPastOf}
+use Rattle.debug_modules.specs.Noted.{is_faulted, past_with_stubbed}
+use Rattle.debug_modules.specs.Past.{PastState}
+use Rattle.debug_modules.proofs.CallNotedLemmas.{IsCalled, called_end, called_on, none_taken}
+use Rattle.debug_modules.proofs.NotedLemmas.{led_more, led_nowhere, steps_noted}
 use Rattle.debug_session.specs.History.{IsUnhaltedWhereFresh}
 
 -- RUNS

@@ -9,16 +9,16 @@ use Rattle.profile.specs.declared.fault.Fault.{Fault}
 use Rattle.debug_tables.specs.run_meter.Answers.{refused_text}
 use Rattle.debug_tables.specs.run_meter.State.{ScriptState}
 use Rattle.command_shell_lines.specs.Requests.{Request, Nothing, Hex, Asm, Boot, Run, Regs, Set, Poke, Call, Load, Step, Break, Unbreak, Mem, Code, Heap, Areas, Modules, Flex, Unknown, opens_block}
-use Rattle.debug_history.specs.Noted.{past_with_deed}
-use Rattle.debug_history.specs.Past.{PastState}
-use Rattle.debug_history.specs.declared.act.PastDeed.TheVariants.{Bytes}
+use Rattle.debug_modules.specs.Noted.{past_with_deed}
+use Rattle.debug_modules.specs.Past.{PastState}
+use Rattle.debug_modules.specs.PastDeed.TheVariants.{Bytes}
 use Rattle.debug_lines.specs.SteppingRequests.{SteppingRequest, stepping_in}
-use Rattle.debug_modes.specs.declared.modes.DebugModes.{DebugModes}
+use Rattle.debug_modules.specs.DebugModes.{DebugModes}
 use Rattle.debug_session.specs.DebugScript.{bytes_done, stepping_answer_by, view_answer}
 use Rattle.debug_session.specs.DebugState.{DebugAnswered, DebugState, IsDebugged}
-use Rattle.debug_modes.specs.expectations.reports.Reports.{answer_in}
-use Rattle.debug_modes.specs.declared.expectations.reports.reports.ReportForm.{ReportForm}
-use Rattle.debug_modes.specs.declared.expectations.reports.reports.ReportForm.TheVariants.{Answers, Tap}
+use Rattle.debug_modules.specs.Reports.{answer_in}
+use Rattle.debug_modules.specs.ReportForm.{ReportForm}
+use Rattle.debug_modules.specs.ReportForm.TheVariants.{Answers, Tap}
 use Rattle.debug_session.specs.declared.session.DebugSettings.{DebugSettings}
 
 -- a line that takes steps opens no block

@@ -7,37 +7,37 @@ use Rattle.profile.specs.declared.fault.Fault.TheVariants as fault
 use Rattle.profile.specs.declared.stop.Stop.{Stop}
 use Rattle.profile.specs.declared.stop.Stop.TheVariants as stop
 use Rattle.command_shell_lines.specs.declared.debug_words.stubs.Stub.{Stub}
-use Rattle.debug_labels.specs.Labels.{ImageLabels}
-use Rattle.debug_history.specs.Halt.{Halt}
+use Rattle.debug_modules.specs.Labels.{ImageLabels}
+use Rattle.debug_tables.specs.Halt.{Halt}
 use Rattle.debug_tables.specs.run_meter.MachineState.{StepOutcome}
-use Rattle.debug_history.specs.MachineSteps.{module_loaded, store_called}
-use Rattle.debug_history.specs.ShellCalls.{step_made, stop_before_step_by}
+use Rattle.debug_tables.specs.Step.{module_loaded, store_called}
+use Rattle.debug_tables.specs.Calls.{step_made, stop_before_step_by}
 use Rattle.debug_tables.specs.run_meter.Memory.{script_with_bank_register, script_with_last}
 use Rattle.debug_tables.specs.run_meter.Writes.{machine_with_register}
-use Rattle.debug_history.proofs.ShellCallLemmas.{can_step}
+use Rattle.debug_tables.proofs.CallLemmas.{can_step}
 use Rattle.debug_lines.specs.SteppingRequests as stepping
 use Rattle.debug_tables.specs.run_meter.State.{ScriptState}
 use Rattle.debug_tables.specs.Routines.{caller_in, routine_end, script_at_routine, script_back}
-use Rattle.debug_runs.specs.Endings.{line_end_answer}
-use Rattle.debug_runs.specs.Lines.{SteppingAnswer, answer_unless, finish_answer, stepping_answer}
-use Rattle.debug_runs.specs.Runs.{SteppingRun, call_run, end_after, steps_run}
-use Rattle.debug_runs.specs.TraceWriter.{answer_of_step, one_answer}
-use Rattle.debug_runs.specs.declared.endings.EndKind.TheVariants as kind
-use Rattle.debug_runs.specs.declared.running.RunEnd.{RunEnd}
-use Rattle.debug_runs.specs.declared.running.RunEnd.TheVariants as end
-use Rattle.debug_runs.specs.declared.running.RunGoal.{RunGoal}
-use Rattle.debug_runs.specs.declared.running.RunGoal.TheVariants as goal
-use Rattle.debug_runs.proofs.TracedLemmas.{last_is_run}
-use Rattle.debug_history.specs.Laws.{IsPastOf}
-use Rattle.debug_history.specs.Noted.{is_faulted, is_idle, past_after_stepping, past_at_routine, past_with_call, past_with_deed, past_with_gosub, past_with_return, past_with_stubbed, has_returned, steps_before}
-use Rattle.debug_history.specs.Past.{PastState}
-use Rattle.debug_history.specs.declared.act.PastDeed.{PastDeed}
-use Rattle.debug_history.specs.declared.act.PastDeed.TheVariants as deed
-use Rattle.debug_history.specs.declared.noting.SteppingNote.{SteppingNote}
-use Rattle.debug_history.proofs.CallNotedLemmas.{IsCallOf, done_by, none_taken, refused_by}
-use Rattle.debug_history.proofs.LineNotedLemmas.{is_call, is_load, most_left}
-use Rattle.debug_history.proofs.NotedLemmas.{deed_noted}
-use Rattle.debug_modes.specs.declared.modes.DebugModes.{DebugModes}
+use Rattle.debug_modules.specs.Endings.{line_end_answer}
+use Rattle.debug_modules.specs.Lines.{SteppingAnswer, answer_unless, finish_answer, stepping_answer}
+use Rattle.debug_modules.specs.Runs.{SteppingRun, call_run, end_after, steps_run}
+use Rattle.debug_modules.specs.TraceWriter.{answer_of_step, one_answer}
+use Rattle.debug_modules.specs.EndKind.TheVariants as kind
+use Rattle.debug_modules.specs.RunEnd.{RunEnd}
+use Rattle.debug_modules.specs.RunEnd.TheVariants as end
+use Rattle.debug_modules.specs.RunGoal.{RunGoal}
+use Rattle.debug_modules.specs.RunGoal.TheVariants as goal
+use Rattle.debug_modules.proofs.TracedLemmas.{last_is_run}
+use Rattle.debug_modules.specs.DebugHistoryLaws.{IsPastOf}
+use Rattle.debug_modules.specs.Noted.{is_faulted, is_idle, past_after_stepping, past_at_routine, past_with_call, past_with_deed, past_with_gosub, past_with_return, past_with_stubbed, has_returned, steps_before}
+use Rattle.debug_modules.specs.Past.{PastState}
+use Rattle.debug_modules.specs.PastDeed.{PastDeed}
+use Rattle.debug_modules.specs.PastDeed.TheVariants as deed
+use Rattle.debug_modules.specs.SteppingNote.{SteppingNote}
+use Rattle.debug_modules.proofs.CallNotedLemmas.{IsCallOf, done_by, none_taken, refused_by}
+use Rattle.debug_modules.proofs.LineNotedLemmas.{is_call, is_load, most_left}
+use Rattle.debug_modules.proofs.NotedLemmas.{deed_noted}
+use Rattle.debug_modules.specs.DebugModes.{DebugModes}
 use Rattle.debug_session.specs.History.{IsUnhaltedWhereFresh}
 use Rattle.debug_modules.specs.Taking.{note_of}
 use Rattle.debug_session.proofs.RunPastLemmas.{IsNoted, busy, enough_after, halted_end, left_by, run_called, run_noted, steps_are_run, steps_like_calls, steps_some, stopped_noted, unless_called, unless_noted}

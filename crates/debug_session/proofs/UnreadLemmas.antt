@@ -1,10 +1,10 @@
 -- A line of a script that takes no steps reads nothing of the budget, and leaves it.
 use Rattle.std.proofs.Common.{◌≡◌, ℕ, false, List, Option, Some, None, Result, Ok, Err, refl}
 use Rattle.std.specs.Prelude.{codes}
-use Rattle.assembler.specs.Passes.{means_lines}
-use Rattle.assembler.specs.declared.error.AsmError.{AsmError}
-use Rattle.debug_modes.specs.expectations.Flex.{flex_text}
-use Rattle.debug_modes.specs.expectations.Heap.{heap_blocks_text}
+use Rattle.debug_tables.specs.Passes.{means_lines}
+use Rattle.debug_tables.specs.AsmError.{AsmError}
+use Rattle.debug_modules.specs.Flex.{flex_text}
+use Rattle.debug_modules.specs.Heap.{heap_blocks_text}
 use Rattle.debug_tables.specs.run_meter.Boot.{machine_after_boot}
 use Rattle.debug_tables.specs.run_meter.BootError.{BootError}
 use Rattle.arm_core.specs.breaks.Breaks.{with_break, without_break}

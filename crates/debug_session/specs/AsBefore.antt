@@ -9,11 +9,11 @@ use Rattle.command_shell_lines.specs.Requests.{Request, opens_block, request_of}
 use Rattle.debug_lines.specs.LineKinds.{takes_steps}
 use Rattle.debug_lines.specs.DebugRequests.{DebugRequest, Expect, View, ViewRequest, is_script_request}
 use Rattle.debug_lines.specs.Expectations.{ExpectRequest}
-use Rattle.debug_modes.specs.Modes.{takes_over}
+use Rattle.debug_modules.specs.Modes.{takes_over}
 use Rattle.debug_session.specs.DebugScript.{debug_lines_answer, script_line_answer_by, simple_request_answer, unknown_answer}
 use Rattle.debug_session.specs.DebugState.{DebugState}
 use Rattle.debug_session.specs.Refusals.{BeginsAsInScript, GoesOnBehind}
-use Rattle.debug_modes.specs.declared.expectations.reports.reports.ReportForm.TheVariants.{Answers}
+use Rattle.debug_modules.specs.ReportForm.TheVariants.{Answers}
 use Rattle.debug_session.specs.declared.session.DebugSettings.{DebugSettings}
 
 -- Whether at most so many lines, and blocks between them, are those of a script, with a program in each

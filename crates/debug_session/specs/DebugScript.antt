@@ -15,39 +15,39 @@ use Rattle.debug_tables.specs.run_meter.Script.{request_answer}
 use Rattle.debug_tables.specs.run_meter.State.{Answered, ScriptState}
 use Rattle.command_shell_lines.specs.Blocks.{block_lines, lines_after, lines_taken}
 use Rattle.command_shell_lines.specs.Requests.{Request, Asm, Hex, request_of}
-use Rattle.debug_modes.specs.expectations.Checks.{Seen, check_answer, status_after_pattern}
-use Rattle.debug_modes.specs.expectations.Halted.{halted_at_text, halting_fault}
-use Rattle.debug_modes.specs.expectations.Endings.{ending_of, output_of}
-use Rattle.debug_modes.specs.expectations.Why.{why_below}
+use Rattle.debug_modules.specs.Checks.{Seen, check_answer, status_after_pattern}
+use Rattle.debug_modules.specs.Halted.{halted_at_text, halting_fault}
+use Rattle.debug_modules.specs.DebugModesEndings.{ending_of, output_of}
+use Rattle.debug_modules.specs.Why.{why_below}
 use Rattle.debug_lines.specs.DebugRequests.{DebugRequest, Script, Stepping, Mode, Remark, SetPc, SetPsr, Put, Write, Forget, Counts, Reset, Quit, Expect, Repeat, NotKnown, debug_opens_block, debug_request, is_script_request, View}
 use Rattle.debug_tables.specs.run_meter.MachineState.{MachineState, stop_of}
 use Rattle.debug_lines.specs.ModeRequests.{ModeRequest}
 use Rattle.debug_lines.specs.SteppingRequests.{SteppingRequest, stepping_in}
-use Rattle.debug_modes.specs.Changes.{ModeAnswer, mode_answer}
-use Rattle.debug_modes.specs.Counting.{counts_text}
+use Rattle.debug_modules.specs.Changes.{ModeAnswer, mode_answer}
+use Rattle.debug_modules.specs.Counting.{counts_text}
 use Rattle.command_shell_lines.specs.FailedBlocks.{FailedBlockPlace, block_reason, failed_after}
-use Rattle.debug_modes.specs.Modes.{takes_over}
-use Rattle.debug_modes.specs.ViewTexts.{view_text}
+use Rattle.debug_modules.specs.Modes.{takes_over}
+use Rattle.debug_modules.specs.ViewTexts.{view_text}
 use Rattle.debug_modules.specs.Answers.{ModuleAnswered, ModuleShown, Text, Steps, module_line_answered}
 use Rattle.debug_modules.specs.SourceListing.{sources_after}
 use Rattle.debug_modules.specs.Taking.{modes_after, note_of, stepping_in_modes}
 use Rattle.debug_lines.specs.Tidy.{tidied_line}
-use Rattle.debug_history.specs.Answers.{PastAnswered, past_line_answered}
-use Rattle.debug_history.specs.Lines.{last_steps_asked}
+use Rattle.debug_modules.specs.DebugHistoryAnswers.{PastAnswered, past_line_answered}
+use Rattle.debug_modules.specs.DebugHistoryLines.{last_steps_asked}
 use Rattle.debug_lines.specs.LineKinds.{asks_nothing, is_refused_block, takes_steps}
-use Rattle.debug_history.specs.Noted.{is_faulted, past_after_request, past_after_stepping, past_with_deed, steps_before}
-use Rattle.debug_history.specs.Past.{PastState, past_from_start, past_with_images}
-use Rattle.debug_history.specs.declared.act.PastDeed.{PastDeed}
-use Rattle.debug_history.specs.declared.act.PastDeed.TheVariants.{Anew, Bytes, Place, Status}
-use Rattle.debug_labels.specs.Labels.{ImageLabels, without_labels}
+use Rattle.debug_modules.specs.Noted.{is_faulted, past_after_request, past_after_stepping, past_with_deed, steps_before}
+use Rattle.debug_modules.specs.Past.{PastState, past_from_start, past_with_images}
+use Rattle.debug_modules.specs.PastDeed.{PastDeed}
+use Rattle.debug_modules.specs.PastDeed.TheVariants.{Anew, Bytes, Place, Status}
+use Rattle.debug_modules.specs.Labels.{ImageLabels, without_labels}
 use Rattle.debug_session.specs.DebugState.{DebugAnswered, DebugState, debug_answer, debug_start_state, then_debugged}
 use Rattle.debug_session.specs.LastSteps.{last_steps_answer}
 use Rattle.debug_session.specs.Naming.{labels_with_block, meant_request, naming_of, repeated_now}
-use Rattle.debug_modes.specs.OwnAnswers.{forget_text, put_text, reasoned_text}
-use Rattle.debug_labels.specs.Reasons.{refusal_reason}
+use Rattle.debug_modules.specs.OwnAnswers.{forget_text, put_text, reasoned_text}
+use Rattle.debug_modules.specs.Reasons.{refusal_reason}
 use Rattle.debug_session.specs.declared.session.DebugSettings.{DebugSettings}
 use Rattle.debug_lines.specs.declared.status.StatusPattern.{StatusPattern}
-use Rattle.debug_modes.specs.expectations.reports.Reports.{answer_in, fail_text, pass_text, report_of_refusal, summary_text, with_fail, with_pass, with_refusal}
+use Rattle.debug_modules.specs.Reports.{answer_in, fail_text, pass_text, report_of_refusal, summary_text, with_fail, with_pass, with_refusal}
 
 -- LINES OF A SCRIPT
 

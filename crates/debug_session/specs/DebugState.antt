@@ -5,13 +5,13 @@ use Rattle.profile.specs.images.Entries.{Entry}
 use Rattle.debug_tables.specs.run_meter.State.{ScriptState, script_start_state}
 use Rattle.debug_tables.specs.run_meter.RunError.{RunError}
 use Rattle.debug_tables.specs.run_meter.RunError.TheVariants.{Memory, ReadFault, WriteFault, ScriptTooLong}
-use Rattle.debug_history.specs.Past.{PastState, past_from_start}
-use Rattle.debug_labels.specs.Labels.{ImageLabels}
+use Rattle.debug_modules.specs.Past.{PastState, past_from_start}
+use Rattle.debug_modules.specs.Labels.{ImageLabels}
 use Rattle.command_shell_lines.specs.FailedBlocks.{FailedBlockPlace}
-use Rattle.debug_modes.specs.Modes.{no_modes}
-use Rattle.debug_modes.specs.declared.modes.DebugModes.{DebugModes}
-use Rattle.debug_modes.specs.expectations.reports.Reports.{no_tally}
-use Rattle.debug_modes.specs.declared.expectations.reports.reports.CheckTally.{CheckTally}
+use Rattle.debug_modules.specs.Modes.{no_modes}
+use Rattle.debug_modules.specs.DebugModes.{DebugModes}
+use Rattle.debug_modules.specs.Reports.{no_tally}
+use Rattle.debug_modules.specs.CheckTally.{CheckTally}
 use Rattle.debug_session.specs.declared.session.DebugSettings.{DebugSettings}
 
 -- What a debugging script works on: what a script does, the labels of the images that were assembled, the texts

@@ -1,7 +1,7 @@
 -- The exit status of a program whose lines a debugging script's were.
 use Rattle.std.specs.Prelude.{ℕ, ◌==◌, ◌&&◌, if◌then◌else◌}
 use Rattle.profile.specs.Status.{status_after}
-use Rattle.debug_modes.specs.expectations.reports.Reports.{is_untested}
+use Rattle.debug_modules.specs.Reports.{is_untested}
 use Rattle.debug_session.specs.DebugState.{DebugState}
 
 -- Without EXPECT lines that of a script, by the last stop; with some 0 where all of them passed and

@@ -2,10 +2,10 @@
 -- answer but that of lines which go back or look into it.
 use Rattle.std.specs.Prelude.{◌≡◌, ℕ, true, List, None}
 use Rattle.debug_tables.specs.run_meter.State.{ScriptState}
-use Rattle.debug_history.specs.Answers.{past_command}
-use Rattle.debug_history.specs.Laws.{IsPastOf}
-use Rattle.debug_history.specs.Lines.{last_steps_asked}
-use Rattle.debug_history.specs.Past.{PastState}
+use Rattle.debug_modules.specs.DebugHistoryAnswers.{past_command}
+use Rattle.debug_modules.specs.DebugHistoryLaws.{IsPastOf}
+use Rattle.debug_modules.specs.DebugHistoryLines.{last_steps_asked}
+use Rattle.debug_modules.specs.Past.{PastState}
 use Rattle.debug_lines.specs.DebugRequests.{DebugRequest, NotKnown}
 use Rattle.debug_session.specs.DebugScript.{simple_request_answer}
 use Rattle.debug_session.specs.DebugState.{DebugAnswered, DebugState}

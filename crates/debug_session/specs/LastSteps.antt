@@ -4,14 +4,14 @@ use Rattle.std.specs.Prelude.{ℕ, ◌-◌, ◌++◌, is_some, List, [], ◌∷�
 use Rattle.profile.specs.declared.stop.Stop.TheVariants.{Budget}
 use Rattle.debug_tables.specs.run_meter.Answers.{refused_text}
 use Rattle.debug_tables.specs.run_meter.State.{ScriptState, script_start_state}
-use Rattle.debug_labels.specs.Labels.{ImageLabels}
+use Rattle.debug_modules.specs.Labels.{ImageLabels}
 use Rattle.command_shell_lines.specs.declared.debug_words.stubs.Stub.{Stub}
 use Rattle.debug_lines.specs.SteppingRequests.{SteppingRequest}
-use Rattle.debug_history.specs.Acts.{PastMoment, count_if, fresh_moment, is_anew, moment_after_deed, moment_after_steps, moment_of_script, steps_behind, steps_of_acts, steps_of_deed, stubs_of_deed}
-use Rattle.debug_history.specs.Noted.{is_faulted}
-use Rattle.debug_history.specs.declared.act.Act.{Act}
-use Rattle.debug_history.specs.declared.act.PastDeed.{PastDeed}
-use Rattle.debug_runs.specs.Lines.{SteppingAnswer, stepping_answer}
+use Rattle.debug_modules.specs.Acts.{PastMoment, count_if, fresh_moment, is_anew, moment_after_deed, moment_after_steps, moment_of_script, steps_behind, steps_of_acts, steps_of_deed, stubs_of_deed}
+use Rattle.debug_modules.specs.Noted.{is_faulted}
+use Rattle.debug_modules.specs.Act.{Act}
+use Rattle.debug_modules.specs.PastDeed.{PastDeed}
+use Rattle.debug_modules.specs.Lines.{SteppingAnswer, stepping_answer}
 use Rattle.debug_session.specs.DebugState.{DebugState}
 use Rattle.debug_session.specs.declared.session.DebugSettings.{DebugSettings}
 use Rattle.debug_tables.specs.declared.modes.StepModes.{StepModes}

@@ -1,17 +1,32 @@
 -- What the lines of a debugging script are answered. Begin with DebugScript.
+pub use Rattle.debug_lines.specs.DebugRequests
+pub use Rattle.debug_lines.specs.Expectations
+pub use Rattle.debug_lines.specs.Tidy
+pub use Rattle.debug_modules.specs.Acts as PastActs
+pub use Rattle.debug_modules.specs.Again as PastAgain
+pub use Rattle.debug_modules.specs.DebugHistoryAnswers as PastAnswers
+pub use Rattle.debug_modules.specs.DebugModesEndings as Endings
+pub use Rattle.debug_modules.specs.Noted as PastNoted
+pub use Rattle.debug_modules.specs.Past
+pub use Rattle.debug_modules.specs.PastDeed
+pub use Rattle.debug_modules.specs.PastFound
+pub use Rattle.debug_modules.specs.ReportForm as DebugChecksReportForm
+pub use Rattle.debug_modules.specs.Reports
+pub use Rattle.debug_modules.specs.Search as PastSearch
+pub use Rattle.debug_modules.specs.Sought
+pub use Rattle.debug_tables.specs.Answers
+pub use Rattle.debug_tables.specs.Calls
+pub use Rattle.debug_tables.specs.Error as CommandShellError
+pub use Rattle.debug_tables.specs.Memory
+pub use Rattle.debug_tables.specs.OutsideCall
+pub use Rattle.debug_tables.specs.Routines
+pub use Rattle.debug_tables.specs.RunError as CommandShellRunError
+pub use Rattle.debug_tables.specs.Session as CommandShellSession
+pub use Rattle.debug_tables.specs.State
+pub use Rattle.debug_tables.specs.Stepping
+pub use Rattle.debug_tables.specs.Stubs
+pub use Rattle.debug_tables.specs.Writes
 pub use Rattle.debug_tables.specs.byte_writes.Put
-pub use Rattle.debug_modes.specs.declared.expectations.reports.reports.ReportForm as DebugChecksReportForm
-pub use Rattle.debug_modes.specs.expectations.Endings
-pub use Rattle.debug_modes.specs.expectations.reports.Reports
-pub use Rattle.debug_history.specs.Acts as PastActs
-pub use Rattle.debug_history.specs.Again as PastAgain
-pub use Rattle.debug_history.specs.Answers as PastAnswers
-pub use Rattle.debug_history.specs.Noted as PastNoted
-pub use Rattle.debug_history.specs.Past
-pub use Rattle.debug_history.specs.Search as PastSearch
-pub use Rattle.debug_history.specs.declared.act.PastDeed
-pub use Rattle.debug_history.specs.declared.search.PastFound
-pub use Rattle.debug_history.specs.declared.search.Sought
 pub use Rattle.debug_tables.specs.run_meter.Error
 pub use Rattle.debug_tables.specs.run_meter.Meters
 pub use Rattle.debug_tables.specs.run_meter.RunError

@@ -1,6 +1,6 @@
 -- What a session reads a line as, for those who show it.
 use Rattle.std.specs.Prelude.{ℕ, List, if◌then◌else◌}
-use Rattle.debug_labels.specs.Lines.{LineNaming}
+use Rattle.debug_modules.specs.DebugLabelsLines.{LineNaming}
 use Rattle.debug_lines.specs.DebugRequests.{is_known, simple_request}
 use Rattle.debug_session.specs.Naming.{numbered_line}
 

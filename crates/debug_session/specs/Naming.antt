@@ -3,16 +3,16 @@
 use Rattle.std.specs.Prelude.{ℕ, List, ◌++◌, ◌∷◌, [], Option, Some, None, Result, Ok, if◌then◌else◌}
 use Rattle.std.specs.Option.{option_or}
 use Rattle.profile.specs.images.Entries.{Entry, bytes_of_image}
-use Rattle.assembler.specs.Passes.{labels_of_lines}
-use Rattle.assembler.specs.declared.error.AsmError.{AsmError}
-use Rattle.assembler_text.specs.naming.Labels.{Entries}
+use Rattle.debug_tables.specs.Passes.{labels_of_lines}
+use Rattle.debug_tables.specs.AsmError.{AsmError}
+use Rattle.command_shell_lines.specs.Labels.{Entries}
 use Rattle.command_shell_lines.specs.Requests.{Request, Asm}
 use Rattle.command_shell_lines.specs.debug_words.Texts.{before_quote, from_quote}
-use Rattle.debug_labels.specs.Labels.{ImageLabels, labels_of_image}
-use Rattle.debug_labels.specs.Lines.{LineNaming, line_with_numbers}
+use Rattle.debug_modules.specs.Labels.{ImageLabels, labels_of_image}
+use Rattle.debug_modules.specs.DebugLabelsLines.{LineNaming, line_with_numbers}
 use Rattle.debug_lines.specs.DebugRequests.{DebugRequest, NotKnown, is_known, is_repeatable, repeated_line, simple_request}
 use Rattle.debug_lines.specs.Repeats.{repeated_text}
-use Rattle.debug_labels.specs.place_views.Places.{line_naming_on}
+use Rattle.debug_modules.specs.Places.{line_naming_on}
 use Rattle.debug_session.specs.DebugState.{DebugState}
 
 -- LABELS

@@ -9,11 +9,11 @@ ghost use Rattle.command_shell_lines.specs.Blocks.{block_lines, lines_after, lin
 use crate::session::DebugSession;
 use command_shell_lines::command_of;
 use command_shell_lines::debug_words::cut_at_quote;
-use debug_labels::place_views::line_on;
 use debug_lines::{
     DebugCommand, RepeatedLine, is_known_line, is_repeatable_line, is_script_command,
     repeated_line, repeated_text, simple_command, tidied,
 };
+use debug_modules::line_on;
 use debug_tables::run_meter::RunError;
 use profile::Sink;
 use profile::images::Images;

@@ -1,18 +1,17 @@
 //! The steps that were taken last, shown as a trace shows them.
 
 ghost use Rattle.std.specs.Prelude.{◌≡◌, List, IfErr, IfOk, OnOk};
-ghost use Rattle.debug_history.specs.Acts.{moment_after_deed, moment_of_script};
-ghost use Rattle.debug_history.specs.Again.{IsAtMoment};
+ghost use Rattle.debug_modules.specs.Acts.{moment_after_deed, moment_of_script};
+ghost use Rattle.debug_modules.specs.Again.{IsAtMoment};
 ghost use Rattle.debug_session.specs.LastSteps.{last_steps_answer, text_with_deed};
 ghost use Rattle.debug_session.specs.Session.{debug_state};
 ghost use Rattle.debug_tables.specs.run_meter.Error.{IsLineError};
 ghost use Rattle.debug_tables.specs.run_meter.Session.{script_state};
 
 use crate::session::DebugSession;
-use debug_history::{KeptStubs, PastDeed, deed_again, is_faulted};
-use debug_modes::refused_line;
-use debug_runs::{StepCounts, answer_stepping};
+use debug_modules::{KeptStubs, PastDeed, answer_stepping, deed_again, is_faulted, refused_line};
 use debug_tables::StepModes;
+use debug_tables::counts::StepCounts;
 use debug_tables::run_meter::{RunError, Session};
 use profile::Stop;
 use profile::images::Images;

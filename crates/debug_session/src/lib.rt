@@ -15,10 +15,15 @@ mod script_lines;
 mod session;
 mod stepping_lines;
 
-pub use debug_history::{KeptText, PastDeed, PastFound, Sought, is_faulted};
-pub use debug_modes::expectations::begins_ending;
-pub use debug_modes::expectations::reports::{CheckTally, ReportForm, push_missing_end};
-pub use debug_tables::StubDeed;
+pub use command_shell_lines::KeptText;
+pub use debug_modules::{
+    CheckTally, PastDeed, PastFound, ReportForm, Sought, begins_ending, is_faulted,
+    push_missing_end,
+};
 pub use debug_tables::byte_writes::put_bytes;
+pub use debug_tables::routines::enter;
 pub use debug_tables::run_meter::{RunError, RunMeter};
+pub use debug_tables::{
+    OutsideCall, RunError as CommandShellRunError, Session, StubDeed, print_stop,
+};
 pub use session::{DebugSession, DebugSettings};

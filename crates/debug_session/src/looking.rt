@@ -6,12 +6,12 @@ ghost use Rattle.debug_tables.specs.run_meter.GuestState.{state_of};
 
 use crate::session::DebugSession;
 use debug_lines::is_known_line;
-use debug_modes::expectations::reports::CheckTally;
+use debug_modules::CheckTally;
 use debug_tables::run_meter::Machine;
 use std::alloc::{AllocError, Global};
 
 impl DebugSession {
-    ghost use Rattle.debug_modes.specs.Modes.{answer_of_line};
+    ghost use Rattle.debug_modules.specs.Modes.{answer_of_line};
     ghost use Rattle.profile.specs.images.Entries.{Entry};
     ghost use Rattle.debug_session.specs.Looking.{words_meant};
     ghost use Rattle.debug_session.specs.Naming.{naming_of};

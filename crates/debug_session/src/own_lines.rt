@@ -4,13 +4,13 @@ ghost use Rattle.std.specs.Prelude.{◌≡◌, ◌%◌, ◌<◌, ◌^◌, option
 ghost use Rattle.debug_session.specs.Failing.{EndsAtOnce};
 
 use crate::session::DebugSession;
-use command_shell_lines::Origin;
 use command_shell_lines::debug_words::bytes_written;
-use debug_history::{KeptText, PastDeed};
+use command_shell_lines::{KeptText, Origin};
 use debug_lines::{DebugView, Expectation, StatusPattern};
-use debug_modes::expectations::reports::{push_answer, push_fail, push_pass};
-use debug_modes::expectations::{SeenMachine, check, halting_fault, push_halted, status_with};
-use debug_modes::{forget_text, form_line, put_text, refused_line, text_of, view_text};
+use debug_modules::{
+    PastDeed, SeenMachine, check, forget_text, form_line, halting_fault, push_answer, push_fail,
+    push_halted, push_pass, put_text, refused_line, status_with, text_of, view_text,
+};
 use debug_tables::byte_writes::{find_text, put_bytes};
 use debug_tables::run_meter::RunError;
 use profile::images::Images;
@@ -20,11 +20,11 @@ use std::alloc::AllocError;
 
 impl DebugSession {
     ghost use Rattle.profile.specs.images.Entries.{Entry};
-    ghost use Rattle.debug_history.specs.Past.{past_from_start};
-    ghost use Rattle.debug_history.specs.declared.act.PastDeed.TheVariants.{Place};
+    ghost use Rattle.debug_modules.specs.Past.{past_from_start};
+    ghost use Rattle.debug_modules.specs.PastDeed.TheVariants.{Place};
     ghost use Rattle.debug_tables.specs.run_meter.Memory.{script_at, script_started_anew};
-    ghost use Rattle.debug_modes.specs.ViewTexts.{view_text};
-    ghost use Rattle.debug_modes.specs.expectations.Checks.{check_answer};
+    ghost use Rattle.debug_modules.specs.ViewTexts.{view_text};
+    ghost use Rattle.debug_modules.specs.Checks.{check_answer};
     ghost use Rattle.debug_lines.specs.Expectations.{expect_request_of};
     ghost use Rattle.debug_lines.specs.DebugRequests.{Find, Form, view_request_of};
     ghost use Rattle.debug_session.specs.DebugScript.{bytes_answer, checked_answer, forget_answer, machine_change_answer, put_answer, reset_answer, seen_of, set_pc_answer, set_psr_answer, view_answer, write_answer};

@@ -3,9 +3,8 @@
 ghost use Rattle.std.specs.Prelude.{◌≡◌, ◌<◌, List, option_map, IfOk};
 
 use crate::session::DebugSession;
-use debug_labels::ImagePlace;
-use debug_labels::place_views::names_on;
 use debug_lines::RepeatedLine;
+use debug_modules::{ImagePlace, names_on};
 use debug_tables::Stubs;
 use profile::images::Images;
 use profile::{Sink, WriteFault};

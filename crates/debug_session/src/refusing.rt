@@ -5,11 +5,10 @@ ghost use Rattle.std.specs.Prelude.{◌≡◌, List, IfOk, OnOk};
 ghost use Rattle.debug_session.specs.Failing.{EndsAtOnce};
 
 use crate::session::DebugSession;
-use debug_history::{PastSetting, last_steps_asked};
-use debug_labels::place_views::{line_on, names_on};
-use debug_modes::expectations::reports::push_refusal;
-use debug_modes::{refusal_line, unknown_line};
-use debug_modules::{ModuleAnswer, answer_module_line};
+use debug_modules::{
+    ModuleAnswer, PastSetting, answer_module_line, last_steps_asked, line_on, names_on,
+    push_refusal, refusal_line, unknown_line,
+};
 use debug_tables::run_meter::RunError;
 use profile::Sink;
 use profile::images::Images;
@@ -21,7 +20,7 @@ impl DebugSession {
     ghost use Rattle.debug_session.specs.DebugScript.{module_line_answer, past_line_answer, unknown_answer};
     ghost use Rattle.debug_session.specs.DebugState.{IsDebugged};
     ghost use Rattle.debug_session.specs.Naming.{naming_of};
-    ghost use Rattle.debug_labels.specs.Reasons.{refusal_reason};
+    ghost use Rattle.debug_modules.specs.Reasons.{refusal_reason};
     ghost use Rattle.debug_session.specs.Session.{debug_state};
 
     /// Answers a tidy line that goes back or looks into the past; any other may be about modules.

@@ -5,22 +5,19 @@ ghost use Rattle.std.specs.Prelude.{◌≡◌, ◌+◌, ◌-◌, false, true, Li
 ghost use Rattle.debug_session.specs.Failing.{EndsAtOnce};
 ghost use Rattle.debug_tables.specs.run_meter.Script.{request_answer};
 ghost use Rattle.command_shell_lines.specs.Blocks.{block_lines, lines_after, lines_taken};
-ghost use Rattle.debug_modes.specs.expectations.Endings.{ending_of, output_of};
+ghost use Rattle.debug_modules.specs.DebugModesEndings.{ending_of, output_of};
 ghost use Rattle.command_shell_lines.specs.Requests.{opens_block, request_of_command};
-ghost use Rattle.assembler.specs.Passes.{labels_of_lines};
+ghost use Rattle.debug_tables.specs.Passes.{labels_of_lines};
 ghost use Rattle.debug_lines.specs.LineKinds.{takes_steps};
-ghost use Rattle.debug_history.specs.Noted.{is_faulted, past_after_request};
+ghost use Rattle.debug_modules.specs.Noted.{is_faulted, past_after_request};
 ghost use Rattle.debug_session.specs.Naming.{labels_with_block, labels_with_image};
 
 use crate::session::DebugSession;
-use assembler::labels_of_lines;
 use command_shell_lines::{Origin, ScriptCommand, skip_block};
-use debug_history::is_faulted;
 use debug_lines::{asks_nothing, is_named_image, is_refused_block, takes_steps};
-use debug_modes::expectations::reports::{push_answer, push_refusal};
-use debug_modes::expectations::{answer_parts, push_line_answer};
+use debug_modules::{answer_parts, is_faulted, push_answer, push_line_answer, push_refusal};
 use debug_tables::run_meter::{RunError, answer_metered};
-use debug_tables::with_errors;
+use debug_tables::{labels_of_lines, with_errors};
 use profile::images::Images;
 use profile::text_lines::Lines;
 use profile::text_sink::TextSink;

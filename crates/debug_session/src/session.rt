@@ -5,10 +5,7 @@ ghost use Rattle.debug_tables.specs.run_meter.Error.{IsLineError};
 ghost use Rattle.profile.specs.Output.{AddsFront, Writes};
 
 use command_shell_lines::FailedBlocks;
-use debug_history::Past;
-use debug_labels::LabelTable;
-use debug_modes::DebugModes;
-use debug_modes::expectations::reports::{CheckTally, ReportForm, push_summary};
+use debug_modules::{CheckTally, DebugModes, LabelTable, Past, ReportForm, push_summary};
 use debug_tables::run_meter::{RunError, RunMeter, Session};
 use profile::images::Images;
 use profile::stop::stop_status;
@@ -61,7 +58,7 @@ impl DebugSession {
     ghost use Rattle.debug_session.specs.DebugScript.{debug_lines_answer};
     ghost use Rattle.debug_session.specs.DebugState.{IsDebugged, debug_start_state};
     ghost use Rattle.debug_session.specs.Failing.{ReportsWriteFault};
-    ghost use Rattle.debug_modes.specs.expectations.reports.Reports.{summary_text};
+    ghost use Rattle.debug_modules.specs.Reports.{summary_text};
     ghost use Rattle.debug_session.specs.ExitStatus.{debug_status};
     ghost use Rattle.debug_session.specs.Session.{debug_state};
 

@@ -5,11 +5,11 @@ use Rattle.std.specs.Prelude.{if◌then◌else◌}
 use Rattle.profile.specs.MemoryMap.{return_gate}
 use Rattle.profile.specs.declared.fault.Fault.{Fault}
 use Rattle.address_map.specs.Bytes.{Bytes, word_loaded}
-use Rattle.arm_core.specs.Conditions.{condition_holds}
-use Rattle.arm_core.specs.Effect.{with_next_pc}
-use Rattle.arm_core.specs.State.{State}
-use Rattle.arm_core.specs.declared.turn.StepEnd.TheVariants as turn
-use Rattle.arm_core.specs.declared.psr.Psr.{Psr}
+use Rattle.command_shell.specs.Conditions.{condition_holds}
+use Rattle.command_shell.specs.Effect.{with_next_pc}
+use Rattle.command_shell.specs.ArmCoreState.{State}
+use Rattle.command_shell.specs.StepEnd.TheVariants as turn
+use Rattle.command_shell.specs.ArmCorePsr.{Psr}
 use Rattle.arm_decode.specs.Decoded.{decoded_as, instruction_of_word, unless_refused}
 use Rattle.arm_decode.specs.Fields.{action_in, condition_in}
 use Rattle.arm_decode.specs.Refusals.{refusal}
@@ -19,9 +19,9 @@ use Rattle.arm_decode.specs.declared.form.Form.TheVariants as form
 use Rattle.arm_decode.specs.declared.action.Action.{Action}
 use Rattle.arm_decode.specs.declared.action.Action.TheVariants as action
 use Rattle.arm_decode.specs.declared.condition.Condition.{Condition}
-use Rattle.arm_step.specs.Step.{acted_if_decoded, executed_if_fetched, or_fault, result_of_action, result_of_step, result_of_word}
-use Rattle.arm_step.specs.Transfers.{result_of_transfer}
-use Rattle.arm_step.specs.Blocks.{result_of_block_transfer}
+use Rattle.command_shell.specs.ArmStepStep.{acted_if_decoded, executed_if_fetched, or_fault, result_of_action, result_of_step, result_of_word}
+use Rattle.command_shell.specs.Transfers.{result_of_transfer}
+use Rattle.command_shell.specs.Blocks.{result_of_block_transfer}
 use Rattle.debug_tables.specs.Stubs.{has_swi_form, swi_next, swi_decoded, swi_fetched, swi_in_action, swi_in_turn, swi_in_word}
 
 none_in_memory : (r : Result (State × Bytes) Fault) → swi_in_turn (or_fault r) ≡ None

@@ -3,9 +3,9 @@ use Rattle.std.proofs.Common.{◌≡◌, ◌<◌, ◌≤◌, ℕ, zero, suc, ◌
 use Rattle.std.specs.Prelude.{if◌then◌else◌, is_none}
 use Rattle.std.specs.List.{flat_map}
 use Rattle.std.proofs.lemmas.List.{append-nil, drop_more}
-use Rattle.assembler.specs.declared.error.AsmError.{AsmError}
-use Rattle.command_shell_lines.specs.Blocks.{block_lines}
-use Rattle.command_shell_lines.specs.Requests.{Request, Nothing, Hex, Asm, Boot, Run, Regs, Set, Poke, Call, Load, Step, Break, Unbreak, Mem, Code, Heap, Areas, Modules, Flex, Unknown, is_end_of_block}
+use Rattle.command_shell.specs.AsmError.{AsmError}
+use Rattle.command_shell.specs.CommandShellLinesBlocks.{block_lines}
+use Rattle.command_shell.specs.Requests.{Request, Nothing, Hex, Asm, Boot, Run, Regs, Set, Poke, Call, Load, Step, Break, Unbreak, Mem, Code, Heap, Areas, Modules, Flex, Unknown, is_end_of_block}
 use Rattle.debug_tables.specs.BlockErrors.{BlockErrorsAreTheirLines, block_errors, further_errors, is_assembled, line_after_error, line_without, next_error, source_without, with_others}
 use Rattle.debug_tables.specs.BlockErrorTexts.{block_errors_text, error_text_if, errors_text, listed_errors_text, text_with_errors}
 

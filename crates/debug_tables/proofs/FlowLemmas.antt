@@ -6,11 +6,11 @@ use Rattle.profile.specs.Outcome.{bind}
 use Rattle.profile.specs.Word.{bit_of, field}
 use Rattle.profile.specs.declared.fault.Fault.{Fault}
 use Rattle.address_map.specs.Bytes.{Bytes, word_loaded}
-use Rattle.arm_core.specs.Conditions.{condition_holds}
-use Rattle.arm_core.specs.Effect.{with_next_pc, with_result}
-use Rattle.arm_core.specs.Operate.{state_after_branch, state_after_operate}
-use Rattle.arm_core.specs.State.{State}
-use Rattle.arm_core.specs.declared.turn.StepEnd.TheVariants as turn
+use Rattle.command_shell.specs.Conditions.{condition_holds}
+use Rattle.command_shell.specs.Effect.{with_next_pc, with_result}
+use Rattle.command_shell.specs.Operate.{state_after_branch, state_after_operate}
+use Rattle.command_shell.specs.ArmCoreState.{State}
+use Rattle.command_shell.specs.StepEnd.TheVariants as turn
 use Rattle.arm_decode.specs.Decoded.{decoded_as, instruction_of_word, unless_refused}
 use Rattle.arm_decode.specs.Fields.{action_in, block_transfer_in, condition_in, immediate_in, operand_by_register_in, operate_in, shifted_in, transfer_in}
 use Rattle.arm_decode.specs.Names.{indexing_of}
@@ -27,9 +27,9 @@ use Rattle.arm_decode.specs.declared.condition.Condition.{Condition}
 use Rattle.arm_decode.specs.declared.form.Form.{Form}
 use Rattle.arm_decode.specs.declared.form.Form.TheVariants as form
 use Rattle.arm_decode.specs.declared.operand.Operand.TheVariants as operand
-use Rattle.arm_step.specs.Blocks.{block_loaded, block_stored, result_of_block_transfer}
-use Rattle.arm_step.specs.Step.{acted_if_decoded, executed_if_fetched, or_fault, result_of_action, result_of_step, result_of_word}
-use Rattle.arm_step.specs.Transfers.{moved_base, result_of_load, result_of_store, result_of_transfer, transfer_address, value_loaded, with_base}
+use Rattle.command_shell.specs.Blocks.{block_loaded, block_stored, result_of_block_transfer}
+use Rattle.command_shell.specs.ArmStepStep.{acted_if_decoded, executed_if_fetched, or_fault, result_of_action, result_of_step, result_of_word}
+use Rattle.command_shell.specs.Transfers.{moved_base, result_of_load, result_of_store, result_of_transfer, transfer_address, value_loaded, with_base}
 use Rattle.debug_tables.specs.WordFlows.{KeepsToFlow, KeepsToFlowIfDone, block_flow, flow_of_form, is_pc_at, transfer_flow, word_flow}
 use Rattle.debug_tables.specs.declared.step_words.WordFlow.{WordFlow}
 use Rattle.debug_tables.specs.declared.step_words.WordFlow.TheVariants.{Straight, Branches, Anywhere, Stores}

@@ -1,3 +1,7 @@
+pub use Rattle.command_shell.proofs.AnswerLemmas
+pub use Rattle.command_shell.proofs.CallLemmas
+pub use Rattle.command_shell.proofs.FrontLemmas
+pub use Rattle.command_shell.proofs.ImageLemmas
 pub mod AheadLemmas
 pub mod BlockErrorLemmas
 pub mod StubLemmas

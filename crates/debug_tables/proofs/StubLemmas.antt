@@ -6,12 +6,12 @@ use Rattle.std.specs.Prelude.{◌==◌, is_some}
 use Rattle.std.specs.Option.{option_map}
 use Rattle.address_map.specs.Bytes.{ok_unless_fault, word_loaded}
 use Rattle.profile.specs.images.Entries.{Entry}
-use Rattle.os_heap.specs.Store.{owned_in}
+use Rattle.command_shell.specs.Store.{owned_in}
 use Rattle.profile.specs.Outcome.{Leaves}
 use Rattle.profile.specs.declared.fault.Fault.{Fault}
 use Rattle.profile.specs.declared.stop.Stop.{Stop}
 use Rattle.command_shell.specs.MachineState.{MachineState, silent, stop_of}
-use Rattle.arm_core.specs.declared.psr.Psr.{Psr}
+use Rattle.command_shell.specs.ArmCorePsr.{Psr}
 use Rattle.command_shell.specs.Run.{count_after}
 use Rattle.command_shell.specs.Step.{machine_step, result_of_instruction}
 use Rattle.command_shell.specs.Writes.{machine_at, machine_with_bank_register, machine_with_status}
@@ -19,7 +19,7 @@ use Rattle.command_shell.specs.Halt.{Halt}
 use Rattle.command_shell.specs.Calls.{step_made}
 use Rattle.command_shell.specs.Memory.{script_at, script_with_bank_register, script_with_budget, script_with_machine, script_with_status}
 use Rattle.command_shell.specs.State.{ScriptState}
-use Rattle.command_shell_lines.specs.declared.debug_words.stubs.Stub.{Stub}
+use Rattle.command_shell.specs.Stub.{Stub}
 use Rattle.debug_tables.specs.byte_writes.Put.{bytes_fit, put_fault, script_after_put, script_with_bytes}
 use Rattle.debug_tables.specs.Stubs.{StubDeedState, deed_ahead, deed_next, deed_of_swi, deed_that_fits, deed_unless_empty, deed_unless_fetched, deed_unless_halted, machine_after_deed, machine_after_put, machine_with_settings, script_after_deed, script_or, script_with_settings, step_or_deed, stub_end, stubbed_step, swi_in_turn, swi_next}
 use Rattle.debug_tables.specs.declared.stub_deeds.BankSetting.{BankSetting}

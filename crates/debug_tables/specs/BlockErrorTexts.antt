@@ -2,12 +2,12 @@
 use Rattle.std.specs.Prelude.{ℕ, Bool, true, false, ◌+◌, ◌==◌, List, [], ◌∷◌, ◌++◌, length, take, nat_lt, codes, if◌then◌else◌}
 use Rattle.std.specs.Fmt.{decimal}
 use Rattle.std.specs.List.{flat_map}
-use Rattle.assembler_text.specs.declared.naming.reason.Reason.{Reason}
-use Rattle.assembler_text.specs.declared.naming.reason.Reason.TheVariants.{Syntax, LabelTwice, TooLong, UnknownLabel, BadImmediate, OutOfReach, Forbidden, Memory}
-use Rattle.assembler_text.specs.naming.Words.{after_spaces, word}
-use Rattle.assembler.specs.declared.error.AsmError.{AsmError}
+use Rattle.command_shell.specs.Reason.{Reason}
+use Rattle.command_shell.specs.Reason.TheVariants.{Syntax, LabelTwice, TooLong, UnknownLabel, BadImmediate, OutOfReach, Forbidden, Memory}
+use Rattle.command_shell.specs.Words.{after_spaces, word}
+use Rattle.command_shell.specs.AsmError.{AsmError}
 use Rattle.debug_tables.specs.BlockErrors.{block_errors}
-use Rattle.command_shell_lines.specs.Requests.{Request, Asm}
+use Rattle.command_shell.specs.Requests.{Request, Asm}
 
 abbrev pub asm_reason_text : Reason → List ℕ
 asm_reason_text Syntax = codes "no line of the assembler (Syntax)"

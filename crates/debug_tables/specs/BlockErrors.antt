@@ -1,12 +1,12 @@
 -- All errors of an ASM block: each is the first of the block without what those before it are about.
 use Rattle.std.specs.Prelude.{◌≡◌, ◌⊎◌, ℕ, Bool, true, zero, suc, ◌+◌, ◌==◌, List, [], ◌∷◌, ◌++◌, length, take, slice_get, Option, None, Some, is_none, Result, Ok, Err, if◌then◌else◌}
-use Rattle.assembler_text.specs.declared.naming.reason.Reason.{Reason}
-use Rattle.assembler_text.specs.declared.naming.reason.Reason.TheVariants.{LabelTwice}
-use Rattle.assembler_text.specs.naming.Labels.{is_label}
-use Rattle.assembler_text.specs.naming.Words.{word}
-use Rattle.assembler.specs.Passes.{means}
-use Rattle.assembler.specs.declared.error.AsmError.{AsmError}
-use Rattle.command_shell_lines.specs.Requests.{Request, Asm}
+use Rattle.command_shell.specs.Reason.{Reason}
+use Rattle.command_shell.specs.Reason.TheVariants.{LabelTwice}
+use Rattle.command_shell.specs.Labels.{is_label}
+use Rattle.command_shell.specs.Words.{word}
+use Rattle.command_shell.specs.Passes.{means}
+use Rattle.command_shell.specs.AsmError.{AsmError}
+use Rattle.command_shell.specs.Requests.{Request, Asm}
 
 -- What is left of a line that an error is about: its label, so that the lines that name it are no errors
 -- for that. Nothing is left where it has none, or where the label is the error.

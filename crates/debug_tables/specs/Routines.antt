@@ -3,9 +3,9 @@
 -- left it.
 use Rattle.std.specs.Prelude.{ℕ, ◌+◌, ◌++◌, List, codes}
 use Rattle.std.specs.Fmt.{decimal}
-use Rattle.arm_core.specs.Psr.{psr_bits}
-use Rattle.arm_core.specs.State.{register_of}
-use Rattle.arm_core.specs.declared.psr.Mode.{Mode}
+use Rattle.command_shell.specs.Psr.{psr_bits}
+use Rattle.command_shell.specs.ArmCoreState.{register_of}
+use Rattle.command_shell.specs.Mode.{Mode}
 use Rattle.command_shell.specs.Memory.{script_at, script_with_bank_register, script_with_register}
 use Rattle.command_shell.specs.State.{ScriptState}
 

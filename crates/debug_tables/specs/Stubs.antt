@@ -12,14 +12,14 @@ use Rattle.profile.specs.MemoryMap.{return_gate}
 use Rattle.profile.specs.Sums.{address_further}
 use Rattle.profile.specs.Word.{bit_of}
 use Rattle.address_map.specs.Bytes.{Bytes, with_bytes, word_loaded}
-use Rattle.arm_core.specs.Conditions.{condition_holds}
-use Rattle.arm_core.specs.Psr.{psr_bits, psr_of}
-use Rattle.arm_core.specs.State.{State, register_in}
-use Rattle.arm_core.specs.declared.psr.Mode.TheVariants.{Supervisor, User}
-use Rattle.arm_core.specs.declared.psr.Mode.{Mode}
-use Rattle.arm_core.specs.declared.psr.Psr.{Psr}
-use Rattle.arm_core.specs.declared.turn.StepEnd.{StepEnd}
-use Rattle.arm_core.specs.declared.turn.StepEnd.TheVariants as turn
+use Rattle.command_shell.specs.Conditions.{condition_holds}
+use Rattle.command_shell.specs.Psr.{psr_bits, psr_of}
+use Rattle.command_shell.specs.ArmCoreState.{State, register_in}
+use Rattle.command_shell.specs.Mode.TheVariants.{Supervisor, User}
+use Rattle.command_shell.specs.Mode.{Mode}
+use Rattle.command_shell.specs.ArmCorePsr.{Psr}
+use Rattle.command_shell.specs.StepEnd.{StepEnd}
+use Rattle.command_shell.specs.StepEnd.TheVariants as turn
 use Rattle.arm_decode.specs.Decoded.{instruction_of_word}
 use Rattle.arm_decode.specs.Fields.{condition_in}
 use Rattle.arm_decode.specs.declared.action.Action.{Action}
@@ -28,7 +28,7 @@ use Rattle.arm_decode.specs.declared.condition.Condition.{Condition}
 use Rattle.arm_decode.specs.declared.form.Form.{Form}
 use Rattle.arm_decode.specs.declared.form.Form.TheVariants as form
 use Rattle.profile.specs.images.Entries.{Entry}
-use Rattle.instances_table.specs.Lookup.{handler_of}
+use Rattle.command_shell.specs.Lookup.{handler_of}
 use Rattle.command_shell.specs.MachineState.{MachineState, StepOutcome, silent, with_memory}
 use Rattle.command_shell.specs.Step.{machine_step, result_of_instruction, without_x}
 use Rattle.command_shell.specs.Writes.{machine_at, machine_with_bank_register, machine_with_status}
@@ -36,9 +36,9 @@ use Rattle.command_shell.specs.Halt.{Halt}
 use Rattle.command_shell.specs.Memory.{script_at, script_with_bank_register, script_with_budget, script_with_status}
 use Rattle.command_shell.specs.State.{ScriptState}
 use Rattle.command_shell.specs.WordWatches.{mapped_word}
-use Rattle.command_shell_lines.specs.declared.debug_words.stubs.Stub.{Stub}
-use Rattle.command_shell_lines.specs.declared.debug_words.stubs.StubFlags.{StubFlags}
-use Rattle.command_shell_lines.specs.declared.debug_words.stubs.StubRegister.{StubRegister}
+use Rattle.command_shell.specs.Stub.{Stub}
+use Rattle.command_shell.specs.StubFlags.{StubFlags}
+use Rattle.command_shell.specs.StubRegister.{StubRegister}
 use Rattle.debug_tables.specs.byte_writes.Put.{bytes_fit, script_after_put}
 use Rattle.debug_tables.specs.declared.stub_deeds.BankSetting.{BankSetting}
 use Rattle.debug_tables.specs.declared.stubs.StubError.{StubError}

@@ -5,10 +5,10 @@ use Rattle.std.specs.Prelude.{◌≡◌, ◌⊎◌, ℕ, ◌+◌, ◌*◌, ◌%�
 use Rattle.profile.specs.Word.{bit_of, field}
 use Rattle.profile.specs.declared.fault.Fault.{Fault}
 use Rattle.address_map.specs.Bytes.{Bytes}
-use Rattle.arm_core.specs.Effect.{with_next_pc}
-use Rattle.arm_core.specs.State.{State}
-use Rattle.arm_core.specs.declared.turn.StepEnd.{StepEnd}
-use Rattle.arm_core.specs.declared.turn.StepEnd.TheVariants as turn
+use Rattle.command_shell.specs.Effect.{with_next_pc}
+use Rattle.command_shell.specs.ArmCoreState.{State}
+use Rattle.command_shell.specs.StepEnd.{StepEnd}
+use Rattle.command_shell.specs.StepEnd.TheVariants as turn
 use Rattle.arm_decode.specs.Table.{form_of}
 use Rattle.arm_decode.specs.declared.form.Form.{Form}
 use Rattle.arm_decode.specs.declared.form.Form.TheVariants as form

@@ -7,10 +7,8 @@ ghost use Rattle.debug_tables.specs.Stubs.{has_swi_form, is_known_swi, swi_next,
 ghost use Rattle.command_shell.specs.GuestState.{state_of};
 
 use address_map::AddressMap;
-use arm_core::condition::is_met;
-use arm_core::{Cpu, Psr};
 use arm_decode::{Action, Condition, Form, decode, row_of};
-use command_shell::Machine;
+use command_shell::{Cpu, Machine, Psr, is_met};
 use profile::SwiName;
 use profile::memory_map::RETURN_GATE;
 

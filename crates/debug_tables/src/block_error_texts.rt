@@ -3,13 +3,11 @@
 ghost use Rattle.std.specs.Prelude.{◌≡◌, ◌++◌, IfOk, OnOk};
 ghost use Rattle.std.specs.List.{flat_map};
 ghost use Rattle.debug_tables.specs.BlockErrorTexts.{block_errors_text, error_text, error_text_if, errors_text, listed_errors_text, part_shown, asm_reason_text, text_with_errors};
-ghost use Rattle.command_shell_lines.specs.Blocks.{block_lines};
-ghost use Rattle.command_shell_lines.specs.Requests.{request_of_command};
+ghost use Rattle.command_shell.specs.CommandShellLinesBlocks.{block_lines};
+ghost use Rattle.command_shell.specs.Requests.{request_of_command};
 
 use crate::block_errors::errors_of_block;
-use assembler::{AsmError, Reason};
-use assembler_text::naming::words::{after_spaces, word};
-use command_shell_lines::{ScriptCommand, is_block_end};
+use command_shell::{AsmError, Reason, ScriptCommand, after_spaces, is_block_end, word};
 use itoa::Buffer;
 use profile::text_lines::Lines;
 use std::alloc::{AllocError, Global};

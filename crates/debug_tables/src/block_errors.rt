@@ -2,12 +2,9 @@
 
 ghost use Rattle.std.specs.Prelude.{◌≡◌, ◌<◌, ◌^◌, IfOk};
 ghost use Rattle.debug_tables.specs.BlockErrors.{BlockErrorsAreTheirLines, block_errors, line_without, next_error, part_kept, source_without};
-ghost use Rattle.command_shell_lines.specs.Blocks.{block_lines};
+ghost use Rattle.command_shell.specs.CommandShellLinesBlocks.{block_lines};
 
-use assembler::{AsmError, Reason, assemble};
-use assembler_text::naming::labels::is_label;
-use assembler_text::naming::words::word;
-use command_shell_lines::{Origin, is_block_end};
+use command_shell::{AsmError, Origin, Reason, assemble, is_block_end, is_label, word};
 use profile::text_lines::Lines;
 use std::alloc::{AllocError, Global};
 

@@ -22,6 +22,10 @@ pub use block_error_texts::with_errors;
 pub use command_shell::watches::{
     MOST_WATCHES, WatchHit, WatchedWord, WordWatchError, WordWatches, first_change, push_watch,
 };
+pub use command_shell::{
+    CallEnd, Machine, Nowhere, OutsideCall, RunError, Session, labels_of_lines, print_stepped,
+    print_stop,
+};
 pub use modes::StepModes;
 pub use step_words::{WordFlow, word_flow};
 pub use stub_deeds::{BankSetting, STUB_END, StubDeed};

@@ -6,8 +6,7 @@ ghost use Rattle.profile.specs.Output.{Writes};
 ghost use Rattle.command_shell.specs.Session.{script_state};
 ghost use Rattle.debug_tables.specs.Routines.{caller_in, returned_text, script_at_routine, script_back, step_count_text};
 
-use arm_core::Mode;
-use command_shell::Session;
+use command_shell::{Mode, Session};
 use itoa::Buffer;
 use profile::memory_map::ADDRESS_LIMIT;
 use profile::{Sink, WriteFault, push_all, push_parts};

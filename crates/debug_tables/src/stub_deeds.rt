@@ -6,11 +6,9 @@ ghost use Rattle.address_map.specs.Memory.{bytes_of};
 ghost use Rattle.debug_tables.specs.Stubs.{bank_setting, bytes_of_stub_words, deed_back, deed_of_answer, deed_of_entry, deed_of_error, deed_of_return, deed_of_stub, deed_unless_fetched, kept_at, words_kept, next_address, stub_settings_in, status_back, status_with_flags, word_back, words_found};
 
 use address_map::AddressMap;
-use arm_core::{Cpu, Mode, Psr};
 use arrayvec::ArrayVec;
 use command_shell::watches::mapped_word;
-use command_shell_lines::RegisterNumber;
-use command_shell_lines::debug_words::{Stub, StubFlags, StubRegister};
+use command_shell::{Cpu, Mode, Psr, RegisterNumber, Stub, StubFlags, StubRegister};
 use profile::memory_map::ADDRESS_LIMIT;
 use profile::word::is_bit_set;
 use std::marker::Model;

@@ -11,8 +11,7 @@ use crate::ahead::{is_known_swi, swi_next};
 use crate::byte_writes::fits;
 use crate::stub_deeds::{STUB_END, StubDeed, deed_of_stub, deed_unless_fetched};
 use arrayvec::ArrayVec;
-use command_shell::{Machine, without_x_bit};
-use command_shell_lines::debug_words::Stub;
+use command_shell::{Machine, Stub, without_x_bit};
 use std::marker::Model;
 
 /// How many stubs there can be.
@@ -51,7 +50,7 @@ pub struct Stubs {
 
 impl Model for Stubs {
     ghost use Rattle.std.specs.Prelude.{List, ◌≤◌, length};
-    ghost use Rattle.command_shell_lines.specs.declared.debug_words.stubs.Stub.{Stub};
+    ghost use Rattle.command_shell.specs.Stub.{Stub};
 
     ghost Value = { List Stub };
 

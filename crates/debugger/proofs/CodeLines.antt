@@ -3,7 +3,7 @@ use Rattle.std.proofs.Common.{◌≡◌, ◌<◌, ◌≤◌, ◌+◌, ◌-◌, �
 use Rattle.std.specs.Io.KnownBytes.{Appends}
 use Rattle.profile.specs.Output.{AddsAllBut}
 use Rattle.profile.proofs.OutputLemmas.{AddsAllBut-start, AddsAllBut-more, Appends-from_all_but}
-use Rattle.address_map.specs.Bytes.{Bytes}
+use Rattle.swi_dispatch_guest.specs.Bytes.{Bytes}
 use Rattle.debugger.specs.Code.{code_line, code_text}
 
 pub one_line : (b : Bytes) (a n k : ℕ) → k < n

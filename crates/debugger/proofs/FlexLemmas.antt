@@ -1,7 +1,7 @@
 -- What is shown of the flex store, if there is one.
 use Rattle.std.proofs.Common.{◌≡◌, ℕ, List, ◌++◌, Some, refl}
-use Rattle.address_map.specs.declared.map.AddressMap.{AddressMap}
-use Rattle.address_map.specs.Memory.{bytes_of}
+use Rattle.swi_dispatch_guest.specs.AddressMap.{AddressMap}
+use Rattle.swi_dispatch_guest.specs.AddressMapMemory.{bytes_of}
 use Rattle.swi_dispatch_guest.specs.Listed.{all_listed}
 use Rattle.swi_dispatch_guest.specs.State.{flex_in}
 use Rattle.swi_dispatch_guest.specs.FlexBlock.{FlexBlock}

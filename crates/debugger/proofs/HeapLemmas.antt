@@ -4,12 +4,12 @@ use Rattle.std.proofs.lemmas.Bool.Decides.{nat_tests}
 use Rattle.std.specs.Prelude.{nat_le, IsSome, IfSome}
 use Rattle.std.specs.Option.{option_map}
 use Rattle.profile.proofs.OutputLemmas.{AddsAllBut-start, AddsAllBut-more, AddsAllBut-same, Appends-from_all_but}
-use Rattle.address_map.proofs.Spans.{mapped_below}
-use Rattle.address_map.specs.declared.item.Item.{Item}
-use Rattle.address_map.specs.declared.map.AddressMap.{AddressMap}
-use Rattle.address_map.specs.Bytes.{word_loaded, word_at, word_start}
-use Rattle.address_map.specs.Items.{total_of, size_of}
-use Rattle.address_map.specs.Memory.{bytes_of}
+use Rattle.swi_dispatch_guest.proofs.Spans.{mapped_below}
+use Rattle.swi_dispatch_guest.specs.Item.{Item}
+use Rattle.swi_dispatch_guest.specs.AddressMap.{AddressMap}
+use Rattle.swi_dispatch_guest.specs.Bytes.{word_loaded, word_at, word_start}
+use Rattle.swi_dispatch_guest.specs.Items.{total_of, size_of}
+use Rattle.swi_dispatch_guest.specs.AddressMapMemory.{bytes_of}
 use Rattle.swi_dispatch_guest.specs.lists.Heap.{HeapList, IsHeapIn}
 use Rattle.swi_dispatch_guest.specs.HeapCalls.{items_of}
 use Rattle.swi_dispatch_guest.specs.Store.{Store, store_of, find_heap, IsSound}

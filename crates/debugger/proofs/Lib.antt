@@ -1,3 +1,6 @@
+pub use Rattle.swi_dispatch_guest.proofs.GateLemmas
+pub use Rattle.swi_dispatch_guest.proofs.Owned
+pub use Rattle.swi_dispatch_guest.proofs.Runs
 pub mod CodeLines
 pub mod FlexLemmas
 pub mod HeapLemmas

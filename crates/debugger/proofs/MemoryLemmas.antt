@@ -2,7 +2,7 @@
 use Rattle.std.proofs.Common.{◌≡◌, ℕ, suc, ◌+◌, ◌-◌, ◌/◌, ◌<◌, [], ◌++◌, ap, ◌∙◌, arith, refl}
 use Rattle.std.specs.Prelude.{min}
 use Rattle.profile.proofs.OutputLemmas.{AddsAllBut-start, AddsAllBut-more, AddsAllBut-same, Appends-from_all_but}
-use Rattle.address_map.specs.Bytes.{Bytes}
+use Rattle.swi_dispatch_guest.specs.Bytes.{Bytes}
 use Rattle.debugger.specs.Memory.{byte_text, bytes_text, line_text, lines_text, memory_text}
 use Rattle.profile.specs.Sums.{address_further}
 

@@ -5,9 +5,9 @@ use Rattle.std.specs.List.{flat_map}
 use Rattle.std.proofs.lemmas.List.{drop_more, drop_all}
 use Rattle.std.proofs.lemmas.Option.{slice_get-get_or}
 use Rattle.profile.proofs.OutputLemmas.{AddsAllBut-start, AddsAllBut-more, AddsAllBut-same, Appends-from_all_but}
-use Rattle.address_map.specs.Bytes.{Bytes}
-use Rattle.instances.specs.Lookup.{shown_of_instance, shown_of_place, instance_count}
-use Rattle.instances.specs.Modules.{Instance, Module}
+use Rattle.swi_dispatch_guest.specs.Bytes.{Bytes}
+use Rattle.swi_dispatch_guest.specs.Lookup.{shown_of_instance, shown_of_place, instance_count}
+use Rattle.swi_dispatch_guest.specs.Modules.{Instance, Module}
 use Rattle.debugger.specs.Modules.{one_text, instance_line, instances_text}
 
 pub next_shown : {X : Type 0} (text : X → List ℕ) (xs : List X) (n : ℕ) → n < length xs

@@ -3,7 +3,7 @@
 use Rattle.std.specs.Prelude.{ℕ, zero, suc, ◌+◌, ◌%◌, ◌^◌, List, [], ◌++◌, codes, Result, Ok, Err}
 use Rattle.profile.specs.Digits.{hex_word}
 use Rattle.profile.specs.declared.fault.Fault.{Fault}
-use Rattle.address_map.specs.Bytes.{Bytes, word_loaded}
+use Rattle.swi_dispatch_guest.specs.Bytes.{Bytes, word_loaded}
 use Rattle.assembler_text.specs.Printing.{print}
 
 abbrev pub line_address_text : ℕ → List ℕ

@@ -6,9 +6,9 @@ use Rattle.std.specs.Prelude.{ℕ, ◌+◌, ◌++◌, List, [], ◌∷◌, codes
 use Rattle.std.specs.Option.{option_map}
 use Rattle.std.specs.Fmt.{decimal}
 use Rattle.profile.specs.Digits.{hex_word}
-use Rattle.address_map.specs.declared.item.Item.{Item}
-use Rattle.address_map.specs.declared.item.Item.TheVariants.{Live, Free}
-use Rattle.address_map.specs.Items.{total_of, size_of}
+use Rattle.swi_dispatch_guest.specs.Item.{Item}
+use Rattle.swi_dispatch_guest.specs.Item.TheVariants.{Live, Free}
+use Rattle.swi_dispatch_guest.specs.Items.{total_of, size_of}
 use Rattle.swi_dispatch_guest.specs.lists.Heap.{HeapList}
 use Rattle.swi_dispatch_guest.specs.Store.{Store, find_heap}
 

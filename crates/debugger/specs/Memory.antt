@@ -4,7 +4,7 @@ use Rattle.std.specs.Prelude.{ℕ, zero, suc, ◌+◌, ◌-◌, ◌/◌, ◌%◌
 use Rattle.profile.specs.Sums.{address_further}
 use Rattle.profile.specs.Digits.{hex_digit, hex_word}
 use Rattle.profile.specs.declared.fault.Fault.{Fault}
-use Rattle.address_map.specs.Bytes.{Bytes, byte_loaded}
+use Rattle.swi_dispatch_guest.specs.Bytes.{Bytes, byte_loaded}
 
 abbrev pub hex_byte : ℕ → List ℕ
 hex_byte byte = hex_digit (byte / 16) ∷ hex_digit (byte % 16) ∷ []

@@ -7,11 +7,11 @@ use Rattle.std.specs.Fmt.{decimal}
 use Rattle.std.specs.List.{flat_map}
 use Rattle.std.specs.Result.{result_unwrap_or}
 use Rattle.profile.specs.Digits.{hex_word}
-use Rattle.address_map.specs.Bytes.{Bytes, word_loaded}
-use Rattle.instances.specs.InstancesTableModuleInfo.{ModuleInfo}
-use Rattle.instances.specs.InstancesTableInstanceInfo.{InstanceInfo}
-use Rattle.instances.specs.Lookup.{shown_of_module, shown_of_instance}
-use Rattle.instances.specs.Modules.{Instance, Module}
+use Rattle.swi_dispatch_guest.specs.Bytes.{Bytes, word_loaded}
+use Rattle.swi_dispatch_guest.specs.ModuleInfo.{ModuleInfo}
+use Rattle.swi_dispatch_guest.specs.InstanceInfo.{InstanceInfo}
+use Rattle.swi_dispatch_guest.specs.Lookup.{shown_of_module, shown_of_instance}
+use Rattle.swi_dispatch_guest.specs.Modules.{Instance, Module}
 
 -- what is shown of something, nothing where there is none
 abbrev pub one_text : {X : Type 0} → (X → List ℕ) → Option X → List ℕ

@@ -2,10 +2,10 @@
 -- digits, and a line of the status, a set flag in capitals.
 use Rattle.std.specs.Prelude.{ℕ, Bool, ◌+◌, ◌++◌, nat_lt, List, [], ◌∷◌, codes, if◌then◌else◌}
 use Rattle.profile.specs.Digits.{hex_word}
-use Rattle.arm_step.specs.ArmCoreMode.{Mode}
-use Rattle.arm_step.specs.ArmCoreMode.TheVariants.{User, FastInterrupt, Interrupt, Supervisor}
-use Rattle.arm_step.specs.ArmCorePsr.{Psr}
-use Rattle.arm_step.specs.State.{State, register_of}
+use Rattle.swi_dispatch_guest.specs.ArmCoreMode.{Mode}
+use Rattle.swi_dispatch_guest.specs.ArmCoreMode.TheVariants.{User, FastInterrupt, Interrupt, Supervisor}
+use Rattle.swi_dispatch_guest.specs.ArmCorePsr.{Psr}
+use Rattle.swi_dispatch_guest.specs.ArmCoreState.{State, register_of}
 
 -- a register's name, padded to three places, and a space
 abbrev pub register_label : ℕ → List ℕ

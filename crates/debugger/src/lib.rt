@@ -14,11 +14,15 @@ mod registers;
 pub mod views;
 
 pub use areas::show_areas;
+pub use assembler_text::disassemble;
 pub use code::show_code;
 pub use flex::show_flex;
 pub use heap::show_blocks;
-pub use instances::{Instances, ModuleInfo};
 pub use memory::{hex_byte, show_memory};
 pub use modules::show_modules;
 pub use registers::{mode_name, push_flags, push_status, show_regs};
-pub use swi_dispatch_guest::{CodeKind, Frame, FrameKind, Machine, without_x_bit};
+pub use swi_dispatch_guest::{
+    AddressMap, BootError, BreakError, Breaks, CodeKind, Cpu, Frame, FrameKind, InstanceInfo,
+    Instances, MAX_TEXT, Machine, Mode, ModuleInfo, Payload, Psr, Ran, TextEnd, is_met, next_word,
+    text_at, without_x_bit,
+};

@@ -5,9 +5,8 @@ ghost use Rattle.profile.specs.Output.{Writes};
 ghost use Rattle.debugger.specs.Registers.{register_label, row_text, flags_and_mode_text, status_text, cpu_registers_text, flag_letter, flag_letters, mode_text};
 ghost use Rattle.swi_dispatch_guest.specs.GuestState.{state_of};
 
-use arm_step::{Cpu, Mode, Psr};
 use profile::{HexText, Sink, WriteFault, push_all, push_parts};
-use swi_dispatch_guest::Machine;
+use swi_dispatch_guest::{Cpu, Machine, Mode, Psr};
 
 /// Writes the registers of the present mode, four on a line, and a line of the status, in which a
 /// set flag stands in capitals.

@@ -6,7 +6,7 @@ use Rattle.std.specs.Prelude.{is_some}
 use Rattle.std.specs.List.{list_any}
 use Rattle.std.proofs.lemmas.Bool.{cases_Bool, cases_eq, cases_lt, eqb-true, eq-eqb, lt-ltb, le-ltb, le-leb, lt-leb, leb-true, and_parts, and_right, false≢true, false_from_ne_true}
 use Rattle.profile.specs.Sizes.{Sizes, AreGood}
-use Rattle.address_map.specs.Bytes.{shares_address, in_range}
+use Rattle.os_heap.specs.Bytes.{shares_address, in_range}
 use Rattle.dynamic_areas.specs.declared.area.Area.{Area}
 use Rattle.dynamic_areas.specs.Areas.{find_area, with_pages, area_with_pages, pages_of}
 use Rattle.dynamic_areas.specs.Ground.{is_fixed, is_in_area}

@@ -1,12 +1,12 @@
 -- Which words are marked while pages come and go: those that the heaps spell, as before.
 use Rattle.std.proofs.Common.{◌≡◌, ℕ, List, false, ◌∙◌, sym, ap, inl, inr}
 use Rattle.std.proofs.lemmas.Bool.{cases_Bool}
-use Rattle.address_map.specs.Bytes.{in_range, word_start}
-use Rattle.address_map.specs.Classes.{is_heap_class}
-use Rattle.address_map.specs.Memory.{bytes_of, class_of}
-use Rattle.address_map.proofs.Anchors.{unanchored}
-use Rattle.address_map.specs.Records.{anchor_among, HasNoAnchor, with_plain_at}
-use Rattle.address_map.specs.declared.map.AddressMap.{AddressMap}
+use Rattle.os_heap.specs.Bytes.{in_range, word_start}
+use Rattle.os_heap.specs.Classes.{is_heap_class}
+use Rattle.os_heap.specs.Memory.{bytes_of, class_of}
+use Rattle.os_heap.proofs.Anchors.{unanchored}
+use Rattle.os_heap.specs.Records.{anchor_among, HasNoAnchor, with_plain_at}
+use Rattle.os_heap.specs.AddressMap.{AddressMap}
 use Rattle.os_heap.specs.lists.Heap.{HeapList}
 use Rattle.os_heap.specs.lists.Marks.{spells_any}
 use Rattle.os_heap.specs.Store.{store_of, AreClasses, IsSound, IsClearOfHeaps}

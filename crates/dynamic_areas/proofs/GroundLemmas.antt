@@ -4,10 +4,10 @@ use Rattle.std.proofs.Common.{◌≡◌, ℕ, ◌+◌, ◌-◌, ◌*◌, ◌<◌
 use Rattle.std.proofs.Math.Bool.{and-true}
 use Rattle.std.specs.List.{list_any}
 use Rattle.std.proofs.lemmas.Bool.{cases_Bool}
-use Rattle.address_map.proofs.InRange.{range_inside, range_past}
-use Rattle.address_map.specs.declared.region.Region.{Region}
-use Rattle.address_map.specs.Records.{anchor_among}
-use Rattle.address_map.specs.Bytes.{in_range, AreUnmapped}
+use Rattle.os_heap.proofs.InRange.{range_inside, range_past}
+use Rattle.os_heap.specs.Region.{Region}
+use Rattle.os_heap.specs.Records.{anchor_among}
+use Rattle.os_heap.specs.Bytes.{in_range, AreUnmapped}
 use Rattle.os_heap.proofs.RangeTests.{or_middle, range_high, range_low}
 use Rattle.os_heap.specs.Store.{Store, IsClearOfHeaps}
 use Rattle.os_heap.proofs.Stores.{clear_both_ways}

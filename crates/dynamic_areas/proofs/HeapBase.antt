@@ -3,10 +3,10 @@ use Rattle.profile.specs.MemoryMap.{module_area_start}
 use Rattle.std.proofs.Common.{◌≡◌, ℕ, ◌+◌, ◌≤◌, ◌^◌, true, refl, ap, Some, None, Ok, arith}
 use Rattle.std.specs.Prelude.{is_some, Option}
 use Rattle.std.proofs.lemmas.Bool.{false≢true}
-use Rattle.address_map.specs.declared.map.AddressMap.{AddressMap}
-use Rattle.address_map.specs.Bytes.{word_loaded, word_at}
-use Rattle.address_map.specs.Items.{size_of}
-use Rattle.address_map.specs.Memory.{is_mapped, byte_at, bytes_of}
+use Rattle.os_heap.specs.AddressMap.{AddressMap}
+use Rattle.os_heap.specs.Bytes.{word_loaded, word_at}
+use Rattle.os_heap.specs.Items.{size_of}
+use Rattle.os_heap.specs.Memory.{is_mapped, byte_at, bytes_of}
 use Rattle.os_heap.specs.lists.Heap.{HeapList, IsHeapIn}
 use Rattle.os_heap.specs.Store.{IsSound, store_of, find_heap}
 use Rattle.os_heap.proofs.RangeTests.{range_end}

@@ -7,15 +7,15 @@ use Rattle.std.proofs.lemmas.Bool.{cases_Bool, eqb-true, eq-eqb, false≢true}
 use Rattle.profile.specs.Outcome.{bind, Gives}
 use Rattle.profile.specs.declared.error.ErrorNumber.{ErrorNumber}
 use Rattle.profile.specs.declared.error.ErrorNumber.TheVariants.{BlockHoldsHeap, HeapBadDesc, HeapHoldsAnchor, HeapNoRoom, HeapNotABlock}
-use Rattle.address_map.proofs.InRange.{range_inside}
-use Rattle.address_map.specs.Bytes.{Bytes, in_range, AreMapped}
-use Rattle.address_map.specs.Memory.{Layout, Mapping, bytes_of, regions, layout, mapping, is_mapped, place, free_pages}
-use Rattle.address_map.specs.Records.{anchor_among, is_heap_kind}
-use Rattle.address_map.specs.declared.map.AddressMap.{AddressMap}
-use Rattle.address_map.specs.declared.region.Kind.TheVariants.{Heap}
-use Rattle.address_map.specs.declared.item.Item.{Item}
-use Rattle.address_map.specs.declared.region.Region.{Region}
-use Rattle.address_map.specs.Items.{size_of}
+use Rattle.os_heap.proofs.InRange.{range_inside}
+use Rattle.os_heap.specs.Bytes.{Bytes, in_range, AreMapped}
+use Rattle.os_heap.specs.Memory.{Layout, Mapping, bytes_of, regions, layout, mapping, is_mapped, place, free_pages}
+use Rattle.os_heap.specs.Records.{anchor_among, is_heap_kind}
+use Rattle.os_heap.specs.AddressMap.{AddressMap}
+use Rattle.os_heap.specs.Kind.TheVariants.{Heap}
+use Rattle.os_heap.specs.Item.{Item}
+use Rattle.os_heap.specs.Region.{Region}
+use Rattle.os_heap.specs.Items.{size_of}
 use Rattle.os_heap.specs.lists.Heap.{HeapList}
 use Rattle.os_heap.specs.lists.Lists.{Claim, changed_by, claim_in_items, live_total, items_after_release, resized_in_place, round_up_8}
 use Rattle.os_heap.specs.Store.{Store, store_of, heap_in, heaps_in, others_in, IsSound, find_heap, guest_count, has_image}

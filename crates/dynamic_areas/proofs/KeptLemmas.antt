@@ -1,8 +1,8 @@
 -- What is mapped stays in place where a step before or after moves no page; and where areas stand,
 -- the module area's heap is there.
 use Rattle.std.proofs.Common.{◌≡◌, ◌∙◌, ℕ, Option, Some, None, is_some, true, ap, refl, sym}
-use Rattle.address_map.specs.Memory.{Mapping, StaysInPlace, mapping, place}
-use Rattle.address_map.specs.declared.map.AddressMap.{AddressMap}
+use Rattle.os_heap.specs.Memory.{Mapping, StaysInPlace, mapping, place}
+use Rattle.os_heap.specs.AddressMap.{AddressMap}
 use Rattle.os_heap.specs.lists.Heap.{HeapList}
 use Rattle.os_heap.specs.Store.{Store, find_heap}
 use Rattle.profile.specs.MemoryMap.{module_area_start}

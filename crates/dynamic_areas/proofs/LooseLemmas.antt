@@ -2,8 +2,8 @@
 use Rattle.std.proofs.Common.{◌≡◌, ◌≢◌, ℕ, ◌+◌, ◌-◌, ◌*◌, ◌/◌, ◌<◌, ◌≤◌, Bool, false, suc, zero, inl, inr, arith}
 use Rattle.std.proofs.lemmas.Bool.{cases_Bool, cases_lt, ne_eqb}
 use Rattle.os_heap.specs.Store.{Store, IsClearOfHeaps}
-use Rattle.address_map.proofs.Anchors.{among_none, none_among}
-use Rattle.address_map.specs.Records.{anchor_among}
+use Rattle.os_heap.proofs.Anchors.{among_none, none_among}
+use Rattle.os_heap.specs.Records.{anchor_among}
 use Rattle.os_heap.proofs.RangeTests.{clear_of_heaps, unmet}
 use Rattle.dynamic_areas.specs.declared.area.Area.{Area}
 use Rattle.dynamic_areas.specs.Changing.{AreLoose, AreRangesClear, must_stay, held_from, loose_pages}

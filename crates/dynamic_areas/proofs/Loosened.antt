@@ -2,15 +2,15 @@
 use Rattle.profile.specs.MemoryMap.{module_area_start}
 use Rattle.std.proofs.Common.{◌≡◌, ℕ, ◌+◌, ◌-◌, ◌*◌, ◌<◌, ◌≤◌, true, false, List, [], ◌∷◌, ap, Some, inl, inr, arith}
 use Rattle.std.proofs.lemmas.Bool.{both_ways, eq-eqb, ne_eqb, false_from_ne_true}
-use Rattle.address_map.specs.declared.region.Region.{Region}
-use Rattle.address_map.specs.Bytes.{Bytes, in_range}
-use Rattle.address_map.specs.Items.{size_of}
+use Rattle.os_heap.specs.Region.{Region}
+use Rattle.os_heap.specs.Bytes.{Bytes, in_range}
+use Rattle.os_heap.specs.Items.{size_of}
 use Rattle.os_heap.specs.lists.Heap.{HeapList, IsHeapIn}
 use Rattle.os_heap.proofs.LiveBlocks.{LiveBytes, law_live_bytes}
 use Rattle.os_heap.specs.Store.{Store, IsSound, IsClearOfHeaps, AreClear, ArePlaced, find_heap, is_module_area}
-use Rattle.address_map.proofs.Anchors.{among_none}
-use Rattle.address_map.proofs.InRange.{range_inside}
-use Rattle.address_map.specs.Records.{anchor_among}
+use Rattle.os_heap.proofs.Anchors.{among_none}
+use Rattle.os_heap.proofs.InRange.{range_inside}
+use Rattle.os_heap.specs.Records.{anchor_among}
 use Rattle.os_heap.proofs.Anchored.{place_in}
 use Rattle.os_heap.proofs.RangeTests.{range_high, range_low}
 use Rattle.os_heap.specs.Calls.{with_end}

@@ -4,12 +4,12 @@ use Rattle.std.proofs.Common.{◌≡◌, ℕ, ◌+◌, ◌-◌, ◌*◌, ◌%◌
 use Rattle.std.specs.Prelude.{Option}
 use Rattle.std.specs.List.{list_any}
 use Rattle.std.proofs.lemmas.Bool.{cases_Bool, cases_lt, cases_eq, eqb-true, eq-eqb, lt-ltb, le-ltb, ltb-false, and_parts, false≢true, false_from_ne_true}
-use Rattle.address_map.specs.declared.region.Kind.TheVariants.{Rma}
-use Rattle.address_map.specs.declared.region.Region.{Region}
-use Rattle.address_map.proofs.Anchors.{among_none}
-use Rattle.address_map.specs.Records.{anchor_among}
-use Rattle.address_map.specs.Bytes.{Bytes, in_range, shares_address, AreMapped, AreUnmapped}
-use Rattle.address_map.specs.Items.{size_of}
+use Rattle.os_heap.specs.Kind.TheVariants.{Rma}
+use Rattle.os_heap.specs.Region.{Region}
+use Rattle.os_heap.proofs.Anchors.{among_none}
+use Rattle.os_heap.specs.Records.{anchor_among}
+use Rattle.os_heap.specs.Bytes.{Bytes, in_range, shares_address, AreMapped, AreUnmapped}
+use Rattle.os_heap.specs.Items.{size_of}
 use Rattle.os_heap.specs.lists.Heap.{HeapList, IsHeapIn}
 use Rattle.os_heap.specs.Store.{Store, IsSound, IsClearOfHeaps, find_heap, is_module_area}
 use Rattle.os_heap.specs.Ranges.{is_heap_region, is_in_heap, is_obstructed, MayEnd}

@@ -5,11 +5,11 @@ use Rattle.std.specs.Prelude.{Bool, ◌||◌}
 use Rattle.std.specs.List.{list_any}
 use Rattle.std.proofs.lemmas.Bool.{cases_Bool, true≢false}
 use Rattle.std.proofs.lemmas.Bool.Decides.{nat_tests}
-use Rattle.address_map.specs.Bytes.{in_range, shares_address}
-use Rattle.address_map.specs.Counts.{number_below}
-use Rattle.address_map.specs.Memory.{free_pages, is_mapped, page_total}
-use Rattle.address_map.specs.declared.map.AddressMap.{AddressMap}
-use Rattle.address_map.proofs.Counting.{counted_same, pages_counted}
+use Rattle.os_heap.specs.Bytes.{in_range, shares_address}
+use Rattle.os_heap.specs.Counts.{number_below}
+use Rattle.os_heap.specs.Memory.{free_pages, is_mapped, page_total}
+use Rattle.os_heap.specs.AddressMap.{AddressMap}
+use Rattle.os_heap.proofs.Counting.{counted_same, pages_counted}
 use Rattle.profile.specs.Sizes.{Sizes, AreGood}
 use Rattle.os_heap.specs.Store.{store_of}
 use Rattle.dynamic_areas.specs.Areas.{AreaTable, pages_of}

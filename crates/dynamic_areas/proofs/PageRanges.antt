@@ -3,9 +3,9 @@ use Rattle.std.proofs.Common.{◌≡◌, ℕ, zero, suc, ◌+◌, ◌*◌, ◌<�
 use Rattle.std.specs.Prelude.{Bool, ◌||◌, if◌then◌else◌, nat_le, nat_lt}
 use Rattle.std.proofs.lemmas.Bool.{cases_lt}
 use Rattle.std.proofs.lemmas.Bool.Decides.{nat_tests}
-use Rattle.address_map.proofs.InRange.{range_before, range_inside, range_past}
-use Rattle.address_map.specs.Bytes.{in_range}
-use Rattle.address_map.specs.Counts.{number_below}
+use Rattle.os_heap.proofs.InRange.{range_before, range_inside, range_past}
+use Rattle.os_heap.specs.Bytes.{in_range}
+use Rattle.os_heap.specs.Counts.{number_below}
 
 -- of two tests that no number passes both
 pub counted_either : (f g : ℕ → Bool) (n : ℕ) → ((k : ℕ) → k < n → f k ≡ true → g k ≡ false)

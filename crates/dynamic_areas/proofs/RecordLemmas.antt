@@ -3,10 +3,10 @@ use Rattle.std.proofs.Common.{◌≡◌, ℕ, ◌+◌, ◌-◌, ◌*◌, ◌/◌
 use Rattle.std.specs.List.{list_any}
 use Rattle.std.proofs.Math.Dec.{ltb}
 use Rattle.std.proofs.lemmas.Bool.{cases_Bool, cases_lt, ltb-true, and_parts, or_parts, false≢true, false_from_ne_true}
-use Rattle.address_map.proofs.InRange.{range_inside}
-use Rattle.address_map.specs.declared.region.Region.{Region}
-use Rattle.address_map.specs.Bytes.{Bytes, shares_address}
-use Rattle.address_map.specs.Records.{is_heap_kind, meets_record}
+use Rattle.os_heap.proofs.InRange.{range_inside}
+use Rattle.os_heap.specs.Region.{Region}
+use Rattle.os_heap.specs.Bytes.{Bytes, shares_address}
+use Rattle.os_heap.specs.Records.{is_heap_kind, meets_record}
 use Rattle.os_heap.specs.Store.{AreClear, IsClearOfHeaps, heaps_in, others_in}
 use Rattle.os_heap.proofs.RangeTests.{clear_unless, range_high, range_low}
 use Rattle.os_heap.specs.lists.Heap.{HeapList}

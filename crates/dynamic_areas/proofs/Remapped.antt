@@ -2,15 +2,15 @@
 -- stays sound.
 use Rattle.std.proofs.Common.{Bool, ◌≡◌, ℕ, ◌+◌, ◌<◌, ◌≤◌, ◌&&◌, ◌||◌, not, true, false, List, [], ◌∷◌, refl, sym, ap, ◌∙◌, inl, inr}
 use Rattle.std.proofs.lemmas.Bool.{cases_Bool, or_from, and_parts, false≢true, false_from_ne_true}
-use Rattle.address_map.proofs.InRange.{range_inside}
-use Rattle.address_map.specs.declared.map.AddressMap.{AddressMap}
-use Rattle.address_map.specs.declared.item.Item.{Item}
-use Rattle.address_map.specs.Bytes.{Bytes, in_range, AreMapped, AreUnmapped, with_zeros_at}
-use Rattle.address_map.specs.Classes.{is_flex_header, is_anchor}
-use Rattle.address_map.specs.Memory.{is_mapped, byte_at, bytes_of, regions, class_of}
-use Rattle.address_map.proofs.Anchors.{none_among}
-use Rattle.address_map.specs.Records.{anchor_among, with_plain_at}
-use Rattle.address_map.specs.declared.region.Region.{Region}
+use Rattle.os_heap.proofs.InRange.{range_inside}
+use Rattle.os_heap.specs.AddressMap.{AddressMap}
+use Rattle.os_heap.specs.Item.{Item}
+use Rattle.os_heap.specs.Bytes.{Bytes, in_range, AreMapped, AreUnmapped, with_zeros_at}
+use Rattle.os_heap.specs.Classes.{is_flex_header, is_anchor}
+use Rattle.os_heap.specs.Memory.{is_mapped, byte_at, bytes_of, regions, class_of}
+use Rattle.os_heap.proofs.Anchors.{none_among}
+use Rattle.os_heap.specs.Records.{anchor_among, with_plain_at}
+use Rattle.os_heap.specs.Region.{Region}
 use Rattle.os_heap.specs.lists.Heap.{HeapList, IsHeapIn}
 use Rattle.os_heap.proofs.HeapWords.{heap_kept}
 use Rattle.os_heap.specs.Store.{Store, store_of, IsSound, AreHeapsIn, IsClearOfHeaps, AreClear, is_flex_store, is_in_flex_store}

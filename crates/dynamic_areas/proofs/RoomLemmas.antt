@@ -6,7 +6,7 @@ use Rattle.profile.specs.declared.error.ErrorNumber.TheVariants.{AreaUnknown}
 use Rattle.std.proofs.Math.Bool.{and_comm}
 use Rattle.std.proofs.Math.Dec.{ltb}
 use Rattle.std.proofs.lemmas.Bool.{cases_Bool, cases_eq, cases_lt, eqb-true, eq-eqb, ne_eqb, lt-ltb, le-ltb, leb-true, or_parts, and_parts, false≢true}
-use Rattle.address_map.specs.Bytes.{shares_address}
+use Rattle.os_heap.specs.Bytes.{shares_address}
 use Rattle.dynamic_areas.specs.declared.area.Area.{Area}
 use Rattle.dynamic_areas.specs.Areas.{find_area, area_in, with_area, without_area, with_pages, with_number, is_created}
 use Rattle.dynamic_areas.specs.Creating.{least_number}

@@ -3,8 +3,8 @@ use Rattle.profile.specs.MemoryMap.{application_start, module_area_start, system
 use Rattle.std.proofs.Common.{◌≡◌, ℕ, ◌+◌, ◌-◌, ◌*◌, ◌/◌, ◌≤◌, ◌==◌, ◌||◌, Bool, true, false, Some, None, refl, sym, ap, ◌∙◌, inl, inr, arith}
 use Rattle.std.specs.Prelude.{Option}
 use Rattle.std.proofs.lemmas.Bool.{cases_Bool, false≢true, false_from_ne_true}
-use Rattle.address_map.proofs.InRange.{range_inside}
-use Rattle.address_map.specs.Bytes.{in_range}
+use Rattle.os_heap.proofs.InRange.{range_inside}
+use Rattle.os_heap.specs.Bytes.{in_range}
 use Rattle.os_heap.proofs.RangeTests.{range_high, range_low}
 use Rattle.os_heap.specs.lists.Heap.{HeapList}
 use Rattle.os_heap.specs.Store.{Store, find_heap}

@@ -2,10 +2,10 @@
 use Rattle.profile.specs.MemoryMap.{system_start}
 use Rattle.std.proofs.Common.{inl, inr, ◌≡◌, ℕ, false, List, [], ◌∷◌, sym, ap}
 use Rattle.std.proofs.lemmas.Bool.{true≢false}
-use Rattle.address_map.specs.declared.map.AddressMap.{AddressMap}
-use Rattle.address_map.specs.declared.region.Region.{Region}
-use Rattle.address_map.specs.Bytes.{in_range}
-use Rattle.address_map.specs.Memory.{byte_at, class_of, layout}
+use Rattle.os_heap.specs.AddressMap.{AddressMap}
+use Rattle.os_heap.specs.Region.{Region}
+use Rattle.os_heap.specs.Bytes.{in_range}
+use Rattle.os_heap.specs.Memory.{byte_at, class_of, layout}
 use Rattle.os_heap.specs.lists.Heap.{HeapList}
 use Rattle.os_heap.specs.Store.{Store, AreClasses, ArePlaced, IsClearOfHeaps, IsSound, store_of}
 use Rattle.os_heap.proofs.Frame.{IsKept, classes_same, clear_kept}

@@ -6,9 +6,9 @@ use Rattle.std.specs.Prelude.{ℕ, ◌+◌, ◌-◌, ◌*◌, ◌/◌, ◌^◌, 
 use Rattle.profile.specs.Outcome.{bind}
 use Rattle.profile.specs.declared.error.ErrorNumber.{ErrorNumber}
 use Rattle.profile.specs.declared.error.ErrorNumber.TheVariants.{AreaUnknown, AreaInUse, AreaNoPages}
-use Rattle.address_map.specs.Items.{size_of}
-use Rattle.address_map.specs.Records.{anchor_among}
-use Rattle.address_map.specs.declared.region.Region.{Region}
+use Rattle.os_heap.specs.Items.{size_of}
+use Rattle.os_heap.specs.Records.{anchor_among}
+use Rattle.os_heap.specs.Region.{Region}
 use Rattle.os_heap.specs.lists.Heap.{HeapList}
 use Rattle.os_heap.specs.Store.{Store, AreClear, IsClearOfHeaps, find_heap}
 use Rattle.os_heap.specs.Calls.{ending}

@@ -5,11 +5,11 @@ use Rattle.profile.specs.MemoryMap.{application_start, module_area_start, system
 use Rattle.std.specs.Prelude.{ℕ, ◌≡◌, ◌+◌, ◌-◌, ◌*◌, ◌||◌, ◌⊎◌, Bool, List, [], ◌∷◌, Option, Some, None}
 use Rattle.std.specs.List.{list_any}
 use Rattle.profile.specs.Sizes.{Sizes, AreGood}
-use Rattle.address_map.specs.declared.map.AddressMap.{AddressMap}
-use Rattle.address_map.specs.declared.region.Kind.TheVariants.{Rma, SystemPage}
-use Rattle.address_map.specs.declared.region.Region.{Region}
-use Rattle.address_map.specs.Memory.{free_pages}
-use Rattle.address_map.specs.Bytes.{in_range, AreMapped}
+use Rattle.os_heap.specs.AddressMap.{AddressMap}
+use Rattle.os_heap.specs.Kind.TheVariants.{Rma, SystemPage}
+use Rattle.os_heap.specs.Region.{Region}
+use Rattle.os_heap.specs.Memory.{free_pages}
+use Rattle.os_heap.specs.Bytes.{in_range, AreMapped}
 use Rattle.os_heap.specs.lists.Heap.{HeapList}
 use Rattle.os_heap.specs.Store.{Store, IsSound, find_heap, store_of}
 use Rattle.dynamic_areas.specs.declared.area.Area.{Area}

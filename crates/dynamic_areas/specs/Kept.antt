@@ -1,8 +1,8 @@
 -- A map on whose memory dynamic areas stand, and what a call on areas keeps of it.
 use Rattle.profile.specs.MemoryMap.{module_area_start}
 use Rattle.std.specs.Prelude.{ℕ, ◌≡◌, true, is_some}
-use Rattle.address_map.specs.Memory.{free_pages, regions, StaysInPlace}
-use Rattle.address_map.specs.declared.map.AddressMap.{AddressMap}
+use Rattle.os_heap.specs.Memory.{free_pages, regions, StaysInPlace}
+use Rattle.os_heap.specs.AddressMap.{AddressMap}
 use Rattle.os_heap.specs.Order.{KeepsOrder}
 use Rattle.os_heap.specs.Store.{Store, AreClasses, IsSound, find_heap, store_of}
 use Rattle.dynamic_areas.specs.Areas.{AreaTable}

@@ -1,16 +1,33 @@
 -- What calls on dynamic areas do. Begin with Areas, then Creating and Changing.
-pub use Rattle.address_map.specs.Memory
-pub use Rattle.address_map.specs.declared.map.AddressMap
+pub use Rattle.os_heap.specs.AddressMap
+pub use Rattle.os_heap.specs.BlockMove
+pub use Rattle.os_heap.specs.Bytes
 pub use Rattle.os_heap.specs.Calls
+pub use Rattle.os_heap.specs.Class
+pub use Rattle.os_heap.specs.Classes
 pub use Rattle.os_heap.specs.Forgetting
+pub use Rattle.os_heap.specs.Heap
+pub use Rattle.os_heap.specs.Item
+pub use Rattle.os_heap.specs.Items
+pub use Rattle.os_heap.specs.Kind
+pub use Rattle.os_heap.specs.Marks
+pub use Rattle.os_heap.specs.Memory
+pub use Rattle.os_heap.specs.Moves
 pub use Rattle.os_heap.specs.Nesting
 pub use Rattle.os_heap.specs.Order
+pub use Rattle.os_heap.specs.OsHeapWordsCounts as Counts
+pub use Rattle.os_heap.specs.OsHeapWordsLists
+pub use Rattle.os_heap.specs.Outcomes
 pub use Rattle.os_heap.specs.Payloads
 pub use Rattle.os_heap.specs.Ranges
+pub use Rattle.os_heap.specs.Records
+pub use Rattle.os_heap.specs.Region
 pub use Rattle.os_heap.specs.Room
 pub use Rattle.os_heap.specs.Sound
 pub use Rattle.os_heap.specs.Store
+pub use Rattle.os_heap.specs.Words
 pub use Rattle.os_heap.specs.declared.payload.Payload
+pub use Rattle.os_heap.specs.lists
 pub mod Areas
 pub mod Changing
 pub mod Creating

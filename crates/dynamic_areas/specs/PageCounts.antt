@@ -1,7 +1,7 @@
 -- The areas of a machine say how many pages its memory has (this project's own).
 use Rattle.std.specs.Prelude.{◌≡◌}
-use Rattle.address_map.specs.declared.map.AddressMap.{AddressMap}
-use Rattle.address_map.specs.Memory.{free_pages, page_total}
+use Rattle.os_heap.specs.AddressMap.{AddressMap}
+use Rattle.os_heap.specs.Memory.{free_pages, page_total}
 use Rattle.dynamic_areas.specs.Areas.{AreaTable}
 use Rattle.dynamic_areas.specs.Ground.{AreAreas}
 use Rattle.os_heap.specs.Store.{store_of}

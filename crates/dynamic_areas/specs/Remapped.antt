@@ -1,7 +1,7 @@
 -- The store after pages were mapped, or taken away: no byte of another page changes, no list of a
 -- heap, and no recorded range.
 use Rattle.std.specs.Prelude.{ℕ, ◌&&◌, ◌||◌, not}
-use Rattle.address_map.specs.Bytes.{in_range, with_zeros_at}
+use Rattle.os_heap.specs.Bytes.{in_range, with_zeros_at}
 use Rattle.os_heap.specs.Store.{Store}
 
 -- the `len` bytes from `at` on are mapped too; they are 0, as those that are not mapped

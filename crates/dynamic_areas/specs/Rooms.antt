@@ -5,7 +5,7 @@
 use Rattle.profile.specs.MemoryMap.{area_window_end, area_window_start, module_area_start}
 use Rattle.std.specs.Prelude.{ℕ, ◌≡◌, ◌≤◌, ◌<◌, ◌+◌, ◌*◌, ◌%◌, ◌==◌, ◌&&◌, Bool, true, false, nat_le, List, [], ◌∷◌, length, is_some, if◌then◌else◌}
 use Rattle.std.specs.List.{list_all, list_any}
-use Rattle.address_map.specs.Bytes.{shares_address}
+use Rattle.os_heap.specs.Bytes.{shares_address}
 use Rattle.dynamic_areas.specs.declared.area.Area.{Area}
 use Rattle.dynamic_areas.specs.Areas.{find_area, is_created}
 

@@ -2,7 +2,7 @@
 use Rattle.profile.specs.MemoryMap.{module_area_start}
 use Rattle.std.specs.Prelude.{◌*◌, false, [], ◌∷◌}
 use Rattle.profile.specs.Sizes.{Sizes}
-use Rattle.address_map.specs.declared.region.Kind.TheVariants.{Rma}
+use Rattle.os_heap.specs.Kind.TheVariants.{Rma}
 use Rattle.os_heap.specs.Calls.{store_with_new_heap}
 use Rattle.os_heap.specs.Store.{Store}
 use Rattle.dynamic_areas.specs.Areas.{start_area_table}

@@ -2,7 +2,7 @@
 
 ghost use Rattle.std.specs.Prelude.{◌≡◌, ◌≤◌, ◌<◌, length, Ok, Err, MatchResult};
 ghost use Rattle.profile.specs.Outcome.{Leaves};
-ghost use Rattle.address_map.specs.Memory.{free_pages};
+ghost use Rattle.os_heap.specs.Memory.{free_pages};
 ghost use Rattle.dynamic_areas.specs.Areas.{area_in, asked_number, extent_of, extent_asked, next_number, module_area, start_area_table, areas_after_renumber, with_area, with_areas, with_pages, without_area};
 ghost use Rattle.dynamic_areas.specs.Kept.{KeepsAreaTable};
 ghost use Rattle.dynamic_areas.specs.Rooms.{IsAreaTable};
@@ -11,8 +11,8 @@ use crate::area::{Area, Extent, MOST_NAME_BYTES};
 use crate::table::{
     MINUS_ONE, MODULE_AREA, MOST_AREAS, find, next_above, put_area, renumber, set_pages, take_area,
 };
-use address_map::AddressMap;
 use arrayvec::ArrayVec;
+use os_heap::AddressMap;
 use profile::memory_map::{PAGE_SIZE, RMA_MAXIMUM, RMA_START};
 use profile::{Config, ErrorNumber};
 use std::marker::Model;

@@ -1,7 +1,7 @@
 //! OS_ChangeDynamicArea: an area grows or shrinks by pages.
 
 ghost use Rattle.std.specs.Prelude.{ℕ, ◌≡◌, ◌≤◌, ◌+◌, ◌-◌, ◌*◌, Some};
-ghost use Rattle.address_map.specs.Memory.{free_pages};
+ghost use Rattle.os_heap.specs.Memory.{free_pages};
 ghost use Rattle.os_heap.specs.Store.{store_of};
 ghost use Rattle.dynamic_areas.specs.declared.area.Area.{Area};
 ghost use Rattle.dynamic_areas.specs.Areas.{find_area};
@@ -12,8 +12,7 @@ use crate::area::Changed;
 use crate::areas::Areas;
 use crate::measure::is_growth;
 use crate::table::{MODULE_AREA, find};
-use address_map::AddressMap;
-use os_heap::Heaps;
+use os_heap::{AddressMap, Heaps};
 use profile::memory_map::PAGE_SIZE;
 
 impl Areas {

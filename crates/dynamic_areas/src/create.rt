@@ -2,7 +2,7 @@
 
 ghost use Rattle.std.specs.Prelude.{◌≡◌, ◌≤◌, ◌*◌, length, MatchResult};
 ghost use Rattle.profile.specs.Outcome.{Gives};
-ghost use Rattle.address_map.specs.Memory.{free_pages};
+ghost use Rattle.os_heap.specs.Memory.{free_pages};
 ghost use Rattle.os_heap.specs.Store.{store_of};
 ghost use Rattle.dynamic_areas.specs.Creating.{are_good_sizes, area_wanted, area_table_after_create, is_good, is_good_base, is_good_number, pages_for, wanted_base, wanted_maximum, wanted_number};
 ghost use Rattle.dynamic_areas.specs.Kept.{IsAreaMap, KeepsRegions};
@@ -13,7 +13,7 @@ use crate::areas::{Areas, name_of};
 use crate::gaps::{is_in_window, is_name, lowest_gap, meets_area};
 use crate::measure::pages_for;
 use crate::table::{MINUS_ONE, MOST_AREAS, has_area, is_created, least_number};
-use address_map::AddressMap;
+use os_heap::AddressMap;
 use profile::memory_map::PAGE_SIZE;
 use profile::{Config, ErrorNumber};
 

@@ -6,7 +6,7 @@ ghost use Rattle.dynamic_areas.specs.Creating.{gap_count, lowest_gap};
 ghost use Rattle.std.specs.List.{list_all};
 
 use crate::area::{Area, MOST_NAME_BYTES};
-use address_map::do_meet;
+use os_heap::do_meet;
 use profile::memory_map::{AREA_WINDOW_END, AREA_WINDOW_START, PAGE_SIZE};
 
 /// Whether a range shares an address with an area's, taken with its maximum.

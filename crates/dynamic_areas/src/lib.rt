@@ -16,10 +16,12 @@ pub mod remove;
 pub mod start;
 mod table;
 
-pub use address_map::AddressMap;
 pub use area::{Area, Changed, Created, Extent, MOST_NAME_BYTES, Wanted};
 pub use areas::Areas;
 pub use laws::areas_count_pages;
-pub use os_heap::{Blocks, Heaps, Payload, changed_by, round_up_8, total_for};
+pub use os_heap::{
+    AddressMap, BASE, BlockMove, Blocks, Heaps, Item, Kind, Payload, changed_by, follow, make,
+    mark_item, moved_to, put, put_free, put_link, round_up_8, total_for, word,
+};
 pub use start::start_memory;
 pub use table::MODULE_AREA;

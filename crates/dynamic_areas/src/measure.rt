@@ -2,7 +2,7 @@
 
 ghost use Rattle.profile.specs.MemoryMap.{module_area_start};
 ghost use Rattle.std.specs.Prelude.{◌≡◌, ◌≤◌, ◌+◌, ◌*◌};
-ghost use Rattle.address_map.specs.Memory.{free_pages};
+ghost use Rattle.os_heap.specs.Memory.{free_pages};
 ghost use Rattle.os_heap.specs.Store.{store_of, find_heap};
 ghost use Rattle.dynamic_areas.specs.Changing.{change_answer, growth_room, heap_base, held_from, is_growth, loose_pages, moving, must_stay, pages_asked};
 ghost use Rattle.dynamic_areas.specs.Creating.{pages_for};
@@ -13,7 +13,7 @@ ghost use Rattle.dynamic_areas.specs.Rooms.{IsAreaRoom};
 use crate::area::{Area, Changed};
 use crate::areas::Areas;
 use crate::table::{MODULE_AREA, find};
-use address_map::AddressMap;
+use os_heap::AddressMap;
 use profile::ErrorNumber;
 use profile::memory_map::{PAGE_SIZE, RMA_START};
 

@@ -10,7 +10,7 @@ ghost use Rattle.dynamic_areas.specs.Kept.{IsAreaMap, KeepsRegions};
 use crate::areas::Areas;
 use crate::measure::loose_pages;
 use crate::table::{MODULE_AREA, find};
-use address_map::AddressMap;
+use os_heap::AddressMap;
 use profile::ErrorNumber;
 
 impl Areas {

@@ -2,16 +2,15 @@
 
 ghost use Rattle.std.specs.Prelude.{ℕ, [], ◌≡◌, ◌+◌, IfOk};
 ghost use Rattle.profile.specs.Sizes.{AreGood};
-ghost use Rattle.address_map.specs.Memory.{byte_at, class_of, free_pages, is_mapped, regions};
-ghost use Rattle.address_map.specs.declared.class.Class.TheVariants.{Plain};
+ghost use Rattle.os_heap.specs.Memory.{byte_at, class_of, free_pages, is_mapped, regions};
+ghost use Rattle.os_heap.specs.Class.TheVariants.{Plain};
 ghost use Rattle.os_heap.specs.Store.{store_of};
 ghost use Rattle.dynamic_areas.specs.Areas.{start_area_table};
 ghost use Rattle.dynamic_areas.specs.Ground.{is_area_table};
 ghost use Rattle.dynamic_areas.specs.Kept.{IsAreaMap};
 ghost use Rattle.dynamic_areas.specs.Start.{start_store};
 
-use address_map::{AddressMap, Kind};
-use os_heap::Heaps;
+use os_heap::{AddressMap, Heaps, Kind};
 use profile::Config;
 use profile::memory_map::{APPLICATION_START, PAGE_SIZE, RMA_START, SYSTEM_PAGES, SYSTEM_START};
 use std::alloc::{AllocError, Global};

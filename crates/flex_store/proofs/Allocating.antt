@@ -3,18 +3,18 @@ use Rattle.std.proofs.Common.{◌≡◌, ℕ, Bool, ◌+◌, ◌-◌, ◌%◌, �
 use Rattle.std.specs.List.{list_any}
 use Rattle.std.proofs.lemmas.Bool.{and_parts, both_ways, cases_Bool, false_from_ne_true, cases_lt, eqb-true, eq-eqb, lt-ltb, ne_eqb, not-true, or_cases, or_left, true≢false, false≢true}
 use Rattle.std.proofs.lemmas.List.{append-nil}
-use Rattle.address_map.proofs.Words.{class_of-word}
-use Rattle.address_map.proofs.Spans.{mapped_below}
+use Rattle.os_heap_words.proofs.AddressMapWords.{class_of-word}
+use Rattle.os_heap_words.proofs.Spans.{mapped_below}
 use Rattle.profile.specs.Outcome.{Gives}
 use Rattle.profile.specs.declared.error.ErrorNumber.TheVariants.{FlexAnchorInUse, FlexBadAnchor}
 use Rattle.os_heap.specs.Store.{is_flex_store, Store, others_in, store_of}
-use Rattle.address_map.specs.declared.region.Region.{Region}
+use Rattle.os_heap.specs.Region.{Region}
 use Rattle.os_heap.proofs.Frame.{store_bytes}
-use Rattle.address_map.specs.Bytes.{AreMapped, Bytes, shares_address, word_start}
-use Rattle.address_map.specs.Classes.{is_anchor, is_heap_class}
-use Rattle.address_map.specs.Memory.{byte_at, class_of, is_mapped, regions}
-use Rattle.address_map.specs.Records.{is_heap_kind}
-use Rattle.address_map.specs.declared.map.AddressMap.{AddressMap}
+use Rattle.os_heap.specs.Bytes.{AreMapped, Bytes, shares_address, word_start}
+use Rattle.os_heap.specs.Classes.{is_anchor, is_heap_class}
+use Rattle.os_heap.specs.Memory.{byte_at, class_of, is_mapped, regions}
+use Rattle.os_heap.specs.Records.{is_heap_kind}
+use Rattle.os_heap.specs.AddressMap.{AddressMap}
 use Rattle.flex_store.specs.declared.flex.Extent.{Extent}
 use Rattle.flex_store.specs.Blocks.{Block, has_anchor, is_in_contents, new_block, bytes_taken_by, bytes_taken_by_all}
 use Rattle.flex_store.specs.Calls.{flex_after_alloc, is_anchor_place, is_in_store, may_stand}

@@ -1,8 +1,8 @@
 -- Anchors that were written: each holds its block's address, and no other word changed.
 use Rattle.std.proofs.Common.{◌≡◌, ℕ, ◌+◌, ◌%◌, ◌<◌, ◌≤◌, Bool, false, List, [], ◌∷◌, ◌++◌, arith, refl, ◌∙◌, ap, inl, inr, ◌⊎◌, nat_eq}
 use Rattle.std.proofs.lemmas.Bool.{cases_lt, or_parts, eqb-false}
-use Rattle.address_map.specs.RawStoreRegion.{word_bytes}
-use Rattle.address_map.specs.Bytes.{word_start, with_word_at}
+use Rattle.os_heap_words.specs.RawStoreRegion.{word_bytes}
+use Rattle.os_heap.specs.Bytes.{word_start, with_word_at}
 use Rattle.flex_store.specs.Blocks.{Block, bytes_taken_by_all, bytes_taken_by, has_anchor}
 use Rattle.flex_store.specs.Memory.{AreAnchored, with_anchors}
 use Rattle.flex_store.specs.State.{AreAnchorWords}

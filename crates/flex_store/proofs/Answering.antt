@@ -7,9 +7,9 @@ use Rattle.std.proofs.lemmas.List.{append-nil}
 use Rattle.profile.specs.Outcome.{Gives}
 use Rattle.profile.specs.declared.error.ErrorNumber.{ErrorNumber}
 use Rattle.profile.specs.declared.error.ErrorNumber.TheVariants.{FlexBadAnchor, FlexBadRange, FlexHoldsAnchor}
-use Rattle.address_map.proofs.Bytes.{is_mapped-layout}
-use Rattle.address_map.specs.Memory.{anchor_of, byte_at}
-use Rattle.address_map.specs.declared.map.AddressMap.{AddressMap}
+use Rattle.os_heap.proofs.Bytes.{is_mapped-layout}
+use Rattle.os_heap.specs.Memory.{anchor_of, byte_at}
+use Rattle.os_heap.specs.AddressMap.{AddressMap}
 use Rattle.flex_store.specs.declared.flex.Extent.{Extent}
 use Rattle.flex_store.specs.declared.splice.Splice.{Splice}
 use Rattle.flex_store.specs.Blocks.{Block, contents, cut_of, find_block, has_anchor, block_holding, more_of, bytes_with_size, bytes_after_splice, bytes_taken_by_all, with_block}

@@ -1,12 +1,12 @@
 -- The store after the blocks from a place on were laid out anew, as calls show it.
 use Rattle.std.proofs.Common.{◌≡◌, ℕ, Bool, ◌+◌, ◌<◌, ◌≤◌, true, false, List, ◌++◌, length, Some, arith, refl, sym, ◌∙◌, ap, inl, inr, ◌⊎◌, subst}
 use Rattle.std.proofs.lemmas.Bool.{cases_lt, false_from_ne_true, or_cases, or_right, true≢false, false≢true}
-use Rattle.address_map.specs.Bytes.{with_bytes_at, word_start}
-use Rattle.address_map.specs.Classes.{is_anchor, is_heap_class}
-use Rattle.address_map.specs.Memory.{byte_at, class_of, is_mapped}
-use Rattle.address_map.specs.declared.class.Class.{Class}
-use Rattle.address_map.specs.declared.class.Class.TheVariants as class
-use Rattle.address_map.specs.declared.map.AddressMap.{AddressMap}
+use Rattle.os_heap.specs.Bytes.{with_bytes_at, word_start}
+use Rattle.os_heap.specs.Classes.{is_anchor, is_heap_class}
+use Rattle.os_heap.specs.Memory.{byte_at, class_of, is_mapped}
+use Rattle.os_heap.specs.Class.{Class}
+use Rattle.os_heap.specs.Class.TheVariants as class
+use Rattle.os_heap.specs.AddressMap.{AddressMap}
 use Rattle.flex_store.specs.declared.flex.Extent.{Extent}
 use Rattle.flex_store.specs.Blocks.{Block, has_anchor, is_header, bytes_taken_by_all}
 use Rattle.flex_store.specs.Changes.{GotBlocks}

@@ -1,9 +1,9 @@
 -- A walk that seeks a word in the contents of blocks.
 use Rattle.std.proofs.Common.{◌≡◌, ℕ, Bool, ◌+◌, ◌<◌, ◌≤◌, ◌||◌, ◌&&◌, true, false, List, [], ◌∷◌, arith, sym, ◌∙◌, ap}
 use Rattle.std.specs.Prelude.{nat_le}
-use Rattle.address_map.specs.Bytes.{word_at}
-use Rattle.address_map.specs.Memory.{byte_at, bytes_of}
-use Rattle.address_map.specs.declared.map.AddressMap.{AddressMap}
+use Rattle.os_heap.specs.Bytes.{word_at}
+use Rattle.os_heap.specs.Memory.{byte_at, bytes_of}
+use Rattle.os_heap.specs.AddressMap.{AddressMap}
 use Rattle.flex_store.specs.Blocks.{Block, is_held_word, is_in_contents, bytes_taken_by}
 use Rattle.flex_store.specs.Memory.{blocks_in}
 use Rattle.flex_store.specs.State.{IsText}

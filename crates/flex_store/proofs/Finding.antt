@@ -1,11 +1,11 @@
 -- The block of an anchor: by its mark, and by the address that it holds.
 use Rattle.std.proofs.Common.{◌≡◌, ℕ, Bool, ◌+◌, ◌-◌, ◌%◌, ◌^◌, ◌<◌, ◌≤◌, ◌&&◌, true, false, nat_eq, List, ◌∷◌, ◌++◌, Some, None, arith, sym, ◌∙◌, ap, inl, inr, subst}
 use Rattle.std.proofs.lemmas.Bool.{and_parts, and_from, cases_Bool, eq-eqb, eqb-true, true≢false}
-use Rattle.address_map.proofs.Spans.{mapped_below}
-use Rattle.address_map.specs.Bytes.{word_at, word_start}
-use Rattle.address_map.specs.Classes.{is_anchor}
-use Rattle.address_map.specs.Memory.{byte_at, bytes_of, class_of, is_mapped}
-use Rattle.address_map.specs.declared.map.AddressMap.{AddressMap}
+use Rattle.os_heap_words.proofs.Spans.{mapped_below}
+use Rattle.os_heap.specs.Bytes.{word_at, word_start}
+use Rattle.os_heap.specs.Classes.{is_anchor}
+use Rattle.os_heap.specs.Memory.{byte_at, bytes_of, class_of, is_mapped}
+use Rattle.os_heap.specs.AddressMap.{AddressMap}
 use Rattle.flex_store.specs.declared.flex.Extent.{Extent}
 use Rattle.flex_store.specs.Blocks.{Block, find_block, has_anchor, bytes_taken_by, bytes_taken_by_all}
 use Rattle.flex_store.specs.Memory.{AreAnchored, blocks_in}

@@ -2,12 +2,12 @@
 -- done.
 use Rattle.std.proofs.Common.{◌≡◌, ℕ, Bool, ◌+◌, ◌<◌, ◌≤◌, true, false, ◌||◌, nat_eq, List, ◌∷◌, ◌++◌, arith, refl, sym, ◌∙◌, ap, inl, inr, ◌⊎◌, subst}
 use Rattle.std.proofs.lemmas.Bool.{both_ways, false_from_ne_true, or_cases, or_left, or_parts}
-use Rattle.address_map.proofs.Bytes.{is_mapped-layout}
-use Rattle.address_map.specs.Bytes.{word_start}
-use Rattle.address_map.specs.Classes.{is_anchor, is_flex_header}
-use Rattle.address_map.specs.Memory.{byte_at, class_of, is_mapped, layout}
-use Rattle.address_map.specs.declared.class.Class.{Class}
-use Rattle.address_map.specs.declared.map.AddressMap.{AddressMap}
+use Rattle.os_heap.proofs.Bytes.{is_mapped-layout}
+use Rattle.os_heap.specs.Bytes.{word_start}
+use Rattle.os_heap.specs.Classes.{is_anchor, is_flex_header}
+use Rattle.os_heap.specs.Memory.{byte_at, class_of, is_mapped, layout}
+use Rattle.os_heap.specs.Class.{Class}
+use Rattle.os_heap.specs.AddressMap.{AddressMap}
 use Rattle.flex_store.specs.declared.shift.Shift.{Shift}
 use Rattle.flex_store.specs.Blocks.{Block, has_anchor, is_header, is_in_contents, bytes_taken_by_all}
 use Rattle.flex_store.specs.Memory.{AreAnchored, Holds, standing, blocks_text_of}

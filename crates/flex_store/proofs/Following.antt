@@ -2,7 +2,7 @@
 -- differ still, and that they fit the layout to come.
 use Rattle.std.proofs.Common.{◌≡◌, ℕ, Bool, ◌+◌, ◌-◌, ◌%◌, ◌^◌, ◌<◌, ◌≤◌, true, false, nat_eq, List, [], ◌∷◌, arith, refl, sym, ◌∙◌, ap, inl, inr, ◌⊎◌, subst}
 use Rattle.std.proofs.lemmas.Bool.{both_ways, eqb-true, eq-eqb, false_from_ne_true, false≢true, le-leb, or_cases, or_left, or_right}
-use Rattle.address_map.specs.Bytes.{AreMapped}
+use Rattle.os_heap.specs.Bytes.{AreMapped}
 use Rattle.flex_store.specs.declared.shift.Shift.{Shift}
 use Rattle.flex_store.specs.Blocks.{Block, has_anchor, is_held_word, is_in_contents, bytes_taken_by, bytes_taken_by_all}
 use Rattle.flex_store.specs.Shifts.{following, gone_to}

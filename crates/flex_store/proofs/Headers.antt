@@ -1,10 +1,10 @@
 -- Which words the headers of a list take up, and what marks of them do to the classes of memory.
 use Rattle.std.proofs.Common.{◌≡◌, ℕ, ◌+◌, ◌≤◌, Bool, true, false, ◌||◌, cond, List, [], ◌∷◌, arith, refl, nat_eq, inl, inr, ◌∙◌, sym}
 use Rattle.std.proofs.lemmas.Bool.{or_cases, or_from, or_parts, or_right, eqb-true, true≢false}
-use Rattle.address_map.specs.Classes.{is_anchor, is_flex_header, is_heap_class}
-use Rattle.address_map.specs.declared.class.Class.{Class}
-use Rattle.address_map.specs.declared.class.Class.TheVariants as class
-use Rattle.address_map.specs.Bytes.{word_start}
+use Rattle.os_heap.specs.Classes.{is_anchor, is_flex_header, is_heap_class}
+use Rattle.os_heap.specs.Class.{Class}
+use Rattle.os_heap.specs.Class.TheVariants as class
+use Rattle.os_heap.specs.Bytes.{word_start}
 use Rattle.flex_store.specs.Blocks.{Block, has_anchor, is_header, bytes_taken_by, bytes_taken_by_all}
 use Rattle.flex_store.specs.Marks.{class_with_mark, with_block_marks, with_marks}
 

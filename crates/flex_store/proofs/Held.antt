@@ -2,11 +2,11 @@
 -- marks, and all of it stays mapped and recorded. The bytes of its blocks are then those that stand
 -- there: a guest may have written them.
 use Rattle.std.proofs.Common.{◌≡◌, ℕ, Bool, ◌+◌, ◌-◌, true, List, sym, ap, subst, ◌∙◌, arith}
-use Rattle.address_map.specs.Bytes.{AreMapped, word_start}
-use Rattle.address_map.specs.Classes.{is_anchor, is_flex_header}
-use Rattle.address_map.specs.Memory.{byte_at, class_of, is_mapped}
+use Rattle.os_heap.specs.Bytes.{AreMapped, word_start}
+use Rattle.os_heap.specs.Classes.{is_anchor, is_flex_header}
+use Rattle.os_heap.specs.Memory.{byte_at, class_of, is_mapped}
 use Rattle.os_heap.specs.Store.{store_of}
-use Rattle.address_map.specs.declared.map.AddressMap.{AddressMap}
+use Rattle.os_heap.specs.AddressMap.{AddressMap}
 use Rattle.flex_store.specs.declared.flex.Extent.{Extent}
 use Rattle.flex_store.specs.Blocks.{Block, has_anchor, bytes_taken_by_all}
 use Rattle.flex_store.specs.Memory.{Holds, blocks_in, standing, blocks_text_of}

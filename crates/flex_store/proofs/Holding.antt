@@ -4,8 +4,8 @@ use Rattle.std.proofs.lemmas.Bool.{cases_lt}
 use Rattle.std.proofs.lemmas.Bool.Decides.{nat_tests}
 use Rattle.std.proofs.lemmas.List.{get_or_append_left, get_or-append-add, get_or-append_right, get_or-replicate, length-replicate}
 use Rattle.std.proofs.Math.ListN.{length-append}
-use Rattle.address_map.specs.RawStoreRegion.{word_bytes}
-use Rattle.address_map.specs.Bytes.{word_at, with_word_at, with_bytes_at}
+use Rattle.os_heap_words.specs.RawStoreRegion.{word_bytes}
+use Rattle.os_heap.specs.Bytes.{word_at, with_word_at, with_bytes_at}
 use Rattle.flex_store.specs.Memory.{Holds}
 
 pub holds_kept : (f g : ℕ → ℕ) (at : ℕ) (xs : List ℕ) → ((a : ℕ) → at ≤ a → a < at + length xs → g a ≡ f a) → Holds f at xs → Holds g at xs

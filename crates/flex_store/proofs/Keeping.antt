@@ -2,12 +2,12 @@
 use Rattle.std.proofs.Common.{◌≡◌, ℕ, ◌+◌, ◌-◌, ◌%◌, ◌≤◌, ◌<◌, ◌&&◌, ◌==◌, not, true, false, List, [], ◌∷◌, Option, Some, refl, sym, ap, ◌∙◌, arith, inl, inr}
 use Rattle.std.specs.List.{list_any}
 use Rattle.std.proofs.lemmas.Bool.{and_parts, cases_Bool, eqb-true, false≢true, le-leb, lt-ltb, not-true, or_left, or_right}
-use Rattle.address_map.proofs.Bytes.{is_mapped-page}
-use Rattle.address_map.specs.Bytes.{Bytes, in_range, shares_address, word_start}
-use Rattle.address_map.specs.Classes.{is_anchor, is_flex_header, is_heap_class}
-use Rattle.address_map.specs.Memory.{class_of, is_mapped}
-use Rattle.address_map.specs.declared.map.AddressMap.{AddressMap}
-use Rattle.address_map.specs.declared.region.Region.{Region}
+use Rattle.os_heap.proofs.Bytes.{is_mapped-page}
+use Rattle.os_heap.specs.Bytes.{Bytes, in_range, shares_address, word_start}
+use Rattle.os_heap.specs.Classes.{is_anchor, is_flex_header, is_heap_class}
+use Rattle.os_heap.specs.Memory.{class_of, is_mapped}
+use Rattle.os_heap.specs.AddressMap.{AddressMap}
+use Rattle.os_heap.specs.Region.{Region}
 use Rattle.os_heap.proofs.Anchored.{not_flex}
 use Rattle.os_heap.proofs.Stores.{image_kind, placed_either}
 use Rattle.os_heap_words.specs.lists.Heap.{HeapList}

@@ -4,10 +4,10 @@ use Rattle.std.proofs.Common.{◌≡◌, ℕ, ◌+◌, ◌-◌, ◌≤◌, List,
 use Rattle.std.proofs.lemmas.List.{length-replicate}
 use Rattle.std.proofs.lemmas.List.FromFn.{take-map-range_with_len}
 use Rattle.std.proofs.Math.ListN.{length-append}
-use Rattle.address_map.proofs.Moving.{moved_in}
-use Rattle.address_map.proofs.Viewing.{bytes_counted}
-use Rattle.address_map.specs.RawStoreRegion.{word_bytes}
-use Rattle.address_map.specs.Bytes.{bytes_between, with_bytes_at, with_moved_at, with_word_at, with_zeros_at}
+use Rattle.os_heap_words.proofs.Moving.{moved_in}
+use Rattle.os_heap_words.proofs.Viewing.{bytes_counted}
+use Rattle.os_heap_words.specs.RawStoreRegion.{word_bytes}
+use Rattle.os_heap.specs.Bytes.{bytes_between, with_bytes_at, with_moved_at, with_word_at, with_zeros_at}
 use Rattle.flex_store.specs.Blocks.{Block, whole_words_of_bytes, bytes_after_splice, whole_words}
 use Rattle.flex_store.specs.Memory.{Holds}
 use Rattle.flex_store.proofs.Holding.{bytes_beside, bytes_held, bytes_written, holds_append, holds_kept, holds_moved, holds_word, holds_zeros, word_beside}

@@ -1,8 +1,8 @@
 -- A walk over the blocks as a caller sees them.
 use Rattle.std.proofs.Common.{◌≡◌, ℕ, ◌+◌, ◌-◌, ◌<◌, ◌≤◌, List, [], ◌∷◌, arith, refl, sym, ◌∙◌, ap, subst}
-use Rattle.address_map.specs.Bytes.{word_at}
-use Rattle.address_map.specs.Memory.{byte_at, bytes_of, is_mapped}
-use Rattle.address_map.specs.declared.map.AddressMap.{AddressMap}
+use Rattle.os_heap.specs.Bytes.{word_at}
+use Rattle.os_heap.specs.Memory.{byte_at, bytes_of, is_mapped}
+use Rattle.os_heap.specs.AddressMap.{AddressMap}
 use Rattle.flex_store.specs.declared.flex.Extent.{Extent}
 use Rattle.flex_store.specs.Blocks.{Block, bytes_taken_by, bytes_taken_by_all}
 use Rattle.flex_store.specs.Listed.{blocks_with_places}

@@ -4,7 +4,7 @@ use Rattle.std.proofs.Math.Bool.{or_assoc}
 use Rattle.std.proofs.lemmas.Bool.{cases_Bool, eqb-true, or_parts, true≢false}
 use Rattle.std.proofs.lemmas.Bool.Decides.{nat_tests}
 use Rattle.std.proofs.Math.ListN.{length-append}
-use Rattle.address_map.specs.RawStoreRegion.{word_bytes}
+use Rattle.os_heap_words.specs.RawStoreRegion.{word_bytes}
 use Rattle.flex_store.specs.Blocks.{before, Block, find_block, has_anchor, is_header, is_held_word, is_in_contents, bytes_taken_by, bytes_taken_by_all, without_block}
 use Rattle.flex_store.specs.Memory.{blocks_text_of, AreAnchored}
 use Rattle.flex_store.specs.Places.{Split}

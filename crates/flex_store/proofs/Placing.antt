@@ -3,9 +3,9 @@
 use Rattle.std.proofs.Common.{◌≡◌, ℕ, ◌+◌, ◌-◌, ◌%◌, ◌<◌, ◌≤◌, true, false, ◌&&◌, not, ◌==◌, nat_eq, List, [], ◌∷◌, ◌++◌, arith, refl, sym, ◌∙◌, ap, inl, inr, ◌⊎◌}
 use Rattle.std.specs.Prelude.{nat_le, nat_lt}
 use Rattle.std.proofs.lemmas.Bool.{and_parts, both_ways, cases_Bool, cases_lt, eqb-true, false_from_ne_true, le-leb, leb-true, lt-ltb, ltb-true, ne_eqb, or_cases, or_parts, or_right}
-use Rattle.address_map.proofs.Anchors.{none_among}
-use Rattle.address_map.specs.Bytes.{word_start}
-use Rattle.address_map.specs.Records.{anchor_among}
+use Rattle.os_heap.proofs.Anchors.{none_among}
+use Rattle.os_heap.specs.Bytes.{word_start}
+use Rattle.os_heap.specs.Records.{anchor_among}
 use Rattle.flex_store.specs.declared.shift.Shift.{Shift}
 use Rattle.flex_store.specs.Blocks.{Block, FlexStore, has_anchor, is_held_word, is_in_contents, bytes_taken_by, bytes_taken_by_all}
 use Rattle.flex_store.specs.Calls.{breaks_anchor, is_anchor_byte}

@@ -4,8 +4,8 @@ use Rattle.std.proofs.lemmas.Bool.{le-leb, lt-leb}
 use Rattle.std.proofs.lemmas.Grind.{same_number_lists}
 use Rattle.std.proofs.lemmas.List.FromFn.{get_or-map-range_with_len, length-map-range_with_len}
 use Rattle.std.specs.List.{range_with_len}
-use Rattle.address_map.specs.RawStoreRegion.{word_bytes}
-use Rattle.address_map.specs.Bytes.{bytes_between, word_at}
+use Rattle.os_heap_words.specs.RawStoreRegion.{word_bytes}
+use Rattle.os_heap.specs.Bytes.{bytes_between, word_at}
 use Rattle.flex_store.specs.Blocks.{Block, bytes_taken_by_all, bytes_taken_by, whole_words}
 use Rattle.flex_store.specs.Memory.{Holds, blocks_text_of, block_at, blocks_from, blocks_in}
 use Rattle.flex_store.specs.State.{AreLow, AreWhole}

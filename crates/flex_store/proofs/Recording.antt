@@ -2,12 +2,12 @@
 -- and keeps all heaps.
 use Rattle.std.proofs.Common.{◌≡◌, ℕ, ◌-◌, ◌<◌, ◌++◌, true, false, List, [], ◌∷◌, length, refl, sym, ap, subst, ◌∙◌, inl, inr}
 use Rattle.std.proofs.lemmas.Bool.{cases_Bool, eq-eqb, or_parts, or_right, true≢false}
-use Rattle.address_map.specs.Bytes.{Bytes, in_range, shares_address}
-use Rattle.address_map.specs.Memory.{byte_at, bytes_of, class_of, is_mapped, mapping, regions}
-use Rattle.address_map.specs.Records.{is_heap_kind, meets_record}
-use Rattle.address_map.specs.declared.class.Class.{Class}
-use Rattle.address_map.specs.declared.map.AddressMap.{AddressMap}
-use Rattle.address_map.specs.declared.region.Region.{Region}
+use Rattle.os_heap.specs.Bytes.{Bytes, in_range, shares_address}
+use Rattle.os_heap.specs.Memory.{byte_at, bytes_of, class_of, is_mapped, mapping, regions}
+use Rattle.os_heap.specs.Records.{is_heap_kind, meets_record}
+use Rattle.os_heap.specs.Class.{Class}
+use Rattle.os_heap.specs.AddressMap.{AddressMap}
+use Rattle.os_heap.specs.Region.{Region}
 use Rattle.os_heap.proofs.Frame.{classes_same}
 use Rattle.os_heap.proofs.RangeTests.{clear_unless}
 use Rattle.os_heap.proofs.Recorded.{IsClearOfAll, recorded_sound, store_recorded}

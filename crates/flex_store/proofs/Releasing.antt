@@ -5,14 +5,14 @@ use Rattle.std.proofs.lemmas.Bool.{both_ways, cases_Bool, eqb-false, eq-eqb, or_
 use Rattle.profile.specs.Outcome.{Gives}
 use Rattle.profile.specs.declared.error.ErrorNumber.{ErrorNumber}
 use Rattle.profile.specs.declared.error.ErrorNumber.TheVariants.{FlexHoldsAnchor}
-use Rattle.address_map.specs.RawStoreRegion.{word_bytes}
-use Rattle.address_map.specs.Records.{anchor_among}
-use Rattle.address_map.proofs.Bytes.{is_mapped-layout}
-use Rattle.address_map.specs.Bytes.{AreMapped, with_word_at, word_start}
-use Rattle.address_map.specs.Classes.{is_heap_class}
-use Rattle.address_map.specs.Memory.{anchor_of, byte_at, bytes_of, class_of, is_mapped, layout}
-use Rattle.address_map.specs.declared.class.Class.{Class}
-use Rattle.address_map.specs.declared.map.AddressMap.{AddressMap}
+use Rattle.os_heap_words.specs.RawStoreRegion.{word_bytes}
+use Rattle.os_heap.specs.Records.{anchor_among}
+use Rattle.os_heap.proofs.Bytes.{is_mapped-layout}
+use Rattle.os_heap.specs.Bytes.{AreMapped, with_word_at, word_start}
+use Rattle.os_heap.specs.Classes.{is_heap_class}
+use Rattle.os_heap.specs.Memory.{anchor_of, byte_at, bytes_of, class_of, is_mapped, layout}
+use Rattle.os_heap.specs.Class.{Class}
+use Rattle.os_heap.specs.AddressMap.{AddressMap}
 use Rattle.flex_store.specs.declared.flex.Extent.{Extent}
 use Rattle.flex_store.specs.declared.shift.Shift.{Shift}
 use Rattle.flex_store.specs.Blocks.{Block, FlexStore, has_anchor, is_header, is_in_contents, bytes_taken_by, bytes_taken_by_all, without_block}

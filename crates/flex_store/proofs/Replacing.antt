@@ -1,9 +1,9 @@
 -- A block whose bytes change, where that breaks no anchor: what then holds of the store.
 use Rattle.std.proofs.Common.{◌≡◌, ℕ, Bool, ◌+◌, ◌-◌, ◌%◌, ◌<◌, ◌≤◌, ◌||◌, true, false, nat_eq, List, ◌∷◌, ◌++◌, length, arith, refl, sym, ◌∙◌, ap, inl, inr, ◌⊎◌, subst}
 use Rattle.std.proofs.lemmas.Bool.{eqb-true, le-leb, or_cases, or_from, or_left, or_right}
-use Rattle.address_map.specs.Bytes.{AreMapped, word_start}
-use Rattle.address_map.specs.Memory.{anchor_of, byte_at, class_of, is_mapped}
-use Rattle.address_map.specs.declared.map.AddressMap.{AddressMap}
+use Rattle.os_heap.specs.Bytes.{AreMapped, word_start}
+use Rattle.os_heap.specs.Memory.{anchor_of, byte_at, class_of, is_mapped}
+use Rattle.os_heap.specs.AddressMap.{AddressMap}
 use Rattle.flex_store.specs.declared.flex.Extent.{Extent}
 use Rattle.flex_store.specs.declared.shift.Shift.{Shift}
 use Rattle.flex_store.specs.declared.splice.Splice.{Splice}

@@ -4,7 +4,7 @@ use Rattle.std.specs.Prelude.{nat_le, nat_lt, if◌then◌else◌}
 use Rattle.std.proofs.lemmas.Bool.{cases_Bool, eqb-true, le-leb}
 use Rattle.profile.specs.declared.error.ErrorNumber.{ErrorNumber}
 use Rattle.profile.specs.declared.error.ErrorNumber.TheVariants.{FlexHoldsAnchor}
-use Rattle.address_map.specs.Bytes.{Bytes}
+use Rattle.os_heap.specs.Bytes.{Bytes}
 use Rattle.os_heap.specs.Store.{Store}
 use Rattle.flex_store.specs.declared.shift.Shift.{Shift}
 use Rattle.flex_store.specs.Blocks.{before, behind_of, Block, contents, cut_of, find_block, FlexStore, has_anchor, block_holding, more_of, new_block, bytes_with_size, bytes_after_splice, bytes_taken_by, bytes_taken_by_all, with_block, without_block}

@@ -3,13 +3,13 @@
 use Rattle.std.proofs.Common.{◌≡◌, ℕ, Bool, ◌+◌, ◌-◌, ◌^◌, ◌<◌, ◌≤◌, List, [], ◌∷◌, ◌++◌, length, arith, sym, ◌∙◌, ap, inl, inr, ◌⊎◌}
 use Rattle.std.proofs.lemmas.Bool.{cases_lt}
 use Rattle.std.proofs.lemmas.Bool.Decides.{nat_tests}
-use Rattle.address_map.specs.RawStoreRegion.{word_bytes}
-use Rattle.address_map.proofs.Bytes.{is_mapped-layout}
-use Rattle.address_map.specs.Bytes.{with_bytes_at, with_word_at, word_at}
-use Rattle.address_map.specs.declared.class.Class.{Class}
-use Rattle.address_map.specs.declared.class.Class.TheVariants as class
-use Rattle.address_map.specs.declared.map.AddressMap.{AddressMap}
-use Rattle.address_map.specs.Memory.{byte_at, bytes_of, class_of, is_mapped, layout}
+use Rattle.os_heap_words.specs.RawStoreRegion.{word_bytes}
+use Rattle.os_heap.proofs.Bytes.{is_mapped-layout}
+use Rattle.os_heap.specs.Bytes.{with_bytes_at, with_word_at, word_at}
+use Rattle.os_heap.specs.Class.{Class}
+use Rattle.os_heap.specs.Class.TheVariants as class
+use Rattle.os_heap.specs.AddressMap.{AddressMap}
+use Rattle.os_heap.specs.Memory.{byte_at, bytes_of, class_of, is_mapped, layout}
 use Rattle.flex_store.specs.declared.shift.Shift.{Shift}
 use Rattle.flex_store.specs.Blocks.{Block, bytes_taken_by, bytes_taken_by_all, whole_words}
 use Rattle.flex_store.specs.Marks.{with_block_marks, with_marks}

@@ -2,14 +2,14 @@
 -- leaves.
 use Rattle.std.proofs.Common.{◌≡◌, ℕ, Bool, ◌+◌, ◌-◌, ◌%◌, ◌^◌, ◌<◌, ◌≤◌, true, List, [], ◌∷◌, ◌++◌, length, arith, sym, ◌∙◌, ap, inl, inr, subst}
 use Rattle.std.proofs.lemmas.List.{length-replicate}
-use Rattle.address_map.proofs.Bytes.{is_mapped-layout}
-use Rattle.address_map.proofs.Spans.{mapped_below}
-use Rattle.address_map.proofs.Viewing.{bytes_counted}
-use Rattle.address_map.specs.Bytes.{AreMapped, Bytes, bytes_between, with_bytes_at, with_moved_at, with_word_at, with_zeros_at}
-use Rattle.address_map.specs.Memory.{byte_at, bytes_of, class_of, is_mapped, layout}
-use Rattle.address_map.specs.declared.class.Class.{Class}
-use Rattle.address_map.specs.declared.class.Class.TheVariants as class
-use Rattle.address_map.specs.declared.map.AddressMap.{AddressMap}
+use Rattle.os_heap.proofs.Bytes.{is_mapped-layout}
+use Rattle.os_heap_words.proofs.Spans.{mapped_below}
+use Rattle.os_heap_words.proofs.Viewing.{bytes_counted}
+use Rattle.os_heap.specs.Bytes.{AreMapped, Bytes, bytes_between, with_bytes_at, with_moved_at, with_word_at, with_zeros_at}
+use Rattle.os_heap.specs.Memory.{byte_at, bytes_of, class_of, is_mapped, layout}
+use Rattle.os_heap.specs.Class.{Class}
+use Rattle.os_heap.specs.Class.TheVariants as class
+use Rattle.os_heap.specs.AddressMap.{AddressMap}
 use Rattle.flex_store.specs.Blocks.{Block, contents, whole_words_of_bytes, block_holding, new_block, bytes_after_splice, bytes_taken_by, bytes_taken_by_all, whole_words}
 use Rattle.flex_store.specs.declared.shift.Shift.{Shift}
 use Rattle.flex_store.specs.Marks.{with_marks}

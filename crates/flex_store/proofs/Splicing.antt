@@ -5,9 +5,9 @@ use Rattle.std.proofs.lemmas.Bool.Decides.{nat_tests}
 use Rattle.std.proofs.lemmas.List.{length-replicate, get_or-take, get_or-drop, length-take}
 use Rattle.std.proofs.lemmas.List.FromFn.{get_or-map-range_with_len, length-map-range_with_len}
 use Rattle.std.proofs.Math.ListN.{length-append}
-use Rattle.address_map.proofs.Moving.{moved_in}
-use Rattle.address_map.proofs.Viewing.{bytes_counted}
-use Rattle.address_map.specs.Bytes.{bytes_between, with_bytes_at, with_moved_at, with_zeros_at}
+use Rattle.os_heap_words.proofs.Moving.{moved_in}
+use Rattle.os_heap_words.proofs.Viewing.{bytes_counted}
+use Rattle.os_heap.specs.Bytes.{bytes_between, with_bytes_at, with_moved_at, with_zeros_at}
 use Rattle.flex_store.specs.Blocks.{whole_words_of_bytes, bytes_after_splice, whole_words}
 use Rattle.flex_store.specs.Memory.{Holds}
 use Rattle.flex_store.proofs.Holding.{bytes_written, holds_append, holds_zeros}

@@ -2,9 +2,9 @@
 -- spells them where the words of headers stay.
 use Rattle.std.proofs.Common.{◌≡◌, ℕ, Bool, ◌+◌, ◌%◌, ◌<◌, ◌≤◌, ◌||◌, true, nat_eq, List, [], ◌∷◌, ◌++◌, length, refl, ap, ◌∙◌, arith}
 use Rattle.std.proofs.lemmas.Bool.{eq-eqb, or_left, or_right}
-use Rattle.address_map.proofs.Viewing.{bytes_counted}
-use Rattle.address_map.specs.RawStoreRegion.{word_bytes}
-use Rattle.address_map.specs.Bytes.{bytes_between, word_start}
+use Rattle.os_heap_words.proofs.Viewing.{bytes_counted}
+use Rattle.os_heap_words.specs.RawStoreRegion.{word_bytes}
+use Rattle.os_heap.specs.Bytes.{bytes_between, word_start}
 use Rattle.flex_store.specs.Blocks.{Block, has_anchor, is_header, is_in_contents, is_held_word, bytes_taken_by, bytes_taken_by_all, whole_words}
 use Rattle.flex_store.specs.Memory.{AreAnchored, Holds, standing, blocks_text_of}
 use Rattle.flex_store.specs.State.{AreAnchorWords, AreWhole}

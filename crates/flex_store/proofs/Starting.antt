@@ -4,13 +4,13 @@ use Rattle.std.proofs.lemmas.Bool.{and_parts, eqb-true, eq-eqb, false≢true, lt
 use Rattle.os_heap.proofs.RangeTests.{are_mapped_all, are_mapped_from, ranges_split, same_tests}
 use Rattle.os_heap.specs.Ranges.{are_bytes_mapped}
 use Rattle.os_heap.specs.Store.{store_of}
-use Rattle.address_map.proofs.Spans.{mapped_below}
-use Rattle.address_map.specs.Bytes.{AreMapped, shares_address}
-use Rattle.address_map.specs.Memory.{byte_at, bytes_of, class_of, is_mapped, mapping, Mapping, regions}
-use Rattle.address_map.specs.Classes.{is_anchor, is_flex_header}
-use Rattle.address_map.specs.Records.{meets_record}
-use Rattle.address_map.specs.declared.class.Class.{Class}
-use Rattle.address_map.specs.declared.map.AddressMap.{AddressMap}
+use Rattle.os_heap_words.proofs.Spans.{mapped_below}
+use Rattle.os_heap.specs.Bytes.{AreMapped, shares_address}
+use Rattle.os_heap.specs.Memory.{byte_at, bytes_of, class_of, is_mapped, mapping, Mapping, regions}
+use Rattle.os_heap.specs.Classes.{is_anchor, is_flex_header}
+use Rattle.os_heap.specs.Records.{meets_record}
+use Rattle.os_heap.specs.Class.{Class}
+use Rattle.os_heap.specs.AddressMap.{AddressMap}
 use Rattle.flex_store.specs.declared.flex.Extent.{Extent}
 use Rattle.flex_store.specs.declared.flex.Flex.{Flex}
 use Rattle.profile.specs.Outcome.{Gives}

@@ -4,14 +4,14 @@ use Rattle.std.proofs.lemmas.Bool.{cases_Bool, eqb-true, false≢true, true≢fa
 use Rattle.std.specs.Prelude.{nat_eq, nat_le, ◌^◌}
 use Rattle.profile.specs.Outcome.{Leaves}
 use Rattle.profile.specs.declared.fault.Fault.{Fault}
-use Rattle.address_map.proofs.Bytes.{is_mapped-layout, is_mapped-page}
-use Rattle.address_map.proofs.Words.{unowned}
-use Rattle.address_map.specs.Bytes.{byte_stored, Bytes, store_fault, ok_unless_fault, with_byte, word_start}
-use Rattle.address_map.specs.Classes.{is_anchor, is_flex_header}
-use Rattle.address_map.specs.Memory.{byte_at, bytes_of, class_of, is_mapped, is_owned, is_plain, layout}
-use Rattle.address_map.specs.declared.class.Class.{Class}
-use Rattle.address_map.specs.declared.class.Class.TheVariants as class
-use Rattle.address_map.specs.declared.map.AddressMap.{AddressMap}
+use Rattle.os_heap.proofs.Bytes.{is_mapped-layout, is_mapped-page}
+use Rattle.os_heap_words.proofs.AddressMapWords.{unowned}
+use Rattle.os_heap.specs.Bytes.{byte_stored, Bytes, store_fault, ok_unless_fault, with_byte, word_start}
+use Rattle.os_heap.specs.Classes.{is_anchor, is_flex_header}
+use Rattle.os_heap.specs.Memory.{byte_at, bytes_of, class_of, is_mapped, is_owned, is_plain, layout}
+use Rattle.os_heap.specs.Class.{Class}
+use Rattle.os_heap.specs.Class.TheVariants as class
+use Rattle.os_heap.specs.AddressMap.{AddressMap}
 use Rattle.os_heap.proofs.Frame.{heads_kept, IsKept, layout-others, spelled_owned, classes_same}
 use Rattle.os_heap.proofs.Owned.{owned_marks}
 use Rattle.os_heap.specs.Store.{owned_in, Store, store_of}

@@ -4,13 +4,13 @@ use Rattle.profile.specs.Outcome.{bind, Gives}
 use Rattle.profile.specs.declared.error.ErrorNumber.{ErrorNumber}
 use Rattle.std.proofs.lemmas.Bool.{cases_Bool}
 use Rattle.std.specs.Prelude.{MatchResult, if◌then◌else◌, nat_le, not, ok_or, ◌+◌, ◌-◌}
-use Rattle.address_map.specs.Records.{is_heap_kind}
+use Rattle.os_heap.specs.Records.{is_heap_kind}
 use Rattle.flex_store.specs.Calls.{flex_record}
-use Rattle.address_map.specs.Classes.{is_anchor, is_flex_header}
-use Rattle.address_map.specs.declared.map.AddressMap.{AddressMap}
-use Rattle.address_map.specs.declared.region.Kind.TheVariants as kind
-use Rattle.address_map.specs.declared.region.Region.{Region}
-use Rattle.address_map.specs.Memory.{bytes_of, byte_at, class_of, is_mapped, layout, mapping, regions}
+use Rattle.os_heap.specs.Classes.{is_anchor, is_flex_header}
+use Rattle.os_heap.specs.AddressMap.{AddressMap}
+use Rattle.os_heap.specs.Kind.TheVariants as kind
+use Rattle.os_heap.specs.Region.{Region}
+use Rattle.os_heap.specs.Memory.{bytes_of, byte_at, class_of, is_mapped, layout, mapping, regions}
 use Rattle.os_heap.proofs.Added.{sound_empty}
 use Rattle.os_heap.proofs.Frame.{classes_empty, classes_same, layout-others}
 use Rattle.os_heap.proofs.Recorded.{recorded_sound, store_recorded}

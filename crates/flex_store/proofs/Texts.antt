@@ -1,6 +1,6 @@
 -- A text of blocks in memory: its first block, what is after that, and what of it stays.
 use Rattle.std.proofs.Common.{◌≡◌, ℕ, Bool, ◌+◌, ◌%◌, ◌^◌, ◌<◌, ◌≤◌, true, List, ◌∷◌, length, arith, sym, subst}
-use Rattle.address_map.specs.Bytes.{AreMapped, Bytes, word_at}
+use Rattle.os_heap.specs.Bytes.{AreMapped, Bytes, word_at}
 use Rattle.flex_store.specs.Blocks.{Block, bytes_taken_by_all, bytes_taken_by, whole_words}
 use Rattle.flex_store.specs.Memory.{blocks_text_of, blocks_in}
 use Rattle.flex_store.specs.State.{IsText}

@@ -1,16 +1,16 @@
 -- A walk over the blocks of a text, which takes the marks off their headers and anchors; what one
 -- that settles them holds on to.
 use Rattle.std.proofs.Common.{◌≡◌, ℕ, Bool, ◌+◌, ◌-◌, ◌%◌, ◌^◌, ◌<◌, ◌≤◌, true, List, [], ◌∷◌, arith, refl, sym, ◌∙◌, ap, subst}
-use Rattle.address_map.proofs.Bytes.{is_mapped-layout}
-use Rattle.address_map.proofs.Spans.{mapped_below}
-use Rattle.address_map.specs.Bytes.{Bytes, word_at}
-use Rattle.address_map.specs.Records.{is_word_kind, with_region}
-use Rattle.address_map.specs.declared.class.Class.{Class}
-use Rattle.address_map.specs.declared.class.Class.TheVariants as class
-use Rattle.address_map.specs.declared.map.AddressMap.{AddressMap}
-use Rattle.address_map.specs.declared.region.Kind.{Kind}
-use Rattle.address_map.specs.declared.region.Region.{Region}
-use Rattle.address_map.specs.Memory.{byte_at, bytes_of, class_of, is_mapped, layout}
+use Rattle.os_heap.proofs.Bytes.{is_mapped-layout}
+use Rattle.os_heap_words.proofs.Spans.{mapped_below}
+use Rattle.os_heap.specs.Bytes.{Bytes, word_at}
+use Rattle.os_heap.specs.Records.{is_word_kind, with_region}
+use Rattle.os_heap.specs.Class.{Class}
+use Rattle.os_heap.specs.Class.TheVariants as class
+use Rattle.os_heap.specs.AddressMap.{AddressMap}
+use Rattle.os_heap.specs.Kind.{Kind}
+use Rattle.os_heap.specs.Region.{Region}
+use Rattle.os_heap.specs.Memory.{byte_at, bytes_of, class_of, is_mapped, layout}
 use Rattle.flex_store.specs.declared.shift.Shift.{Shift}
 use Rattle.flex_store.specs.Blocks.{Block, bytes_taken_by, bytes_taken_by_all}
 use Rattle.flex_store.specs.Marks.{with_block_marks, with_marks}

@@ -6,10 +6,10 @@ use Rattle.std.specs.List.{list_any}
 use Rattle.profile.specs.Outcome.{bind}
 use Rattle.profile.specs.declared.error.ErrorNumber.{ErrorNumber}
 use Rattle.profile.specs.declared.error.ErrorNumber.TheVariants.{FlexNotReady, FlexAlready, FlexBadRange, FlexBadAnchor, FlexAnchorInUse, FlexHoldsAnchor}
-use Rattle.address_map.specs.declared.region.Kind.TheVariants as kind
-use Rattle.address_map.specs.declared.region.Region.{Region}
-use Rattle.address_map.specs.Bytes.{Bytes, shares_address, with_word, word_start}
-use Rattle.address_map.specs.Records.{anchor_among}
+use Rattle.os_heap.specs.Kind.TheVariants as kind
+use Rattle.os_heap.specs.Region.{Region}
+use Rattle.os_heap.specs.Bytes.{Bytes, shares_address, with_word, word_start}
+use Rattle.os_heap.specs.Records.{anchor_among}
 use Rattle.os_heap.specs.Payloads.{is_other, payload_of}
 use Rattle.os_heap.specs.Store.{is_flex_store, Store}
 use Rattle.os_heap.specs.Ranges.{are_bytes_mapped}

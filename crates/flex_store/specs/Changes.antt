@@ -1,7 +1,7 @@
 -- What a change of one block leaves.
 use Rattle.std.specs.Prelude.{ℕ, ◌≡◌, ◌≤◌, ◌<◌, ◌+◌, Bool, true, false, List, ◌++◌, Some}
-use Rattle.address_map.specs.Memory.{byte_at, layout}
-use Rattle.address_map.specs.declared.map.AddressMap.{AddressMap}
+use Rattle.os_heap.specs.Memory.{byte_at, layout}
+use Rattle.os_heap.specs.AddressMap.{AddressMap}
 use Rattle.flex_store.specs.declared.flex.Extent.{Extent}
 use Rattle.flex_store.specs.Blocks.{Block, bytes_taken_by_all}
 use Rattle.flex_store.specs.Memory.{laid_out, standing}

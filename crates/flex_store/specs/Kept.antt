@@ -1,8 +1,8 @@
 -- What the calls ask of memory, and what they and their steps keep of it.
 use Rattle.std.specs.Prelude.{ℕ, ◌≡◌, ◌⊎◌, true, Option}
-use Rattle.address_map.specs.Bytes.{word_start}
-use Rattle.address_map.specs.Memory.{byte_at, class_of, layout, mapping}
-use Rattle.address_map.specs.declared.map.AddressMap.{AddressMap}
+use Rattle.os_heap.specs.Bytes.{word_start}
+use Rattle.os_heap.specs.Memory.{byte_at, class_of, layout, mapping}
+use Rattle.os_heap.specs.AddressMap.{AddressMap}
 use Rattle.os_heap.specs.Store.{AreClasses, is_in_flex_store, IsSound, store_of}
 use Rattle.flex_store.specs.declared.flex.Extent.{Extent}
 use Rattle.flex_store.specs.Calls.{is_anchor_place}

@@ -1,7 +1,7 @@
 -- What a flex store holds, and what keeps it.
 use Rattle.std.specs.Prelude.{ℕ, ◌≡◌, false, List, [], ◌∷◌, Option, Some, None}
 use Rattle.std.specs.Option.{option_map}
-use Rattle.address_map.specs.declared.map.AddressMap.{AddressMap}
+use Rattle.os_heap.specs.AddressMap.{AddressMap}
 use Rattle.flex_store.specs.declared.flex.Flex.{Flex}
 use Rattle.flex_store.specs.Blocks.{Block, contents, find_block, FlexStore, has_anchor}
 use Rattle.flex_store.specs.State.{AreWhole, IsFlex}

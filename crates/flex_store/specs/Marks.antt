@@ -1,7 +1,7 @@
 -- The classes of memory after the words of headers and anchors were marked, or are marked no more.
 use Rattle.std.specs.Prelude.{ℕ, ◌+◌, Bool, List, [], ◌∷◌, if◌then◌else◌}
-use Rattle.address_map.specs.declared.class.Class.{Class}
-use Rattle.address_map.specs.Records.{with_class}
+use Rattle.os_heap.specs.Class.{Class}
+use Rattle.os_heap.specs.Records.{with_class}
 use Rattle.flex_store.specs.Blocks.{Block, bytes_taken_by}
 
 abbrev pub class_with_mark : Class → Bool → Class → Class

@@ -1,7 +1,7 @@
 -- The bytes of memory that the blocks spell, and the blocks that memory spells.
 use Rattle.std.specs.Prelude.{ℕ, ◌≡◌, ◌<◌, zero, suc, ◌+◌, ◌-◌, nat_le, List, [], ◌∷◌, ◌++◌, length, slice_index, if◌then◌else◌}
-use Rattle.address_map.specs.RawStoreRegion.{word_bytes}
-use Rattle.address_map.specs.Bytes.{word_at, with_word_at, with_bytes_at, bytes_between}
+use Rattle.os_heap_words.specs.RawStoreRegion.{word_bytes}
+use Rattle.os_heap.specs.Bytes.{word_at, with_word_at, with_bytes_at, bytes_between}
 use Rattle.flex_store.specs.Blocks.{Block, bytes_taken_by, whole_words}
 
 -- The blocks as one text: of each the address of its anchor, its size, and its bytes. An anchor may

@@ -1,9 +1,9 @@
 -- What is left of memory where the blocks after a place were laid out anew.
 use Rattle.std.specs.Prelude.{ℕ, ◌≡◌, ◌+◌, List, ◌∷◌}
-use Rattle.address_map.specs.Bytes.{AreMapped}
-use Rattle.address_map.specs.Memory.{byte_at, class_of, is_mapped, layout}
-use Rattle.address_map.specs.declared.class.Class.TheVariants as class
-use Rattle.address_map.specs.declared.map.AddressMap.{AddressMap}
+use Rattle.os_heap.specs.Bytes.{AreMapped}
+use Rattle.os_heap.specs.Memory.{byte_at, class_of, is_mapped, layout}
+use Rattle.os_heap.specs.Class.TheVariants as class
+use Rattle.os_heap.specs.AddressMap.{AddressMap}
 use Rattle.flex_store.specs.Blocks.{Block, contents, block_holding, bytes_after_splice, bytes_taken_by, bytes_taken_by_all}
 use Rattle.flex_store.specs.Marks.{with_marks}
 use Rattle.flex_store.specs.Memory.{block_at, blocks_in, laid_out}

@@ -1,6 +1,6 @@
 -- A change of a block's bytes, and the room that it takes.
 use Rattle.std.specs.Prelude.{ℕ, Bool, ◌≤◌, ◌+◌, ◌-◌, ◌^◌}
-use Rattle.address_map.specs.Bytes.{AreMapped}
+use Rattle.os_heap.specs.Bytes.{AreMapped}
 use Rattle.flex_store.specs.declared.splice.Splice.{Splice}
 use Rattle.flex_store.specs.Blocks.{whole_words}
 

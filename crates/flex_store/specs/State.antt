@@ -1,11 +1,11 @@
 -- What an address map and a `Flex` stand for, and what holds of them whatever is called.
 use Rattle.std.specs.Prelude.{ℕ, ◌≡◌, ◌≤◌, ◌<◌, ◌⊎◌, ◌^◌, Bool, true, false, ◌+◌, ◌-◌, ◌%◌, ◌==◌, ◌&&◌, List, [], ◌∷◌, length, Option, Some, None}
 use Rattle.std.specs.List.{list_any}
-use Rattle.address_map.specs.declared.region.Region.{Region}
-use Rattle.address_map.specs.declared.map.AddressMap.{AddressMap}
-use Rattle.address_map.specs.Bytes.{Bytes, AreMapped, word_start}
-use Rattle.address_map.specs.Classes.{is_anchor, is_flex_header, is_heap_class}
-use Rattle.address_map.specs.Memory.{byte_at, bytes_of, class_of, is_mapped, layout}
+use Rattle.os_heap.specs.Region.{Region}
+use Rattle.os_heap.specs.AddressMap.{AddressMap}
+use Rattle.os_heap.specs.Bytes.{Bytes, AreMapped, word_start}
+use Rattle.os_heap.specs.Classes.{is_anchor, is_flex_header, is_heap_class}
+use Rattle.os_heap.specs.Memory.{byte_at, bytes_of, class_of, is_mapped, layout}
 use Rattle.os_heap.specs.Store.{is_flex_store, store_of}
 use Rattle.flex_store.specs.declared.flex.Extent.{Extent}
 use Rattle.flex_store.specs.declared.flex.Flex.{Flex}

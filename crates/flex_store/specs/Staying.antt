@@ -1,9 +1,9 @@
 -- What memory keeps of the flex store where others change it: a guest, or calls on another store. A
 -- guest may write into the blocks, so their contents are what stands there then.
 use Rattle.std.specs.Prelude.{ℕ, ◌≡◌, ◌-◌, Bool, true, Option, Some, None}
-use Rattle.address_map.specs.Bytes.{AreMapped}
-use Rattle.address_map.specs.Memory.{byte_at, is_mapped}
-use Rattle.address_map.specs.declared.map.AddressMap.{AddressMap}
+use Rattle.os_heap.specs.Bytes.{AreMapped}
+use Rattle.os_heap.specs.Memory.{byte_at, is_mapped}
+use Rattle.os_heap.specs.AddressMap.{AddressMap}
 use Rattle.os_heap.specs.Store.{is_flex_word, store_of}
 use Rattle.flex_store.specs.declared.flex.Extent.{Extent}
 use Rattle.flex_store.specs.declared.flex.Flex.{Flex}

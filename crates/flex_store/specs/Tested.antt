@@ -1,8 +1,8 @@
 -- What the tests of this crate go on from.
 use Rattle.std.specs.Prelude.{ℕ, ◌≡◌, ◌<◌, length, [], None}
-use Rattle.address_map.specs.declared.class.Class.TheVariants as class
-use Rattle.address_map.specs.declared.map.AddressMap.{AddressMap}
-use Rattle.address_map.specs.Memory.{class_of, regions}
+use Rattle.os_heap.specs.Class.TheVariants as class
+use Rattle.os_heap.specs.AddressMap.{AddressMap}
+use Rattle.os_heap.specs.Memory.{class_of, regions}
 use Rattle.os_heap.specs.Store.{AreClasses, IsSound, store_of}
 use Rattle.flex_store.specs.declared.flex.Flex.{Flex}
 use Rattle.flex_store.specs.State.{IsFlex}

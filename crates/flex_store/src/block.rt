@@ -3,11 +3,11 @@
 ghost use Rattle.std.specs.Prelude.{◌≡◌, ◌≤◌, ◌<◌, ◌+◌, ◌%◌, ◌==◌, ◌&&◌, not, ◌∷◌, [], false, None, Some, MatchOption};
 ghost use Rattle.std.specs.List.{list_any};
 ghost use Rattle.profile.specs.Outcome.{Gives};
-ghost use Rattle.address_map.specs.Records.{is_heap_kind};
+ghost use Rattle.os_heap.specs.Records.{is_heap_kind};
 ghost use Rattle.os_heap.specs.Store.{is_flex_store, store_of};
-ghost use Rattle.address_map.specs.Bytes.{shares_address, word_at};
-ghost use Rattle.address_map.specs.Classes.{is_anchor, is_heap_class};
-ghost use Rattle.address_map.specs.Memory.{byte_at, class_of};
+ghost use Rattle.os_heap.specs.Bytes.{shares_address, word_at};
+ghost use Rattle.os_heap.specs.Classes.{is_anchor, is_heap_class};
+ghost use Rattle.os_heap.specs.Memory.{byte_at, class_of};
 ghost use Rattle.flex_store.specs.Blocks.{cut_of, find_block, has_anchor, more_of, new_block};
 ghost use Rattle.flex_store.specs.Calls.{flex_after_alloc, flex_after_extend, is_anchor_place, may_stand, mid_extended, flex_after_release, flex_block_size, spliced_at};
 ghost use Rattle.flex_store.specs.Changes.{Fits};
@@ -21,8 +21,8 @@ use crate::flex::Extent;
 use crate::slide::{append, remove, replace};
 use crate::splice::Splice;
 use crate::walk::{HEADER, SIZE, is_in_contents, taken, word};
-use address_map::{AddressMap, Class, Kind, Region};
-use os_heap::Heaps;
+use os_heap::{AddressMap, Heaps, Kind};
+use os_heap_words::{Class, Region};
 use profile::ErrorNumber;
 
 /// The size of an anchor's block.

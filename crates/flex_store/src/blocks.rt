@@ -2,7 +2,7 @@
 
 ghost use Rattle.std.specs.Prelude.{◌≡◌, List};
 ghost use Rattle.std.specs.Iterator.{YieldsFirst, item_count};
-ghost use Rattle.address_map.specs.Memory.{byte_at, bytes_of};
+ghost use Rattle.os_heap.specs.Memory.{byte_at, bytes_of};
 ghost use Rattle.flex_store.specs.declared.blocks.FlexBlock.{FlexBlock};
 ghost use Rattle.flex_store.specs.Listed.{all_listed, blocks_with_places};
 ghost use Rattle.flex_store.specs.Memory.{blocks_in};
@@ -10,7 +10,7 @@ ghost use Rattle.flex_store.specs.State.{flex_in, IsFlex, IsText};
 
 use crate::flex::Flex;
 use crate::walk::{HEADER, SIZE, taken, word};
-use address_map::AddressMap;
+use os_heap::AddressMap;
 use std::marker::Model;
 
 /// A block of the flex store: the address of its anchor, that of its bytes, and how many of these

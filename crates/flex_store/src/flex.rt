@@ -3,13 +3,13 @@
 ghost use Rattle.std.specs.Prelude.{◌≡◌, ◌<◌, ◌++◌, ◌∷◌, [], true, false, Some, None, MatchOption, MatchResult, length};
 ghost use Rattle.profile.specs.Outcome.{Gives};
 ghost use Rattle.os_heap.specs.Store.{store_of};
-ghost use Rattle.address_map.specs.Memory.{is_mapped, regions};
+ghost use Rattle.os_heap.specs.Memory.{is_mapped, regions};
 ghost use Rattle.flex_store.specs.Calls.{flex_after_alloc, flex_after_init, flex_after_extend, flex_record, is_flex_range, mid_extended, flex_after_release, flex_block_size};
 ghost use Rattle.flex_store.specs.Kept.{IsFlexMap, KeepsLayoutAndHeaps, KeepsMarksAndHeaps};
 ghost use Rattle.flex_store.specs.State.{state_of_flex, IsFlex};
 
 use crate::block::{alloc_block, block_size, extend_block, mid_extend_block, release_block};
-use address_map::{AddressMap, Kind};
+use os_heap::{AddressMap, Kind};
 use profile::ErrorNumber;
 
 /// The range of the flex store, in addresses, and how many bytes of it its blocks take up.

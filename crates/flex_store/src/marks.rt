@@ -2,13 +2,13 @@
 //! then.
 
 ghost use Rattle.std.specs.Prelude.{ℕ, ◌≡◌, ◌+◌, ◌%◌, ◌<◌, ◌^◌, true};
-ghost use Rattle.address_map.specs.declared.class.Class.TheVariants.{Anchor, FlexHeader, Plain};
-ghost use Rattle.address_map.specs.Memory.{class_of, is_mapped};
-ghost use Rattle.address_map.specs.Records.{is_word_kind, with_mark, without_mark};
+ghost use Rattle.os_heap.specs.Class.TheVariants.{Anchor, FlexHeader, Plain};
+ghost use Rattle.os_heap.specs.Memory.{class_of, is_mapped};
+ghost use Rattle.os_heap.specs.Records.{is_word_kind, with_mark, without_mark};
 ghost use Rattle.flex_store.specs.Kept.{KeepsBytes};
 ghost use Rattle.flex_store.specs.Marks.{with_block_marks};
 
-use address_map::{AddressMap, Kind};
+use os_heap::{AddressMap, Kind};
 
 /// The bytes of a word.
 const WORD: u32 = 4;

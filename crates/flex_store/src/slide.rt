@@ -1,8 +1,8 @@
 //! Blocks that slide as one before them is changed, appended or removed.
 
 ghost use Rattle.std.specs.Prelude.{ℕ, ◌≡◌, ◌≤◌, ◌<◌, ◌+◌, ◌-◌, ◌%◌, ◌^◌, ◌++◌, [], ◌∷◌, true};
-ghost use Rattle.address_map.specs.Bytes.{AreMapped, bytes_between, with_bytes_at};
-ghost use Rattle.address_map.specs.Memory.{byte_at, bytes_of, is_mapped};
+ghost use Rattle.os_heap.specs.Bytes.{AreMapped, bytes_between, with_bytes_at};
+ghost use Rattle.os_heap.specs.Memory.{byte_at, bytes_of, is_mapped};
 ghost use Rattle.flex_store.specs.Blocks.{contents, whole_words_of_bytes, block_holding, new_block, bytes_after_splice, bytes_taken_by, whole_words};
 ghost use Rattle.flex_store.specs.Kept.{KeepsMarks};
 ghost use Rattle.flex_store.specs.Relaid.{blocks_behind_first, blocks_after_removal, first_at, MayLie, Relaid, blocks_after_splice};
@@ -12,7 +12,7 @@ ghost use Rattle.flex_store.specs.State.{AreAnchorWords, IsText};
 use crate::shift::{Shift, splice_shifts};
 use crate::splice::{Splice, splice_bytes};
 use crate::walk::{HEADER, SIZE, settle, taken, unmark, whole_words, word};
-use address_map::AddressMap;
+use os_heap::AddressMap;
 
 /// Changes a block's bytes, and moves those after it, up to `end`, to where the block then ends.
 fn respace(map: &mut AddressMap, contents: u32, size: u32, splice: &Splice, end: u32)

@@ -2,9 +2,9 @@
 //! after a slide.
 
 ghost use Rattle.std.specs.Prelude.{ℕ, ◌≡◌, ◌≤◌, ◌<◌, ◌+◌, ◌%◌, ◌^◌, ◌&&◌, nat_le, true};
-ghost use Rattle.address_map.specs.Bytes.{word_at};
-ghost use Rattle.address_map.specs.Memory.{byte_at, bytes_of, class_of, is_mapped, layout};
-ghost use Rattle.address_map.specs.declared.class.Class.TheVariants.{Anchor, FlexHeader, Plain};
+ghost use Rattle.os_heap.specs.Bytes.{word_at};
+ghost use Rattle.os_heap.specs.Memory.{byte_at, bytes_of, class_of, is_mapped, layout};
+ghost use Rattle.os_heap.specs.Class.TheVariants.{Anchor, FlexHeader, Plain};
 ghost use Rattle.flex_store.specs.Blocks.{is_in_contents, bytes_taken_by, whole_words};
 ghost use Rattle.flex_store.specs.Kept.{KeepsBytes};
 ghost use Rattle.flex_store.specs.Marks.{with_marks};
@@ -14,7 +14,7 @@ ghost use Rattle.flex_store.specs.State.{AreAnchorWords, IsText};
 
 use crate::marks::{clear_block, mark_block};
 use crate::shift::{Shift, gone_to};
-use address_map::AddressMap;
+use os_heap::AddressMap;
 
 /// The bytes of a block's header: its anchor's address, and its size.
 pub(crate) const HEADER: u32 = 8;

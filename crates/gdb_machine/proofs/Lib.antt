@@ -1,3 +1,4 @@
+pub use Rattle.debugger.proofs.GateLemmas
 pub mod BackLemmas
 pub mod EscapeLemmas
 pub mod LoadLemmas

@@ -1,4 +1,8 @@
 -- What GDB sees of a machine. Begin with Registers.
+pub use Rattle.debugger.specs.GuestState
+pub use Rattle.debugger.specs.MachineState
+pub use Rattle.debugger.specs.Run
+pub use Rattle.debugger.specs.Value
 pub mod BackEnds
 pub mod ChangePackets
 pub mod Changes

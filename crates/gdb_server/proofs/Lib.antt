@@ -1,4 +1,4 @@
-pub use Rattle.command_shell.proofs.FrontLemmas
-pub use Rattle.command_shell.proofs.ImageLemmas
+pub use Rattle.debug_session.proofs.FrontLemmas
+pub use Rattle.debug_session.proofs.ImageLemmas
 pub mod ServingLemmas
 pub mod SessionLemmas

@@ -3,19 +3,19 @@
 use Rattle.std.proofs.Common.{◌≡◌, ◌%◌, ◌∙◌, ℕ, ◌+◌, ◌-◌, ◌==◌, sym, ap, ◌&&◌, ◌<◌, ◌≤◌, true, false, List, [], ◌∷◌, ◌++◌, length, refl, Ok, Err, inl, inr, arith}
 use Rattle.std.specs.Prelude.{IfOk, Result, nat_lt, not}
 use Rattle.std.proofs.lemmas.Bool.{and_parts, both_ways, cases_Bool, eqb-true, false_from_ne_true, le-leb, lt-ltb, ltb-false, or_from, or_parts}
-use Rattle.address_map.specs.Bytes.{AreMapped, bytes_between, in_range}
-use Rattle.address_map.proofs.Viewing.{bytes_counted}
-use Rattle.address_map.specs.declared.region.Kind.TheVariants as kind
-use Rattle.address_map.specs.declared.region.Region.{Region}
+use Rattle.rma.specs.Bytes.{AreMapped, bytes_between, in_range}
+use Rattle.rma.proofs.Viewing.{bytes_counted}
+use Rattle.rma.specs.Kind.TheVariants as kind
+use Rattle.rma.specs.Region.{Region}
 use Rattle.instances_table.specs.plans.ModuleHeaderHeader.{header_of}
 use Rattle.instances_table.specs.plans.HeaderFault.{HeaderFault}
 use Rattle.instances_table.specs.plans.HeaderFault.TheVariants.{Short}
 use Rattle.instances_table.specs.plans.Header.{Header}
 use Rattle.rma.specs.lists.Lists.{total_for}
-use Rattle.dynamic_areas.proofs.RangeTests.{are_mapped_all, clear_of_heaps}
-use Rattle.dynamic_areas.specs.Ranges.{are_bytes_mapped}
-use Rattle.dynamic_areas.specs.Store.{Store, has_image, is_image, store_of}
-use Rattle.dynamic_areas.specs.Ground.{AreaStore, IsAreaStore}
+use Rattle.rma.proofs.RangeTests.{are_mapped_all, clear_of_heaps}
+use Rattle.rma.specs.Ranges.{are_bytes_mapped}
+use Rattle.rma.specs.Store.{Store, has_image, is_image, store_of}
+use Rattle.rma.specs.Ground.{AreaStore, IsAreaStore}
 use Rattle.rma.specs.Copies.{has_bare, may_be_copied}
 use Rattle.rma.specs.flex_frame.Keeping.{is_in_record}
 use Rattle.rma.specs.NewImages.{image_record, may_be_in_place, with_image_in_place}
@@ -30,8 +30,8 @@ use Rattle.instances.specs.Adding.{AddsInBlock, AddsInPlace, good_header}
 use Rattle.instances.specs.module_state.Kept.{IsModuleMap}
 use Rattle.instances_table.specs.Modules.{Module}
 use Rattle.rma.proofs.FlexFrameLemmas.Keeping.{keeps_same}
-use Rattle.address_map.specs.declared.map.AddressMap.{AddressMap}
-use Rattle.dynamic_areas.specs.Areas.{AreaTable}
+use Rattle.rma.specs.AddressMap.{AddressMap}
+use Rattle.rma.specs.Areas.{AreaTable}
 use Rattle.profile.specs.declared.error.ErrorNumber.{ErrorNumber}
 
 -- where no record lies no image begins, since none is empty

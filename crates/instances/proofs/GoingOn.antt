@@ -8,7 +8,7 @@ use Rattle.profile.specs.Outcome.{Leaves, bind}
 use Rattle.profile.specs.declared.error.ErrorNumber.{ErrorNumber}
 use Rattle.profile.specs.declared.error.ErrorNumber.TheVariants.{InstanceExists}
 use Rattle.instances_table.specs.plans.Header.{Header}
-use Rattle.dynamic_areas.specs.Ground.{AreaStore, IsAreaStore}
+use Rattle.rma.specs.Ground.{AreaStore, IsAreaStore}
 use Rattle.instances_table.specs.declared.plans.action.PlanAction.{PlanAction}
 use Rattle.instances_table.specs.declared.plans.action.PlanAction.TheVariants.{Finalise, Remove, FreePrivate, Insert, Instantiate, GiveUp, Slide, Initialise}
 use Rattle.instances_table.specs.declared.plans.given.Given.{Given}

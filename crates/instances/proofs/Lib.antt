@@ -1,9 +1,13 @@
-pub use Rattle.rma.proofs.FlexFrameLemmas.Areas
+pub use Rattle.rma.proofs.FlexFrameLemmas.Areas as FlexAreas
 pub use Rattle.rma.proofs.FlexFrameLemmas.Heaps
 pub use Rattle.rma.proofs.FlexFrameLemmas.Keeping as RmaKeeping
 pub use Rattle.rma.proofs.FlexFrameLemmas.Writes
+pub use Rattle.rma.proofs.HeapCalls
 pub use Rattle.rma.proofs.ImageLemmas
 pub use Rattle.rma.proofs.InPlaceLemmas
+pub use Rattle.rma.proofs.RoomLemmas
+pub use Rattle.rma.proofs.SystemPages
+pub use Rattle.rma.proofs.SystemWrites
 pub mod AddingLemmas
 pub mod Carrying
 pub mod DoableLemmas

@@ -6,7 +6,7 @@ use Rattle.std.proofs.lemmas.Bool.{cases_Bool, eqb-true, false≢true, or_parts}
 use Rattle.profile.specs.Outcome.{Gives, bind}
 use Rattle.profile.specs.declared.error.ErrorNumber.{ErrorNumber}
 use Rattle.profile.specs.declared.error.ErrorNumber.TheVariants.{BadPointer, BadString}
-use Rattle.address_map.specs.Bytes.{bytes_between}
+use Rattle.rma.specs.Bytes.{bytes_between}
 use Rattle.instances_table.specs.plans.HeaderFault.{HeaderFault}
 use Rattle.instances_table.specs.plans.Header.{Header}
 use Rattle.instances_table.specs.plans.ModuleHeaderHeader.{header_of}

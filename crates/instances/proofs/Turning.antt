@@ -3,9 +3,9 @@ use Rattle.profile.specs.MemoryMap.{module_area_start}
 use Rattle.std.proofs.Common.{◌≡◌, ℕ, Bool, true, false, Some, None, inl, inr, List, [], ◌∷◌, map, refl, sym, ap, subst, ◌∙◌}
 use Rattle.std.specs.Prelude.{Option, if◌then◌else◌}
 use Rattle.std.proofs.lemmas.Bool.{cases_Bool, false≢true}
-use Rattle.address_map.specs.declared.follow.BlockMove.{BlockMove}
+use Rattle.rma.specs.BlockMove.{BlockMove}
 use Rattle.rma.specs.lists.Heap.{HeapList}
-use Rattle.dynamic_areas.specs.Store.{find_heap}
+use Rattle.rma.specs.Store.{find_heap}
 use Rattle.instances_table.specs.declared.plans.action.PlanAction.{PlanAction}
 use Rattle.instances_table.specs.declared.plans.action.PlanAction.TheVariants.{Finalise, Remove, FreePrivate, Insert, Instantiate, GiveUp, Slide, Initialise}
 use Rattle.instances_table.specs.declared.plans.code.Advance.TheVariants as advance

@@ -6,16 +6,16 @@ use Rattle.std.specs.Prelude.{◌≡◌, ℕ, not, List, [], length, ok_or, IfOk
 use Rattle.profile.specs.Outcome.{bind}
 use Rattle.profile.specs.declared.error.ErrorNumber.{ErrorNumber}
 use Rattle.profile.specs.declared.error.ErrorNumber.TheVariants.{BadPointer, BadString, ModuleBadHeader, InstanceTableFull}
-use Rattle.address_map.specs.Bytes.{bytes_between}
-use Rattle.address_map.specs.Memory.{mapping}
-use Rattle.address_map.specs.declared.map.AddressMap.{AddressMap}
-use Rattle.address_map.specs.declared.region.Kind.TheVariants as kind
+use Rattle.rma.specs.Bytes.{bytes_between}
+use Rattle.rma.specs.Memory.{mapping}
+use Rattle.rma.specs.AddressMap.{AddressMap}
+use Rattle.rma.specs.Kind.TheVariants as kind
 use Rattle.instances_table.specs.plans.ModuleHeaderHeader.{header_of}
 use Rattle.instances_table.specs.plans.HeaderFault.{HeaderFault}
 use Rattle.instances_table.specs.plans.Header.{Header}
-use Rattle.dynamic_areas.specs.Areas.{AreaTable}
-use Rattle.dynamic_areas.specs.Order.{AddsRecord, KeepsOrder}
-use Rattle.dynamic_areas.specs.Store.{AreClasses, store_of}
+use Rattle.rma.specs.Areas.{AreaTable}
+use Rattle.rma.specs.Order.{AddsRecord, KeepsOrder}
+use Rattle.rma.specs.Store.{AreClasses, store_of}
 use Rattle.rma.specs.Calls.{with_store}
 use Rattle.rma.specs.Copies.{may_be_copied}
 use Rattle.rma.specs.Places.{KeepsPlaces}

@@ -1,2 +1,2 @@
 -- The store that memory spells, for the functions that read it.
-unfoldable pub use Rattle.dynamic_areas.specs.Store.{store_of}
+unfoldable pub use Rattle.rma.specs.Store.{store_of}

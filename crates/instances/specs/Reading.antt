@@ -3,7 +3,7 @@
 use Rattle.std.specs.Prelude.{ℕ, ◌+◌, ◌%◌, ◌^◌, ◌==◌, List, Option, Some, None, Result, Ok, if◌then◌else◌}
 use Rattle.profile.specs.Outcome.{bind}
 use Rattle.profile.specs.declared.error.ErrorNumber.{ErrorNumber}
-use Rattle.address_map.specs.Bytes.{word_at}
+use Rattle.rma.specs.Bytes.{word_at}
 use Rattle.instances_table.specs.plans.Code.{private_of}
 use Rattle.instances_table.specs.declared.parts.Place.{Place}
 use Rattle.instances_table.specs.Modules.{Module}

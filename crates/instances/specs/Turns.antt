@@ -1,11 +1,11 @@
 -- A call that is under way on the module state: its plan finds what its actions ask for, and module code
 -- runs only where an action has some (this project's own).
 use Rattle.std.specs.Prelude.{◌≡◌, Bool, true, false, Option, Some, None, List, []}
-use Rattle.address_map.specs.Memory.{mapping, regions}
-use Rattle.address_map.specs.declared.map.AddressMap.{AddressMap}
-use Rattle.address_map.specs.declared.region.Region.{Region}
-use Rattle.dynamic_areas.specs.Areas.{AreaTable}
-use Rattle.dynamic_areas.specs.Store.{AreClasses, store_of}
+use Rattle.rma.specs.Memory.{mapping, regions}
+use Rattle.rma.specs.AddressMap.{AddressMap}
+use Rattle.rma.specs.Region.{Region}
+use Rattle.rma.specs.Areas.{AreaTable}
+use Rattle.rma.specs.Store.{AreClasses, store_of}
 use Rattle.rma.specs.flex_frame.Keeping.{KeepsFlex}
 use Rattle.instances_table.specs.declared.plans.action.PlanAction.{PlanAction}
 use Rattle.instances_table.specs.declared.plans.action.PlanAction.TheVariants.{Finalise, Initialise}

@@ -1,9 +1,9 @@
 //! The calls that add a module whose image gets a block of the module area.
 ghost use Rattle.std.specs.Prelude.{◌≡◌, ◌≤◌, ◌<◌, ◌∷◌, [], false, length, IfOk, Ok};
 ghost use Rattle.profile.specs.Outcome.{Gives};
-ghost use Rattle.address_map.specs.Bytes.{bytes_between, AreMapped};
-ghost use Rattle.address_map.specs.Memory.{is_mapped};
-ghost use Rattle.dynamic_areas.specs.Store.{store_of};
+ghost use Rattle.rma.specs.Bytes.{bytes_between, AreMapped};
+ghost use Rattle.rma.specs.Memory.{is_mapped};
+ghost use Rattle.rma.specs.Store.{store_of};
 ghost use Rattle.instances_table.specs.plans.ModuleHeaderHeader.{header_of};
 ghost use Rattle.instances.specs.actions.Pending.{pending_of};
 ghost use Rattle.instances.specs.actions.Ready.{IsReady};
@@ -14,12 +14,10 @@ ghost use Rattle.instances.specs.module_state.Kept.{IsModuleMap};
 
 use crate::given::{given_module, is_too_long};
 use crate::instances::Instances;
-use address_map::AddressMap;
-use dynamic_areas::Areas;
 use instances_table::Image;
 use instances_table::plans::{Header, HeaderFault, Plan};
 use profile::ErrorNumber;
-use rma::Rma;
+use rma::{AddressMap, Areas, Rma};
 
 impl Instances {
     /// Loads a module: its image gets a block of the module area at once. Then the instances of an

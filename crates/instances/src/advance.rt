@@ -17,9 +17,8 @@ ghost use Rattle.instances.specs.module_state.Kept.{KeepsState};
 use crate::actions::{act, code_of};
 use crate::instances::Instances;
 use crate::tidying::slide;
-use address_map::AddressMap;
-use dynamic_areas::Areas;
 use instances_table::plans::{Advance, Code, Outcome, Plan, PlanAction};
+use rma::{AddressMap, Areas};
 
 impl Instances {
     /// Carries a call on: the code that was under way, if any was, has come back with this outcome;

@@ -1,8 +1,8 @@
 //! The calls that add a module whose image stays where it stands.
 ghost use Rattle.std.specs.Prelude.{◌≡◌, false, true, IfOk, Ok};
 ghost use Rattle.profile.specs.Outcome.{Gives};
-ghost use Rattle.address_map.specs.Bytes.{bytes_between};
-ghost use Rattle.dynamic_areas.specs.Store.{store_of};
+ghost use Rattle.rma.specs.Bytes.{bytes_between};
+ghost use Rattle.rma.specs.Store.{store_of};
 ghost use Rattle.rma.specs.NewImages.{may_be_in_place};
 ghost use Rattle.instances_table.specs.plans.ModuleHeaderHeader.{header_of};
 ghost use Rattle.instances.specs.actions.Ready.{IsReady};
@@ -12,12 +12,10 @@ ghost use Rattle.instances.specs.module_state.Kept.{IsModuleMap};
 
 use crate::adding::header_at;
 use crate::instances::Instances;
-use address_map::AddressMap;
-use dynamic_areas::Areas;
 use instances_table::Image;
 use instances_table::plans::{Header, Plan};
 use profile::ErrorNumber;
-use rma::Rma;
+use rma::{AddressMap, Areas, Rma};
 
 impl Instances {
     /// Inserts a module whose image is the `len` bytes from an address on, which are recorded as an

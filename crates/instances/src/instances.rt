@@ -2,9 +2,9 @@
 
 ghost use Rattle.std.specs.Prelude.{◌≡◌, ◌<◌, [], Option, option_map, slice_get, IfSome};
 ghost use Rattle.profile.specs.Outcome.{Leaves};
-ghost use Rattle.address_map.specs.Bytes.{AreMapped};
-ghost use Rattle.address_map.specs.Memory.{byte_at, is_mapped};
-ghost use Rattle.dynamic_areas.specs.Ground.{AreaStore};
+ghost use Rattle.rma.specs.Bytes.{AreMapped};
+ghost use Rattle.rma.specs.Memory.{byte_at, is_mapped};
+ghost use Rattle.rma.specs.Ground.{AreaStore};
 ghost use Rattle.instances_table.specs.plans.Plans.{Plan};
 ghost use Rattle.instances_table.specs.Lookup.{shown_of_module, shown_of_place};
 ghost use Rattle.instances_table.specs.Changes.{preferring, modules_after_rename};
@@ -14,9 +14,9 @@ ghost use Rattle.instances.specs.Turns.{MayGoOn};
 
 use crate::answers::{Found, Reported};
 use crate::module_state::private_value;
-use address_map::AddressMap;
 use instances_table::{InstanceInfo, InstanceTable, ModuleInfo, Place};
 use profile::ErrorNumber;
+use rma::AddressMap;
 use std::marker::Model;
 
 /// The modules of a machine and their instances.

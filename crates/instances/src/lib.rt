@@ -20,8 +20,7 @@ pub mod reading;
 pub mod tidying;
 
 pub use answers::{Found, Reported, Start};
-pub use dynamic_areas::Area;
 pub use instances::Instances;
 pub use instances_table::plans::{Advance, Code, CodeKind, Ended, Outcome, Plan};
 pub use instances_table::{Handler, InstanceInfo, InstanceTable, ModuleInfo, Place};
-pub use rma::Rma;
+pub use rma::{Area, Areas, Changed, Rma, Wanted, areas_count_pages, start_memory};

@@ -1,4 +1,11 @@
 -- Proofs of the laws of the whole machine.
+pub use Rattle.os_heap.proofs.Found
+pub use Rattle.os_heap_words.proofs.ListsLemmas.HeadWords
+pub use Rattle.swi_dispatch_guest.proofs.Kept
+pub use Rattle.swi_dispatch_guest.proofs.LawFramesLemmas.Answering
+pub use Rattle.swi_dispatch_guest.proofs.LawFramesLemmas.Keeping
+pub use Rattle.swi_dispatch_guest.proofs.RunLoop
+pub use Rattle.swi_dispatch_guest.proofs.Silent
 pub mod FlexLemmas
 pub mod FlexNamesLemmas
 pub mod SlidingStoresLemmas

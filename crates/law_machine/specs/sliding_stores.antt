@@ -1,5 +1,5 @@
 -- The rules of flex calls and slides, without addresses. Begin with Meaning and Rules, then Laws.
-pub use Rattle.swi_dispatch_plans.specs.flex_frame.Ground
+pub use Rattle.swi_dispatch_guest.specs.Ground
 pub mod Besides
 pub mod FlexStore
 pub mod Laws

@@ -20,3 +20,5 @@ pub mod other_bytes;
 pub mod sliding;
 pub mod sliding_names;
 pub mod sliding_stores;
+
+pub use instances::Instances;

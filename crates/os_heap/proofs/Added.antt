@@ -5,16 +5,16 @@ use Rattle.std.proofs.lemmas.Bool.{cases_lt, and_parts, both_ways, false_from_ne
 use Rattle.std.proofs.lemmas.Bool.Decides.{nat_tests}
 use Rattle.std.specs.List.{list_any}
 use Rattle.os_heap_words.specs.ErrorNumber.TheVariants.{HeapBadRegion, HeapOverlaps, HeapTableFull}
-use Rattle.address_map.specs.Bytes.{in_range, shares_address, word_start, Bytes, with_word_at, word_at}
-use Rattle.address_map.specs.Items.{is_heap_word, items_in}
-use Rattle.address_map.specs.Classes.{is_flex_header, is_anchor}
-use Rattle.address_map.proofs.Anchors.{none_among}
-use Rattle.address_map.specs.Memory.{is_mapped, bytes_of, byte_at, class_of, regions}
-use Rattle.address_map.specs.Records.{is_heap_kind, with_region}
-use Rattle.address_map.specs.declared.class.Class.TheVariants as class
-use Rattle.address_map.specs.declared.map.AddressMap.{AddressMap}
-use Rattle.address_map.specs.declared.region.Kind.{Kind}
-use Rattle.address_map.specs.declared.region.Region.{Region}
+use Rattle.os_heap_words.specs.Bytes.{in_range, shares_address, word_start, Bytes, with_word_at, word_at}
+use Rattle.os_heap_words.specs.Items.{is_heap_word, items_in}
+use Rattle.os_heap_words.specs.Classes.{is_flex_header, is_anchor}
+use Rattle.os_heap_words.proofs.Anchors.{none_among}
+use Rattle.os_heap_words.specs.Memory.{is_mapped, bytes_of, byte_at, class_of, regions}
+use Rattle.os_heap_words.specs.Records.{is_heap_kind, with_region}
+use Rattle.os_heap_words.specs.Class.TheVariants as class
+use Rattle.os_heap_words.specs.AddressMap.{AddressMap}
+use Rattle.os_heap_words.specs.Kind.{Kind}
+use Rattle.os_heap_words.specs.Region.{Region}
 use Rattle.os_heap_words.proofs.ListsLemmas.HeadWords.{are_owned, byte_inside}
 use Rattle.os_heap_words.proofs.ListsLemmas.Payloads.{payload_unspelled}
 use Rattle.os_heap_words.proofs.ListsLemmas.Reading.{items_in-heap}
@@ -29,7 +29,7 @@ use Rattle.os_heap.proofs.Nesting.{apart_turned, clear_turned, stand_more}
 use Rattle.os_heap.specs.Nesting.{StandApart, is_crossed}
 use Rattle.os_heap.specs.Store.{AreClasses, AreClear, AreHeapsIn, ArePlaced, Store, IsSound, heap_in, heaps_in, is_module_area, is_flex_store, is_in_flex_store, others_in, store_of, IsPlacedIn, guest_count}
 use Rattle.os_heap.specs.Calls.{store_with_new_heap, store_after_init}
-use Rattle.address_map.specs.declared.region.Kind.TheVariants as kind
+use Rattle.os_heap_words.specs.Kind.TheVariants as kind
 use Rattle.os_heap.proofs.Limits.{empty, limits_more}
 use Rattle.os_heap.proofs.RangeTests.{clear_unless, CanHold, can_hold, range_low, range_high, unlapped, uncrossed}
 

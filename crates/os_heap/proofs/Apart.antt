@@ -1,8 +1,8 @@
 -- Live blocks that share a byte: they are one, or one lies in what the other holds.
 use Rattle.std.proofs.Common.{List, ℕ, [], ◌∷◌, ◌≡◌, ◌==◌, ◌+◌, ◌-◌, ◌≤◌, ◌<◌, ◌⊎◌, ◌∙◌, Some, None, true, refl, sym, ap, subst, inl, inr, arith}
 use Rattle.std.proofs.lemmas.Bool.{cases_Bool, cases_eq, both_ways, and_parts, leb-true, ltb-true, le-leb, lt-ltb}
-use Rattle.address_map.specs.Bytes.{in_range, Bytes}
-use Rattle.address_map.specs.Items.{size_of}
+use Rattle.os_heap_words.specs.Bytes.{in_range, Bytes}
+use Rattle.os_heap_words.specs.Items.{size_of}
 use Rattle.os_heap_words.proofs.ListsLemmas.LiveBlocks.{LiveBytes, law_live_bytes, live_apart}
 use Rattle.os_heap_words.specs.lists.Heap.{HeapList, IsHeapIn}
 use Rattle.os_heap_words.specs.lists.Lists.{live_total}

@@ -2,8 +2,8 @@
 use Rattle.std.specs.List.{list_any}
 use Rattle.std.proofs.Common.{ap, ◌≡◌, arith, ℕ, List, ◌∙◌, inr, ◌-◌, inl, ◌+◌, ◌≢◌, sym, ◌<◌, ◌⊎◌, [], ◌∷◌, ◌&&◌, true, false, subst, ltb, refl}
 use Rattle.std.proofs.lemmas.Bool.{and_parts, and_right, both_ways, cases_Bool, or_from, le-ltb, cases_lt, eq-eqb, false≢true, le-leb, lt-ltb, ne_eqb, not-false, or_parts}
-use Rattle.address_map.proofs.Stores.{in_range-cases}
-use Rattle.address_map.specs.Bytes.{Bytes, in_range, shares_address}
+use Rattle.os_heap_words.proofs.Stores.{in_range-cases}
+use Rattle.os_heap_words.specs.Bytes.{Bytes, in_range, shares_address}
 use Rattle.os_heap_words.specs.lists.Heap.{HeapList, IsHeapIn}
 use Rattle.os_heap.proofs.RangeTests.{clear_unless}
 use Rattle.os_heap.proofs.Holding.{HoldsRange, range_held}

@@ -2,7 +2,7 @@
 use Rattle.std.proofs.Common.{arith, ◌+◌, ◌*◌, ◌≤◌, Option, None, ℕ, Some, ◌-◌, List, inl, inr, refl}
 use Rattle.std.proofs.lemmas.Bool.{cases_Bool}
 use Rattle.std.specs.Prelude.{nat_le}
-use Rattle.address_map.specs.declared.item.Item.{Item}
+use Rattle.os_heap_words.specs.Item.{Item}
 use Rattle.os_heap_words.proofs.ListsLemmas.Counts.{below_most, IsNoMore, looked_most, claim_no_more, begun_most}
 use Rattle.os_heap_words.specs.lists.Counts.{free_count, begun_below}
 use Rattle.os_heap_words.specs.lists.Heap.{HeapList}

@@ -4,17 +4,17 @@ use Rattle.std.proofs.lemmas.Bool.{cases_Bool, both_ways}
 use Rattle.os_heap_words.specs.Outcome.{bind, Gives}
 use Rattle.os_heap_words.specs.ErrorNumber.{ErrorNumber}
 use Rattle.os_heap_words.specs.ErrorNumber.TheVariants.{HeapNoRoom, HeapBadDesc, HeapHoldsAnchor, HeapNotABlock}
-use Rattle.address_map.proofs.Stores.{layout-mapping}
-use Rattle.address_map.specs.Records.{is_heap_kind}
-use Rattle.address_map.specs.declared.region.Kind.TheVariants as kind
+use Rattle.os_heap_words.proofs.Stores.{layout-mapping}
+use Rattle.os_heap_words.specs.Records.{is_heap_kind}
+use Rattle.os_heap_words.specs.Kind.TheVariants as kind
 use Rattle.os_heap_words.proofs.ListsLemmas.LiveBlocks.{IsStill, claim_still, IsStillIn, LiveBytes, law_live_bytes, release_still}
-use Rattle.address_map.specs.Bytes.{word_at}
-use Rattle.address_map.specs.Items.{items_in, size_of}
-use Rattle.address_map.specs.Memory.{anchor_of, bytes_of, byte_at, regions, layout, class_of}
-use Rattle.address_map.specs.declared.item.Item.{Item}
-use Rattle.address_map.specs.declared.map.AddressMap.{AddressMap}
-use Rattle.address_map.specs.declared.region.Kind.{Kind}
-use Rattle.address_map.specs.declared.region.Region.{Region}
+use Rattle.os_heap_words.specs.Bytes.{word_at}
+use Rattle.os_heap_words.specs.Items.{items_in, size_of}
+use Rattle.os_heap_words.specs.Memory.{anchor_of, bytes_of, byte_at, regions, layout, class_of}
+use Rattle.os_heap_words.specs.Item.{Item}
+use Rattle.os_heap_words.specs.AddressMap.{AddressMap}
+use Rattle.os_heap_words.specs.Kind.{Kind}
+use Rattle.os_heap_words.specs.Region.{Region}
 use Rattle.os_heap_words.specs.lists.Counts.{looked_at, begun_below}
 use Rattle.os_heap_words.specs.lists.Heap.{HeapList, IsHeapIn}
 use Rattle.os_heap_words.specs.lists.Marks.{AreMarked, Remarks}

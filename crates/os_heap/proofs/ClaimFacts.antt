@@ -1,7 +1,7 @@
 -- What a claim in a heap says of its list: the blocks that were live are so still, and the new one was not.
 use Rattle.std.proofs.Common.{ℕ, ◌≡◌, ◌+◌, ◌-◌, ◌≤◌, Some, is_some, true, false, subst, arith}
-use Rattle.address_map.specs.Bytes.{Bytes}
-use Rattle.address_map.specs.Items.{is_total, size_of}
+use Rattle.os_heap_words.specs.Bytes.{Bytes}
+use Rattle.os_heap_words.specs.Items.{is_total, size_of}
 use Rattle.os_heap_words.proofs.ListsLemmas.ClaimedLists.{HasTotals, claim_totals, IsUnheld, claim_unheld, IsWithin, claim_within}
 use Rattle.os_heap_words.proofs.ListsLemmas.LiveBlocks.{IsFresh, claim_fresh, IsStill, claim_still}
 use Rattle.os_heap_words.specs.lists.Heap.{AreTotals, HeapList, IsHeapIn}

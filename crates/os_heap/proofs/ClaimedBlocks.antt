@@ -4,9 +4,9 @@ use Rattle.std.specs.Prelude.{Option, Result, is_some}
 use Rattle.std.specs.List.{list_any}
 use Rattle.std.proofs.lemmas.Bool.{both_ways, false_from_ne_true, false≢true, cases_Bool, le-leb, lt-ltb, or_from}
 use Rattle.os_heap_words.specs.ErrorNumber.{ErrorNumber}
-use Rattle.address_map.specs.Bytes.{Bytes, in_range}
-use Rattle.address_map.specs.Items.{is_total, size_of}
-use Rattle.address_map.specs.declared.region.Region.{Region}
+use Rattle.os_heap_words.specs.Bytes.{Bytes, in_range}
+use Rattle.os_heap_words.specs.Items.{is_total, size_of}
+use Rattle.os_heap_words.specs.Region.{Region}
 use Rattle.os_heap_words.proofs.ListsLemmas.LiveBlocks.{LiveBytes, live_apart, law_live_bytes}
 use Rattle.os_heap_words.proofs.ListsLemmas.Spelling.{total_of-numbers}
 use Rattle.os_heap_words.specs.lists.Heap.{HeapList, IsHeapIn}

@@ -2,19 +2,19 @@
 use Rattle.std.proofs.Common.{◌≡◌, arith, ◌≤◌, ℕ, Bool, List, ◌∙◌, inr, ◌-◌, inl, ◌+◌, ap, refl, sym, ◌<◌, [], ◌∷◌, true, subst, ◌==◌, ◌||◌, false, Some}
 use Rattle.std.proofs.lemmas.Bool.{le-leb, false≢true, lt-ltb, cases_Bool, cases_lt, ne_eqb, both_ways, eq-eqb, or_left, or_parts, ltb-false, false_from_ne_true}
 use Rattle.std.specs.List.{list_any}
-use Rattle.address_map.proofs.Bytes.{is_mapped-layout}
-use Rattle.address_map.proofs.Lengths.{record_parts}
-use Rattle.address_map.proofs.Anchors.{none_among}
-use Rattle.address_map.proofs.Stores.{in_range-cases}
-use Rattle.address_map.specs.Bytes.{word_at, word_start, Bytes, in_range, shares_address}
-use Rattle.address_map.specs.Items.{size_of, items_in, is_head, is_heap_word}
-use Rattle.address_map.specs.Memory.{layout, byte_at, bytes_of, regions, is_mapped, class_of}
-use Rattle.address_map.specs.Records.{anchor_among, is_heap_kind, with_len, is_record, are_same}
-use Rattle.address_map.specs.declared.class.Class.{Class}
-use Rattle.address_map.specs.declared.item.Item.{Item}
-use Rattle.address_map.specs.declared.map.AddressMap.{AddressMap}
-use Rattle.address_map.specs.declared.region.Kind.{Kind}
-use Rattle.address_map.specs.declared.region.Region.{Region}
+use Rattle.os_heap_words.proofs.Bytes.{is_mapped-layout}
+use Rattle.os_heap_words.proofs.Lengths.{record_parts}
+use Rattle.os_heap_words.proofs.Anchors.{none_among}
+use Rattle.os_heap_words.proofs.Stores.{in_range-cases}
+use Rattle.os_heap_words.specs.Bytes.{word_at, word_start, Bytes, in_range, shares_address}
+use Rattle.os_heap_words.specs.Items.{size_of, items_in, is_head, is_heap_word}
+use Rattle.os_heap_words.specs.Memory.{layout, byte_at, bytes_of, regions, is_mapped, class_of}
+use Rattle.os_heap_words.specs.Records.{anchor_among, is_heap_kind, with_len, is_record, are_same}
+use Rattle.os_heap_words.specs.Class.{Class}
+use Rattle.os_heap_words.specs.Item.{Item}
+use Rattle.os_heap_words.specs.AddressMap.{AddressMap}
+use Rattle.os_heap_words.specs.Kind.{Kind}
+use Rattle.os_heap_words.specs.Region.{Region}
 use Rattle.os_heap_words.proofs.ListsLemmas.HeadWords.{law_heap_frame}
 use Rattle.os_heap_words.proofs.ListsLemmas.HeapWords.{cons_part}
 use Rattle.os_heap_words.proofs.ListsLemmas.Marks.{unmarked}
@@ -33,7 +33,7 @@ use Rattle.os_heap.specs.Ranges.{MayEnd, is_in_way, is_obstructed, overgrows}
 use Rattle.os_heap_words.specs.Outcomes.{Becomes, items_at}
 use Rattle.os_heap.specs.Nesting.{StandApart, StandsApart}
 use Rattle.os_heap.specs.Store.{AreClear, AreHeapsIn, ArePlaced, IsPlacedIn, find_heap, Store, others_in, heap_in, heaps_in, IsSound, AreClasses, store_of}
-use Rattle.address_map.specs.declared.region.Kind.TheVariants as kind
+use Rattle.os_heap_words.specs.Kind.TheVariants as kind
 use Rattle.os_heap.proofs.Beside.{AreBeside, AreElsewhere, IsBeside, MayGrow, are_beside, clear_grown, elsewhere, ended, own_ended, stand_ended}
 use Rattle.os_heap.proofs.Nesting.{words_apart}
 

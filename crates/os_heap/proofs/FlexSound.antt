@@ -1,13 +1,13 @@
 -- A sound store after the flex store's words changed: no word of a heap did, each anchor lies where one may, and each header in the flex store.
 use Rattle.std.proofs.Common.{◌≡◌, ℕ, ◌+◌, ◌%◌, ◌≤◌, ◌<◌, ◌&&◌, true, false, List, [], ◌∷◌, refl, sym, ap, ◌∙◌, arith, inl, inr}
 use Rattle.std.proofs.lemmas.Bool.{and_parts, both_ways, cases_Bool, false_from_ne_true, false≢true, ltb-true, or_from}
-use Rattle.address_map.proofs.Bytes.{is_mapped-layout}
-use Rattle.address_map.specs.Bytes.{Bytes, in_range, word_start}
-use Rattle.address_map.specs.Classes.{is_anchor, is_flex_header, is_heap_class}
-use Rattle.address_map.specs.Items.{is_head, is_heap_word, size_of}
-use Rattle.address_map.specs.Memory.{byte_at, bytes_of, class_of, is_mapped, layout, regions}
-use Rattle.address_map.specs.declared.map.AddressMap.{AddressMap}
-use Rattle.address_map.specs.declared.region.Region.{Region}
+use Rattle.os_heap_words.proofs.Bytes.{is_mapped-layout}
+use Rattle.os_heap_words.specs.Bytes.{Bytes, in_range, word_start}
+use Rattle.os_heap_words.specs.Classes.{is_anchor, is_flex_header, is_heap_class}
+use Rattle.os_heap_words.specs.Items.{is_head, is_heap_word, size_of}
+use Rattle.os_heap_words.specs.Memory.{byte_at, bytes_of, class_of, is_mapped, layout, regions}
+use Rattle.os_heap_words.specs.AddressMap.{AddressMap}
+use Rattle.os_heap_words.specs.Region.{Region}
 use Rattle.os_heap.proofs.Anchored.{IsPlacedBy, not_flex}
 use Rattle.os_heap.proofs.Frame.{clear_unowned, heaps_in-spelled, layout-regions, parts_kept}
 use Rattle.os_heap.proofs.Stores.{image_kind, placed_either}

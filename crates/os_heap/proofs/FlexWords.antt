@@ -1,12 +1,12 @@
 -- The words of the flex store, its headers and anchors, over calls on heaps: they stay what they are.
 use Rattle.std.proofs.Common.{Bool, List, ℕ, ◌≡◌, true, false, refl, sym, ap, ◌∙◌, cond}
 use Rattle.std.proofs.lemmas.Bool.{false≢true}
-use Rattle.address_map.specs.Bytes.{in_range, word_start}
-use Rattle.address_map.specs.Classes.{is_flex_header, is_anchor}
-use Rattle.address_map.specs.Items.{is_head}
-use Rattle.address_map.specs.declared.class.Class.{Class}
-use Rattle.address_map.specs.declared.class.Class.TheVariants as class
-use Rattle.address_map.specs.declared.item.Item.{Item}
+use Rattle.os_heap_words.specs.Bytes.{in_range, word_start}
+use Rattle.os_heap_words.specs.Classes.{is_flex_header, is_anchor}
+use Rattle.os_heap_words.specs.Items.{is_head}
+use Rattle.os_heap_words.specs.Class.{Class}
+use Rattle.os_heap_words.specs.Class.TheVariants as class
+use Rattle.os_heap_words.specs.Item.{Item}
 use Rattle.os_heap_words.specs.lists.Marks.{class_after_marking, Remarks, AreMarked}
 
 -- a word that is no one of the flex store's

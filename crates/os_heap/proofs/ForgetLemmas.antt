@@ -1,19 +1,19 @@
 -- What is left of memory when heaps are forgotten: the records without them, and the marks without those of their words.
 use Rattle.std.proofs.Common.{Bool, List, ℕ, [], ◌∷◌, ◌≡◌, ◌≤◌, ◌+◌, ◌-◌, ◌%◌, ◌^◌, ◌==◌, ◌∙◌, Some, None, false, is_some, refl, sym, ap, subst, inl, inr, arith}
 use Rattle.std.proofs.lemmas.Bool.{cases_Bool}
-use Rattle.address_map.proofs.Stores.{layout-mapping}
-use Rattle.address_map.specs.Bytes.{AreMapped, Bytes, in_range, word_at}
-use Rattle.address_map.specs.Classes.{is_anchor, is_flex_header, is_heap_class}
-use Rattle.address_map.specs.Items.{items_in, size_of}
-use Rattle.address_map.specs.Memory.{byte_at, bytes_of, class_of, is_mapped, mapping, regions}
-use Rattle.address_map.specs.Records as record_of
-use Rattle.address_map.specs.Records.{is_guest_heap, is_heap_kind}
-use Rattle.address_map.specs.declared.class.Class.{Class}
-use Rattle.address_map.specs.declared.class.Class.TheVariants as class
-use Rattle.address_map.specs.declared.item.Item.{Item}
-use Rattle.address_map.specs.declared.item.Item.TheVariants.{Free, Live}
-use Rattle.address_map.specs.declared.map.AddressMap.{AddressMap}
-use Rattle.address_map.specs.declared.region.Region.{Region}
+use Rattle.os_heap_words.proofs.Stores.{layout-mapping}
+use Rattle.os_heap_words.specs.Bytes.{AreMapped, Bytes, in_range, word_at}
+use Rattle.os_heap_words.specs.Classes.{is_anchor, is_flex_header, is_heap_class}
+use Rattle.os_heap_words.specs.Items.{items_in, size_of}
+use Rattle.os_heap_words.specs.Memory.{byte_at, bytes_of, class_of, is_mapped, mapping, regions}
+use Rattle.os_heap_words.specs.Records as record_of
+use Rattle.os_heap_words.specs.Records.{is_guest_heap, is_heap_kind}
+use Rattle.os_heap_words.specs.Class.{Class}
+use Rattle.os_heap_words.specs.Class.TheVariants as class
+use Rattle.os_heap_words.specs.Item.{Item}
+use Rattle.os_heap_words.specs.Item.TheVariants.{Free, Live}
+use Rattle.os_heap_words.specs.AddressMap.{AddressMap}
+use Rattle.os_heap_words.specs.Region.{Region}
 use Rattle.os_heap_words.proofs.ListsLemmas.LiveBlocks.{LiveBytes, law_live_bytes}
 use Rattle.os_heap_words.proofs.ListsLemmas.Reading.{total_facts}
 use Rattle.os_heap_words.specs.lists.Heap.{AreTotals, HeapList, IsHeapIn}

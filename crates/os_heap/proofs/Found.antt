@@ -3,12 +3,12 @@ use Rattle.std.proofs.Common.{true, false, ap, sym, ◌∙◌, ℕ, ◌==◌, �
 use Rattle.std.proofs.lemmas.Bool.{eqb-true, cases_Bool, or_parts}
 use Rattle.std.specs.List.{list_any}
 use Rattle.os_heap_words.specs.ErrorNumber.TheVariants.{HeapBadDesc}
-use Rattle.address_map.specs.Bytes.{Bytes}
-use Rattle.address_map.specs.Items.{size_of}
-use Rattle.address_map.specs.Records.{is_heap_kind}
-use Rattle.address_map.specs.Memory.{regions, bytes_of}
-use Rattle.address_map.specs.declared.map.AddressMap.{AddressMap}
-use Rattle.address_map.specs.declared.region.Region.{Region}
+use Rattle.os_heap_words.specs.Bytes.{Bytes}
+use Rattle.os_heap_words.specs.Items.{size_of}
+use Rattle.os_heap_words.specs.Records.{is_heap_kind}
+use Rattle.os_heap_words.specs.Memory.{regions, bytes_of}
+use Rattle.os_heap_words.specs.AddressMap.{AddressMap}
+use Rattle.os_heap_words.specs.Region.{Region}
 use Rattle.os_heap_words.specs.lists.Counts.{larger, largest_free, free_total, round_down_8, free_count}
 use Rattle.os_heap_words.specs.lists.Heap.{HeapList, IsHeapIn}
 use Rattle.os_heap_words.specs.Outcomes.{IsHeapAt, items_at}

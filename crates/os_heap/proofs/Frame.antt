@@ -2,15 +2,15 @@
 use Rattle.std.proofs.Common.{Bool, ◌∙◌, ◌≡◌, [], List, ℕ, true, ◌∷◌, inl, refl, inr, ap, subst, sym, false, arith, ◌+◌, ◌%◌, ◌<◌, ◌||◌}
 use Rattle.std.proofs.lemmas.Bool.{or_left, or_right, cases_Bool, both_ways, or_from, false_from_ne_true}
 use Rattle.std.specs.List.{list_any}
-use Rattle.address_map.proofs.Bytes.{is_mapped-layout}
-use Rattle.address_map.specs.Bytes.{Bytes, word_start, word_at, in_range}
-use Rattle.address_map.specs.Classes.{is_heap_class}
-use Rattle.address_map.specs.Items.{is_heap_word, items_in}
-use Rattle.address_map.specs.Memory.{bytes_of, regions, layout, byte_at, class_of}
-use Rattle.address_map.specs.Records.{is_heap_kind}
-use Rattle.address_map.specs.declared.class.Class.TheVariants as class
-use Rattle.address_map.specs.declared.map.AddressMap.{AddressMap}
-use Rattle.address_map.specs.declared.region.Region.{Region}
+use Rattle.os_heap_words.proofs.Bytes.{is_mapped-layout}
+use Rattle.os_heap_words.specs.Bytes.{Bytes, word_start, word_at, in_range}
+use Rattle.os_heap_words.specs.Classes.{is_heap_class}
+use Rattle.os_heap_words.specs.Items.{is_heap_word, items_in}
+use Rattle.os_heap_words.specs.Memory.{bytes_of, regions, layout, byte_at, class_of}
+use Rattle.os_heap_words.specs.Records.{is_heap_kind}
+use Rattle.os_heap_words.specs.Class.TheVariants as class
+use Rattle.os_heap_words.specs.AddressMap.{AddressMap}
+use Rattle.os_heap_words.specs.Region.{Region}
 use Rattle.os_heap.proofs.FlexWords.{AreSameFlex, same_flex}
 use Rattle.os_heap_words.proofs.ListsLemmas.HeadWords.{law_heap_frame, are_owned, byte_inside}
 use Rattle.os_heap_words.proofs.ListsLemmas.Reading.{items_in-heap}

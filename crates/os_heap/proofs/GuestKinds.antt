@@ -1,9 +1,9 @@
 -- Which of the recorded ranges are heaps that guests have made.
 use Rattle.std.proofs.Common.{◌≡◌, not, true, false, refl, sym}
 use Rattle.std.proofs.lemmas.Bool.{false≢true}
-use Rattle.address_map.specs.Records.{is_guest_heap, is_heap_kind}
-use Rattle.address_map.specs.declared.region.Kind.{Kind}
-use Rattle.address_map.specs.declared.region.Kind.TheVariants as kind
+use Rattle.os_heap_words.specs.Records.{is_guest_heap, is_heap_kind}
+use Rattle.os_heap_words.specs.Kind.{Kind}
+use Rattle.os_heap_words.specs.Kind.TheVariants as kind
 use Rattle.os_heap.specs.Nesting.{is_module_area}
 
 pub guest_kind : (k : Kind) → is_heap_kind k ≡ true → is_guest_heap k ≡ not (is_module_area k)

@@ -1,12 +1,12 @@
 -- The class of each word by the lists of all heaps: after one of them got another list or another end, and after a heap more was made.
 use Rattle.std.proofs.Common.{Bool, List, ℕ, [], ◌∷◌, ◌++◌, ◌≡◌, ◌==◌, ◌||◌, ◌+◌, ◌≤◌, true, false, refl, sym, ap, subst, ◌∙◌, inl, inr, Some, None, cond}
 use Rattle.std.proofs.lemmas.Bool.{cases_Bool, or_left, or_right, or_from, and_right, eqb-true, eq-eqb, ne_eqb, le-ltb, false≢true}
-use Rattle.address_map.specs.Bytes.{Bytes, in_range, word_start}
-use Rattle.address_map.specs.Classes.{is_heap_class}
-use Rattle.address_map.specs.Items.{is_head, is_heap_word, size_of}
-use Rattle.address_map.specs.declared.class.Class.{Class}
-use Rattle.address_map.specs.declared.class.Class.TheVariants as class
-use Rattle.address_map.specs.declared.item.Item.{Item}
+use Rattle.os_heap_words.specs.Bytes.{Bytes, in_range, word_start}
+use Rattle.os_heap_words.specs.Classes.{is_heap_class}
+use Rattle.os_heap_words.specs.Items.{is_head, is_heap_word, size_of}
+use Rattle.os_heap_words.specs.Class.{Class}
+use Rattle.os_heap_words.specs.Class.TheVariants as class
+use Rattle.os_heap_words.specs.Item.{Item}
 use Rattle.os_heap_words.proofs.ListsLemmas.HeadWords.{head_inside}
 use Rattle.os_heap_words.specs.lists.Heap.{HeapList, IsHeapIn}
 use Rattle.os_heap_words.specs.lists.Marks.{class_after_marking, Remarks, AreMarked, spells_any}

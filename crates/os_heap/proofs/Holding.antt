@@ -1,10 +1,10 @@
 -- A live block that holds all of a range, and the walk that finds it.
 use Rattle.std.proofs.Common.{List, ℕ, [], ◌∷◌, ◌≡◌, ◌≢◌, ◌+◌, ◌-◌, ◌≤◌, ◌<◌, ◌==◌, ◌&&◌, ◌||◌, ◌∙◌, Bool, Some, None, true, false, cond, is_some, leb, ltb, refl, ap, inl, inr, arith}
 use Rattle.std.proofs.lemmas.Bool.{false≢true, both_ways, cases_Bool, and_parts, or_right, false_from_ne_true, le-leb, lt-ltb, leb-true, ltb-true, eqb-true, eq-eqb}
-use Rattle.address_map.specs.Bytes.{in_range}
-use Rattle.address_map.specs.Items.{size_of, total_of}
-use Rattle.address_map.specs.declared.item.Item.{Item}
-use Rattle.address_map.specs.declared.item.Item.TheVariants.{Live, Free}
+use Rattle.os_heap_words.specs.Bytes.{in_range}
+use Rattle.os_heap_words.specs.Items.{size_of, total_of}
+use Rattle.os_heap_words.specs.Item.{Item}
+use Rattle.os_heap_words.specs.Item.TheVariants.{Live, Free}
 use Rattle.os_heap_words.proofs.ListsLemmas.LinkWalk.{live_low, live_next}
 use Rattle.os_heap_words.proofs.ListsLemmas.Reading.{total_facts}
 use Rattle.os_heap_words.specs.lists.Heap.{AreTotals}

@@ -1,9 +1,9 @@
 -- No heap lies in the block of a module image, and a block of the module area in which none lies may become one.
 use Rattle.std.proofs.Common.{List, ℕ, [], ◌∷◌, ◌⊎◌, ◌≡◌, ◌≤◌, ◌<◌, ◌+◌, ◌-◌, ◌∙◌, Some, true, false, refl, sym, subst, inl, inr, arith}
 use Rattle.std.proofs.lemmas.Bool.{both_ways, cases_eq, false_from_ne_true, le-leb, lt-ltb, or_from, or_parts}
-use Rattle.address_map.specs.Bytes.{Bytes, in_range}
-use Rattle.address_map.specs.Items.{size_of}
-use Rattle.address_map.specs.declared.region.Region.{Region}
+use Rattle.os_heap_words.specs.Bytes.{Bytes, in_range}
+use Rattle.os_heap_words.specs.Items.{size_of}
+use Rattle.os_heap_words.specs.Region.{Region}
 use Rattle.os_heap_words.proofs.ListsLemmas.LiveBlocks.{LiveBytes, live_apart, law_live_bytes}
 use Rattle.os_heap_words.specs.lists.Heap.{HeapList, IsHeapIn}
 use Rattle.os_heap_words.specs.lists.Lists.{live_total}

@@ -2,11 +2,11 @@
 use Rattle.std.proofs.Common.{List, ℕ, [], ◌∷◌, ◌≡◌, ◌≢◌, ◌+◌, ◌-◌, ◌≤◌, ◌<◌, ◌⊎◌, ◌==◌, ◌&&◌, ◌||◌, ◌∙◌, Bool, Option, Some, None, option_map, not, true, false, leb, ltb, refl, sym, ap, subst, inl, inr, arith}
 use Rattle.std.proofs.lemmas.Bool.{false≢true, both_ways, cases_Bool, cases_lt, and_parts, or_parts, le-leb, lt-ltb, le-ltb, leb-true, ltb-true, eqb-true}
 use Rattle.std.specs.List.{list_any}
-use Rattle.address_map.specs.Bytes.{Bytes, in_range, shares_address}
-use Rattle.address_map.specs.Records.{is_heap_kind}
-use Rattle.address_map.specs.declared.item.Item.{Item}
-use Rattle.address_map.specs.declared.item.Item.TheVariants.{Live, Free}
-use Rattle.address_map.specs.declared.region.Region.{Region}
+use Rattle.os_heap_words.specs.Bytes.{Bytes, in_range, shares_address}
+use Rattle.os_heap_words.specs.Records.{is_heap_kind}
+use Rattle.os_heap_words.specs.Item.{Item}
+use Rattle.os_heap_words.specs.Item.TheVariants.{Live, Free}
+use Rattle.os_heap_words.specs.Region.{Region}
 use Rattle.os_heap_words.specs.lists.Heap.{HeapList, IsHeapIn}
 use Rattle.os_heap_words.specs.lists.Lists.{live_total}
 use Rattle.os_heap.proofs.RangeTests.{or_none}

@@ -5,11 +5,11 @@ use Rattle.std.specs.Prelude.{nat_le, nat_lt}
 use Rattle.os_heap_words.specs.Outcome.{bind}
 use Rattle.os_heap_words.specs.ErrorNumber.{ErrorNumber}
 use Rattle.os_heap_words.specs.ErrorNumber.TheVariants.{BlockHoldsHeap, HeapHoldsAnchor, HeapBadDesc, HeapBadRegion, HeapOverlaps, HeapTableFull, HeapNotABlock, HeapNoRoom, HeapBadShrink}
-use Rattle.address_map.specs.Records.{anchor_among}
-use Rattle.address_map.specs.Bytes.{Bytes, in_range, shares_address, word_start}
-use Rattle.address_map.specs.Items.{is_heap_word, is_total, size_of}
-use Rattle.address_map.specs.declared.item.Item.{Item}
-use Rattle.address_map.specs.declared.region.Kind.TheVariants as kind
+use Rattle.os_heap_words.specs.Records.{anchor_among}
+use Rattle.os_heap_words.specs.Bytes.{Bytes, in_range, shares_address, word_start}
+use Rattle.os_heap_words.specs.Items.{is_heap_word, is_total, size_of}
+use Rattle.os_heap_words.specs.Item.{Item}
+use Rattle.os_heap_words.specs.Kind.TheVariants as kind
 use Rattle.os_heap_words.proofs.ListsLemmas.LiveBlocks.{LiveBytes, law_live_bytes, live_apart}
 use Rattle.os_heap_words.proofs.ListsLemmas.Payloads.{heap_beside, payload_unspelled, spelled_inside}
 use Rattle.os_heap_words.proofs.ListsLemmas.Spelling.{total_of-numbers}

@@ -1,5 +1,32 @@
+pub use Rattle.os_heap_words.proofs.Anchors
+pub use Rattle.os_heap_words.proofs.Bytes
+pub use Rattle.os_heap_words.proofs.Claiming
+pub use Rattle.os_heap_words.proofs.Counting
+pub use Rattle.os_heap_words.proofs.Equations
+pub use Rattle.os_heap_words.proofs.InRange
+pub use Rattle.os_heap_words.proofs.ListsLemmas.ClaimedLists
+pub use Rattle.os_heap_words.proofs.ListsLemmas.HeadWords
 pub use Rattle.os_heap_words.proofs.ListsLemmas.HeapWords
+pub use Rattle.os_heap_words.proofs.ListsLemmas.ItemWalk
+pub use Rattle.os_heap_words.proofs.ListsLemmas.LastLink
+pub use Rattle.os_heap_words.proofs.ListsLemmas.LinkWalk
 pub use Rattle.os_heap_words.proofs.ListsLemmas.LiveBlocks
+pub use Rattle.os_heap_words.proofs.ListsLemmas.Marks
+pub use Rattle.os_heap_words.proofs.ListsLemmas.Payloads
+pub use Rattle.os_heap_words.proofs.ListsLemmas.Reading
+pub use Rattle.os_heap_words.proofs.ListsLemmas.ReleaseOfClaim
+pub use Rattle.os_heap_words.proofs.ListsLemmas.Resizes
+pub use Rattle.os_heap_words.proofs.ListsLemmas.Spelling
+pub use Rattle.os_heap_words.proofs.ListsLemmas.Words
+pub use Rattle.os_heap_words.proofs.Marking
+pub use Rattle.os_heap_words.proofs.Moving as AddressMapMoving
+pub use Rattle.os_heap_words.proofs.Replace
+pub use Rattle.os_heap_words.proofs.Searching
+pub use Rattle.os_heap_words.proofs.Spans
+pub use Rattle.os_heap_words.proofs.Stores as AddressMapStores
+pub use Rattle.os_heap_words.proofs.Viewing
+pub use Rattle.os_heap_words.proofs.Walking
+pub use Rattle.os_heap_words.proofs.Writing
 pub mod Added
 pub mod Anchored
 pub mod Apart

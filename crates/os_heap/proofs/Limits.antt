@@ -2,16 +2,16 @@
 use Rattle.os_heap_words.specs.MemoryMap.{module_area_start}
 use Rattle.std.proofs.Common.{ap, arith, inl, ◌+◌, ◌≡◌, ℕ, true, inr, refl, false, [], List, ◌∷◌, ◌++◌, ◌≤◌, ◌<◌, length}
 use Rattle.std.proofs.lemmas.Bool.{cases_Bool, false≢true, leb-false}
-use Rattle.address_map.specs.Bytes.{Bytes}
-use Rattle.address_map.specs.Memory.{bytes_of, regions}
-use Rattle.address_map.specs.Records.{is_heap_kind}
-use Rattle.address_map.specs.declared.map.AddressMap.{AddressMap}
-use Rattle.address_map.specs.declared.region.Kind.{Kind}
-use Rattle.address_map.specs.declared.region.Region.{Region}
+use Rattle.os_heap_words.specs.Bytes.{Bytes}
+use Rattle.os_heap_words.specs.Memory.{bytes_of, regions}
+use Rattle.os_heap_words.specs.Records.{is_heap_kind}
+use Rattle.os_heap_words.specs.AddressMap.{AddressMap}
+use Rattle.os_heap_words.specs.Kind.{Kind}
+use Rattle.os_heap_words.specs.Region.{Region}
 use Rattle.os_heap_words.specs.lists.Heap.{HeapList}
 use Rattle.os_heap.specs.Ranges.{IsWithinHeapLimit}
 use Rattle.os_heap.specs.Store.{Store, IsSound, heaps_in, others_in, store_of, is_module_area, guest_count, area_count, StandAreas, AreInLimits}
-use Rattle.address_map.specs.declared.region.Kind.TheVariants as kind
+use Rattle.os_heap_words.specs.Kind.TheVariants as kind
 
 -- a heap without items
 abbrev pub empty : Kind → ℕ → ℕ → HeapList

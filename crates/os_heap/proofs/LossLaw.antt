@@ -1,8 +1,8 @@
 -- Which heaps are forgotten with bytes of a block: those that have one of these, and those that start in such a heap.
 use Rattle.std.proofs.Common.{ℕ, ◌≡◌, ◌≤◌, ◌<◌, ◌+◌, ◌-◌, ◌↔◌, ◌∙◌, Some, None, true, false, refl, sym, ap, inl, inr, arith}
 use Rattle.std.proofs.lemmas.Bool.{both_ways, cases_Bool, cases_lt, le-leb, lt-ltb}
-use Rattle.address_map.specs.Bytes.{Bytes, in_range}
-use Rattle.address_map.specs.Items.{size_of}
+use Rattle.os_heap_words.specs.Bytes.{Bytes, in_range}
+use Rattle.os_heap_words.specs.Items.{size_of}
 use Rattle.os_heap_words.proofs.ListsLemmas.LiveBlocks.{LiveBytes, law_live_bytes}
 use Rattle.os_heap_words.specs.lists.Heap.{HeapList, IsHeapIn}
 use Rattle.os_heap_words.specs.lists.Lists.{live_total}

@@ -2,9 +2,9 @@
 use Rattle.std.proofs.Common.{Bool, List, ℕ, [], ◌∷◌, ◌≡◌, ◌≢◌, ◌≤◌, ◌<◌, ◌+◌, ◌-◌, ◌||◌, ◌∙◌, Some, true, false, refl, sym, ap, subst, inl, inr, arith}
 use Rattle.std.proofs.lemmas.Bool.{both_ways, cases_Bool, cases_eq, cases_lt, false_from_ne_true, le-leb, lt-ltb, or_from, or_parts}
 use Rattle.std.specs.List.{list_any}
-use Rattle.address_map.specs.Bytes.{Bytes, in_range, word_start}
-use Rattle.address_map.specs.Items.{is_heap_word, size_of}
-use Rattle.address_map.specs.declared.item.Item.{Item}
+use Rattle.os_heap_words.specs.Bytes.{Bytes, in_range, word_start}
+use Rattle.os_heap_words.specs.Items.{is_heap_word, size_of}
+use Rattle.os_heap_words.specs.Item.{Item}
 use Rattle.os_heap_words.proofs.ListsLemmas.HeadWords.{byte_inside}
 use Rattle.os_heap_words.proofs.ListsLemmas.LiveBlocks.{LiveBytes, law_live_bytes}
 use Rattle.os_heap_words.proofs.ListsLemmas.Payloads.{payload_unspelled}

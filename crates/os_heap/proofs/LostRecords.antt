@@ -3,13 +3,13 @@ use Rattle.std.proofs.Common.{Bool, List, ℕ, [], ◌∷◌, ◌≡◌, ◌==�
 use Rattle.std.proofs.lemmas.Bool.{cases_Bool}
 use Rattle.std.proofs.lemmas.List.Elements.{filter_agree}
 use Rattle.std.specs.List.{filter}
-use Rattle.address_map.specs.Bytes.{Bytes}
-use Rattle.address_map.specs.Memory.{bytes_of, layout, regions}
-use Rattle.address_map.specs.Records as record_of
-use Rattle.address_map.specs.Records.{is_guest_heap, is_heap_kind}
-use Rattle.address_map.specs.declared.item.Item.{Item}
-use Rattle.address_map.specs.declared.map.AddressMap.{AddressMap}
-use Rattle.address_map.specs.declared.region.Region.{Region}
+use Rattle.os_heap_words.specs.Bytes.{Bytes}
+use Rattle.os_heap_words.specs.Memory.{bytes_of, layout, regions}
+use Rattle.os_heap_words.specs.Records as record_of
+use Rattle.os_heap_words.specs.Records.{is_guest_heap, is_heap_kind}
+use Rattle.os_heap_words.specs.Item.{Item}
+use Rattle.os_heap_words.specs.AddressMap.{AddressMap}
+use Rattle.os_heap_words.specs.Region.{Region}
 use Rattle.os_heap_words.specs.lists.Heap.{HeapList}
 use Rattle.os_heap.proofs.Forgetting.{AreFound, are_found, find_gone, find_left}
 use Rattle.os_heap.proofs.Frame.{layout-regions}

@@ -4,8 +4,8 @@ use Rattle.std.specs.Result.{result_and}
 use Rattle.os_heap_words.specs.Outcome.{Gives}
 use Rattle.os_heap_words.specs.ErrorNumber.{ErrorNumber}
 use Rattle.os_heap_words.specs.ErrorNumber.TheVariants.{BlockHoldsHeap, HeapNoRoom}
-use Rattle.address_map.specs.declared.item.Item.{Item}
-use Rattle.address_map.specs.declared.map.AddressMap.{AddressMap}
+use Rattle.os_heap_words.specs.Item.{Item}
+use Rattle.os_heap_words.specs.AddressMap.{AddressMap}
 use Rattle.os_heap_words.specs.lists.Counts.{looked_at}
 use Rattle.os_heap_words.specs.lists.Heap.{HeapList}
 use Rattle.os_heap_words.specs.lists.Lists.{Claim, claim_in_items}

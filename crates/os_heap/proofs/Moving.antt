@@ -5,14 +5,14 @@ use Rattle.std.specs.List.{filter}
 use Rattle.os_heap_words.specs.Outcome.{bind, Gives}
 use Rattle.os_heap_words.specs.ErrorNumber.{ErrorNumber}
 use Rattle.os_heap_words.specs.ErrorNumber.TheVariants.{HeapNoRoom}
-use Rattle.address_map.proofs.Equations.{stored_moved}
-use Rattle.address_map.proofs.Stores.{in_range-cases, layout-mapping}
-use Rattle.address_map.specs.Bytes.{AreMapped, Bytes, word_start, in_range, with_moved_at}
-use Rattle.address_map.specs.Items.{size_of, is_heap_word}
-use Rattle.address_map.specs.Memory.{anchor_of, bytes_of, layout, is_mapped, byte_at, regions, class_of}
-use Rattle.address_map.specs.declared.item.Item.{Item}
-use Rattle.address_map.specs.declared.map.AddressMap.{AddressMap}
-use Rattle.address_map.specs.declared.region.Kind.{Kind}
+use Rattle.os_heap_words.proofs.Equations.{stored_moved}
+use Rattle.os_heap_words.proofs.Stores.{in_range-cases, layout-mapping}
+use Rattle.os_heap_words.specs.Bytes.{AreMapped, Bytes, word_start, in_range, with_moved_at}
+use Rattle.os_heap_words.specs.Items.{size_of, is_heap_word}
+use Rattle.os_heap_words.specs.Memory.{anchor_of, bytes_of, layout, is_mapped, byte_at, regions, class_of}
+use Rattle.os_heap_words.specs.Item.{Item}
+use Rattle.os_heap_words.specs.AddressMap.{AddressMap}
+use Rattle.os_heap_words.specs.Kind.{Kind}
 use Rattle.os_heap_words.proofs.ListsLemmas.HeadWords.{byte_inside, are_owned}
 use Rattle.os_heap_words.proofs.ListsLemmas.LinkWalk.{below_few}
 use Rattle.os_heap_words.proofs.ListsLemmas.ClaimedLists.{IsUnheld, claim_unheld}

@@ -1,9 +1,9 @@
 -- Heaps that share no byte, or of which one lies in a live block of the other: a word that one of them spells is none of the other's words.
 use Rattle.std.proofs.Common.{List, ℕ, [], ◌∷◌, ◌++◌, ◌≡◌, ◌≢◌, ◌+◌, ◌≤◌, Some, true, false, refl, inl, inr, arith}
 use Rattle.std.proofs.lemmas.Bool.{both_ways, false_from_ne_true, le-leb, lt-ltb, leb-true, ltb-true, and_parts}
-use Rattle.address_map.specs.Bytes.{Bytes, in_range, word_start}
-use Rattle.address_map.specs.Items.{is_heap_word, size_of}
-use Rattle.address_map.specs.declared.item.Item.{Item}
+use Rattle.os_heap_words.specs.Bytes.{Bytes, in_range, word_start}
+use Rattle.os_heap_words.specs.Items.{is_heap_word, size_of}
+use Rattle.os_heap_words.specs.Item.{Item}
 use Rattle.os_heap_words.proofs.ListsLemmas.HeadWords.{byte_inside}
 use Rattle.os_heap_words.proofs.ListsLemmas.LiveBlocks.{LiveBytes, law_live_bytes}
 use Rattle.os_heap_words.proofs.ListsLemmas.Payloads.{payload_unspelled}

@@ -2,11 +2,11 @@
 use Rattle.std.proofs.Common.{List, ℕ, [], ◌∷◌, ◌≡◌, ◌+◌, ◌<◌, ◌&&◌, ◌||◌, ◌∙◌, Bool, Option, cond, not, true, false, leb, ltb, refl, sym, ap, inl, inr, arith}
 use Rattle.std.proofs.lemmas.Bool.{both_ways, cases_Bool, and_parts, or_left, or_right, or_parts, false_from_ne_true, le-leb, lt-ltb, ltb-true, ltb-false}
 use Rattle.std.specs.List.{list_any}
-use Rattle.address_map.specs.Bytes.{Bytes, in_range, shares_address}
-use Rattle.address_map.specs.Memory.{anchor_of, bytes_of, regions}
-use Rattle.address_map.specs.Records.{anchor_among, is_heap_kind}
-use Rattle.address_map.specs.declared.map.AddressMap.{AddressMap}
-use Rattle.address_map.specs.declared.region.Region.{Region}
+use Rattle.os_heap_words.specs.Bytes.{Bytes, in_range, shares_address}
+use Rattle.os_heap_words.specs.Memory.{anchor_of, bytes_of, regions}
+use Rattle.os_heap_words.specs.Records.{anchor_among, is_heap_kind}
+use Rattle.os_heap_words.specs.AddressMap.{AddressMap}
+use Rattle.os_heap_words.specs.Region.{Region}
 use Rattle.os_heap_words.specs.lists.Heap.{HeapList, IsHeapIn}
 use Rattle.os_heap.proofs.RangeTests.{or_middle, or_next, or_none}
 use Rattle.os_heap.proofs.Holding.{range_bounds}

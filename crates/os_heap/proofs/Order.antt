@@ -2,12 +2,12 @@
 use Rattle.std.proofs.Common.{◌≡◌, ◌∙◌, ℕ, true, false, List, [], ◌∷◌, ◌++◌, ap, refl, inl, inr, map}
 use Rattle.std.proofs.lemmas.Bool.{cases_Bool}
 use Rattle.std.specs.List.{filter}
-use Rattle.address_map.specs.Bytes.{Bytes}
-use Rattle.address_map.specs.Memory.{bytes_of, layout, regions}
-use Rattle.address_map.specs.Records.{is_heap_kind, is_record, with_len}
-use Rattle.address_map.specs.declared.map.AddressMap.{AddressMap}
-use Rattle.address_map.specs.declared.region.Kind.{Kind}
-use Rattle.address_map.specs.declared.region.Region.{Region}
+use Rattle.os_heap_words.specs.Bytes.{Bytes}
+use Rattle.os_heap_words.specs.Memory.{bytes_of, layout, regions}
+use Rattle.os_heap_words.specs.Records.{is_heap_kind, is_record, with_len}
+use Rattle.os_heap_words.specs.AddressMap.{AddressMap}
+use Rattle.os_heap_words.specs.Kind.{Kind}
+use Rattle.os_heap_words.specs.Region.{Region}
 use Rattle.os_heap_words.specs.lists.Heap.{HeapList}
 use Rattle.os_heap.proofs.Frame.{layout-regions}
 use Rattle.os_heap.specs.Laws.{RecordsAreShown}

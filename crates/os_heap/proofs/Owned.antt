@@ -1,12 +1,12 @@
 -- The bytes that guests must leave alone are those of the words that the heaps spell, and of the flex store's.
 use Rattle.std.proofs.Common.{Bool, ◌≡◌, refl, ◌∙◌, ℕ, not, ◌||◌, ap, arith}
-use Rattle.address_map.specs.Bytes.{word_start}
-use Rattle.address_map.specs.Classes.{is_heap_class, is_flex_header, is_anchor}
-use Rattle.address_map.specs.Memory.{is_plain, class_of, is_owned}
-use Rattle.address_map.specs.declared.class.Class.{Class}
-use Rattle.address_map.specs.declared.class.Class.TheVariants as class
-use Rattle.address_map.specs.declared.map.AddressMap.{AddressMap}
-use Rattle.address_map.proofs.Words.{class_of-word}
+use Rattle.os_heap_words.specs.Bytes.{word_start}
+use Rattle.os_heap_words.specs.Classes.{is_heap_class, is_flex_header, is_anchor}
+use Rattle.os_heap_words.specs.Memory.{is_plain, class_of, is_owned}
+use Rattle.os_heap_words.specs.Class.{Class}
+use Rattle.os_heap_words.specs.Class.TheVariants as class
+use Rattle.os_heap_words.specs.AddressMap.{AddressMap}
+use Rattle.os_heap_words.proofs.AddressMapWords.{class_of-word}
 use Rattle.os_heap_words.specs.lists.Marks.{spells_any}
 use Rattle.os_heap.specs.Store.{AreClasses, owned_in, store_of}
 

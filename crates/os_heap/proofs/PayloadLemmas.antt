@@ -1,12 +1,12 @@
 -- Where a byte lies among the heaps, heap by heap; and that an aligned word which lies in no heap, or in what live blocks hold, may be an anchor.
 use Rattle.std.proofs.Common.{◌≡◌, ℕ, ◌+◌, ◌-◌, ◌≤◌, ◌<◌, ◌%◌, ◌&&◌, true, false, List, [], ◌∷◌, ◌≢◌, is_some, refl, sym, ap, ◌∙◌, arith, inl, inr}
 use Rattle.std.proofs.lemmas.Bool.{cases_Bool, true≢false, and_parts, le-leb, lt-ltb, leb-true, ltb-true, eq-eqb}
-use Rattle.address_map.specs.Bytes.{Bytes, in_range, word_start}
-use Rattle.address_map.specs.Items.{total_of}
-use Rattle.address_map.specs.Records.{is_heap_kind}
-use Rattle.address_map.specs.declared.item.Item.{Item}
-use Rattle.address_map.specs.declared.item.Item.TheVariants.{Live, Free}
-use Rattle.address_map.specs.declared.region.Region.{Region}
+use Rattle.os_heap_words.specs.Bytes.{Bytes, in_range, word_start}
+use Rattle.os_heap_words.specs.Items.{total_of}
+use Rattle.os_heap_words.specs.Records.{is_heap_kind}
+use Rattle.os_heap_words.specs.Item.{Item}
+use Rattle.os_heap_words.specs.Item.TheVariants.{Live, Free}
+use Rattle.os_heap_words.specs.Region.{Region}
 use Rattle.os_heap_words.specs.lists.Heap.{AreTotals, HeapList, IsHeapIn}
 use Rattle.os_heap_words.proofs.ListsLemmas.LinkWalk.{live_low, live_next}
 use Rattle.os_heap_words.proofs.ListsLemmas.Reading.{total_facts}

@@ -3,9 +3,9 @@ use Rattle.std.proofs.Common.{if◌then◌else◌, Bool, List, ℕ, ◌≡◌, �
 use Rattle.std.proofs.lemmas.Bool.{both_ways, false_from_ne_true}
 use Rattle.os_heap_words.specs.Outcome.{bind}
 use Rattle.os_heap_words.specs.ErrorNumber.{ErrorNumber}
-use Rattle.address_map.specs.Bytes.{Bytes, in_range, word_start}
-use Rattle.address_map.specs.Items.{is_heap_word, size_of}
-use Rattle.address_map.specs.declared.item.Item.{Item}
+use Rattle.os_heap_words.specs.Bytes.{Bytes, in_range, word_start}
+use Rattle.os_heap_words.specs.Items.{is_heap_word, size_of}
+use Rattle.os_heap_words.specs.Item.{Item}
 use Rattle.os_heap_words.proofs.ListsLemmas.Payloads.{heap_beside, payload_unspelled, spelled_inside}
 use Rattle.os_heap_words.specs.lists.Heap.{AreTotals, HeapList, IsHeapIn}
 use Rattle.os_heap_words.specs.lists.Lists.{live_total}

@@ -1,10 +1,10 @@
 -- Writes to what a live block holds change no list, where no heap lies in the block.
 use Rattle.std.proofs.Common.{List, ℕ, [], ◌∷◌, ◌≡◌, ◌+◌, ◌-◌, ◌≤◌, ◌<◌, true, false, Some, inl, inr, refl, sym, subst, arith}
 use Rattle.std.proofs.lemmas.Bool.{both_ways, false_from_ne_true, le-leb, lt-ltb, or_from, or_parts}
-use Rattle.address_map.specs.Bytes.{Bytes, in_range, word_start}
-use Rattle.address_map.specs.Items.{is_heap_word, size_of}
-use Rattle.address_map.specs.Memory.{byte_at, class_of, layout}
-use Rattle.address_map.specs.declared.map.AddressMap.{AddressMap}
+use Rattle.os_heap_words.specs.Bytes.{Bytes, in_range, word_start}
+use Rattle.os_heap_words.specs.Items.{is_heap_word, size_of}
+use Rattle.os_heap_words.specs.Memory.{byte_at, class_of, layout}
+use Rattle.os_heap_words.specs.AddressMap.{AddressMap}
 use Rattle.os_heap_words.proofs.ListsLemmas.HeadWords.{are_owned, byte_inside}
 use Rattle.os_heap_words.proofs.ListsLemmas.LiveBlocks.{LiveBytes, law_live_bytes}
 use Rattle.os_heap_words.proofs.ListsLemmas.Payloads.{payload_unspelled}

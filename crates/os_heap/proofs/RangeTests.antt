@@ -4,12 +4,12 @@ use Rattle.std.proofs.lemmas.Bool.{cases_lt, and_parts, false_from_ne_true, or_p
 use Rattle.std.proofs.Math.Dec.{ltb}
 use Rattle.std.proofs.lemmas.Bool.Decides.{nat_tests}
 use Rattle.std.specs.List.{list_any}
-use Rattle.address_map.proofs.Spans.{mapped_below}
-use Rattle.address_map.specs.Bytes.{AreMapped, in_range, shares_address, Bytes}
-use Rattle.address_map.specs.Memory.{anchor_of, is_mapped, bytes_of, regions}
-use Rattle.address_map.specs.Records.{anchor_among, is_heap_kind}
-use Rattle.address_map.specs.declared.map.AddressMap.{AddressMap}
-use Rattle.address_map.specs.declared.region.Region.{Region}
+use Rattle.os_heap_words.proofs.Spans.{mapped_below}
+use Rattle.os_heap_words.specs.Bytes.{AreMapped, in_range, shares_address, Bytes}
+use Rattle.os_heap_words.specs.Memory.{anchor_of, is_mapped, bytes_of, regions}
+use Rattle.os_heap_words.specs.Records.{anchor_among, is_heap_kind}
+use Rattle.os_heap_words.specs.AddressMap.{AddressMap}
+use Rattle.os_heap_words.specs.Region.{Region}
 use Rattle.os_heap_words.specs.lists.Heap.{HeapList, IsHeapIn}
 use Rattle.os_heap.proofs.Holding.{HoldsRange, range_held}
 use Rattle.os_heap.specs.Ranges.{are_bytes_mapped, is_heap_region, meets_any, overlaps}

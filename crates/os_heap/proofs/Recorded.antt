@@ -1,12 +1,12 @@
 -- A recorded range more that is no heap, as the system pages or an image.
 use Rattle.std.proofs.Common.{ℕ, true, ◌&&◌, false, inl, [], ◌≡◌, refl, List, ◌++◌, inr, ◌∷◌, length, arith, length-append, ◌<◌}
 use Rattle.std.proofs.lemmas.Bool.{cases_Bool, false≢true, or_left, or_right}
-use Rattle.address_map.specs.Bytes.{Bytes, in_range}
-use Rattle.address_map.specs.Classes.{is_flex_header, is_anchor}
-use Rattle.address_map.specs.Memory.{bytes_of, regions, class_of}
-use Rattle.address_map.specs.Records.{is_heap_kind}
-use Rattle.address_map.specs.declared.map.AddressMap.{AddressMap}
-use Rattle.address_map.specs.declared.region.Region.{Region}
+use Rattle.os_heap_words.specs.Bytes.{Bytes, in_range}
+use Rattle.os_heap_words.specs.Classes.{is_flex_header, is_anchor}
+use Rattle.os_heap_words.specs.Memory.{bytes_of, regions, class_of}
+use Rattle.os_heap_words.specs.Records.{is_heap_kind}
+use Rattle.os_heap_words.specs.AddressMap.{AddressMap}
+use Rattle.os_heap_words.specs.Region.{Region}
 use Rattle.os_heap_words.specs.lists.Heap.{HeapList}
 use Rattle.os_heap.proofs.Stores.{placed_clear}
 use Rattle.os_heap.specs.Store.{AreClear, heaps_in, others_in, IsClearOfHeaps, ArePlaced, IsClearOfRanges, AreRangesApart, is_flex_store, is_in_flex_store, store_of, IsSound, Store}

@@ -2,8 +2,8 @@
 use Rattle.std.proofs.Common.{◌≡◌, None, refl, ℕ, Err, Bool, false, Some, true, cond, ap, ◌≢◌, ◌%◌, arith, inl, inr, ◌<◌, ◌==◌, ◌+◌, Ok}
 use Rattle.std.proofs.lemmas.Bool.{ne_eqb, eq-eqb, cases_Bool, lt-ltb}
 use Rattle.os_heap_words.specs.ErrorNumber.TheVariants.{HeapBadDesc, HeapBadRegion, HeapOverlaps, HeapBadShrink}
-use Rattle.address_map.specs.Bytes.{Bytes}
-use Rattle.address_map.specs.Items.{size_of}
+use Rattle.os_heap_words.specs.Bytes.{Bytes}
+use Rattle.os_heap_words.specs.Items.{size_of}
 use Rattle.os_heap_words.specs.lists.Heap.{HeapList}
 use Rattle.os_heap_words.specs.lists.Lists.{changed_by}
 use Rattle.os_heap.proofs.RangeTests.{can_hold}

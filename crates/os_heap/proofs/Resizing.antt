@@ -5,16 +5,16 @@ use Rattle.std.specs.Prelude.{nat_le}
 use Rattle.os_heap_words.specs.Outcome.{bind, Gives}
 use Rattle.os_heap_words.specs.ErrorNumber.{ErrorNumber}
 use Rattle.os_heap_words.specs.ErrorNumber.TheVariants.{HeapNotABlock, HeapHoldsAnchor, HeapBadDesc}
-use Rattle.address_map.proofs.Anchors.{among_none}
-use Rattle.address_map.specs.Bytes.{Bytes, word_at}
-use Rattle.address_map.specs.Items.{items_in, size_of}
-use Rattle.address_map.specs.Memory.{anchor_of, bytes_of, regions, is_mapped, byte_at}
-use Rattle.address_map.specs.Records.{anchor_among, is_heap_kind}
-use Rattle.address_map.specs.declared.item.Item.{Item}
-use Rattle.address_map.specs.declared.item.Item.TheVariants.{Free, Live}
-use Rattle.address_map.specs.declared.map.AddressMap.{AddressMap}
-use Rattle.address_map.specs.declared.region.Kind.{Kind}
-use Rattle.address_map.specs.declared.region.Region.{Region}
+use Rattle.os_heap_words.proofs.Anchors.{among_none}
+use Rattle.os_heap_words.specs.Bytes.{Bytes, word_at}
+use Rattle.os_heap_words.specs.Items.{items_in, size_of}
+use Rattle.os_heap_words.specs.Memory.{anchor_of, bytes_of, regions, is_mapped, byte_at}
+use Rattle.os_heap_words.specs.Records.{anchor_among, is_heap_kind}
+use Rattle.os_heap_words.specs.Item.{Item}
+use Rattle.os_heap_words.specs.Item.TheVariants.{Free, Live}
+use Rattle.os_heap_words.specs.AddressMap.{AddressMap}
+use Rattle.os_heap_words.specs.Kind.{Kind}
+use Rattle.os_heap_words.specs.Region.{Region}
 use Rattle.os_heap_words.proofs.ListsLemmas.Counts.{claim_no_more}
 use Rattle.os_heap_words.proofs.ListsLemmas.Reading.{total_facts}
 use Rattle.os_heap_words.proofs.ListsLemmas.LiveBlocks.{IsStillIn, LiveBytes, law_live_bytes, refit_own, refit_still}

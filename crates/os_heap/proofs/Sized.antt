@@ -2,12 +2,12 @@
 use Rattle.std.proofs.Common.{List, refl, false, inl, inr, ◌-◌, ◌+◌, ◌≡◌, ℕ, ◌++◌, ◌∙◌, Some, ◌∷◌, None, Err, Ok}
 use Rattle.os_heap_words.specs.ErrorNumber.TheVariants.{HeapBadDesc, HeapNotABlock}
 use Rattle.std.proofs.lemmas.Bool.{cases_Bool}
-use Rattle.address_map.specs.declared.item.Item.{Item}
-use Rattle.address_map.specs.declared.region.Region.{Region}
-use Rattle.address_map.specs.Items.{size_of}
-use Rattle.address_map.specs.Memory.{regions}
-use Rattle.address_map.specs.declared.map.AddressMap.{AddressMap}
-use Rattle.address_map.specs.declared.region.Kind.{Kind}
+use Rattle.os_heap_words.specs.Item.{Item}
+use Rattle.os_heap_words.specs.Region.{Region}
+use Rattle.os_heap_words.specs.Items.{size_of}
+use Rattle.os_heap_words.specs.Memory.{regions}
+use Rattle.os_heap_words.specs.AddressMap.{AddressMap}
+use Rattle.os_heap_words.specs.Kind.{Kind}
 use Rattle.os_heap_words.proofs.ListsLemmas.Resizes.{unreleased}
 use Rattle.os_heap_words.specs.lists.Lists.{live_total, items_after_release}
 use Rattle.os_heap.proofs.Calls.{part_at, image_recorded}

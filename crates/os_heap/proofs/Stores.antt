@@ -1,17 +1,17 @@
 -- What a call on one heap leaves of all heaps and of memory as a whole.
 use Rattle.std.proofs.Common.{Bool, ◌&&◌, ◌≡◌, List, ℕ, false, inl, ◌+◌, ◌≢◌, ◌∙◌, sym, inr, ◌==◌, None, [], subst, Some, ◌∷◌, ◌⊎◌, true, ap, refl}
 use Rattle.std.proofs.lemmas.Bool.{false≢true, cases_Bool, ne_eqb, eq-eqb, eqb-true, or_left, or_right}
-use Rattle.address_map.proofs.Bytes.{byte_at-lt, is_mapped-layout}
-use Rattle.address_map.proofs.Equations.{same_bytes}
-use Rattle.address_map.specs.Bytes.{in_range, Bytes, word_at, word_start}
-use Rattle.address_map.specs.Classes.{is_flex_header, is_anchor}
-use Rattle.address_map.specs.Items.{is_heap_word, items_in}
-use Rattle.address_map.specs.Memory.{is_mapped, bytes_of, byte_at, layout, regions, class_of}
-use Rattle.address_map.specs.Records.{is_heap_kind}
-use Rattle.address_map.specs.declared.class.Class.{Class}
-use Rattle.address_map.specs.declared.item.Item.{Item}
-use Rattle.address_map.specs.declared.map.AddressMap.{AddressMap}
-use Rattle.address_map.specs.declared.region.Region.{Region}
+use Rattle.os_heap_words.proofs.Bytes.{byte_at-lt, is_mapped-layout}
+use Rattle.os_heap_words.proofs.Equations.{same_bytes}
+use Rattle.os_heap_words.specs.Bytes.{in_range, Bytes, word_at, word_start}
+use Rattle.os_heap_words.specs.Classes.{is_flex_header, is_anchor}
+use Rattle.os_heap_words.specs.Items.{is_heap_word, items_in}
+use Rattle.os_heap_words.specs.Memory.{is_mapped, bytes_of, byte_at, layout, regions, class_of}
+use Rattle.os_heap_words.specs.Records.{is_heap_kind}
+use Rattle.os_heap_words.specs.Class.{Class}
+use Rattle.os_heap_words.specs.Item.{Item}
+use Rattle.os_heap_words.specs.AddressMap.{AddressMap}
+use Rattle.os_heap_words.specs.Region.{Region}
 use Rattle.os_heap_words.proofs.ListsLemmas.HeapWords.{part_back, cons_part}
 use Rattle.os_heap_words.proofs.ListsLemmas.HeadWords.{law_heap_frame}
 use Rattle.os_heap_words.proofs.ListsLemmas.Payloads.{heap_beside}

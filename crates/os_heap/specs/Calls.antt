@@ -6,13 +6,13 @@ use Rattle.std.specs.Prelude.{ℕ, ◌≡◌, Bool, true, false, not, ◌+◌, �
 use Rattle.os_heap_words.specs.Outcome.{bind}
 use Rattle.os_heap_words.specs.ErrorNumber.{ErrorNumber}
 use Rattle.os_heap_words.specs.ErrorNumber.TheVariants.{HeapBadDesc, HeapBadRegion, HeapOverlaps, HeapTableFull, HeapNotABlock, HeapHoldsAnchor, HeapNoRoom, HeapBadShrink, BlockHoldsHeap}
-use Rattle.address_map.specs.declared.item.Item.{Item}
-use Rattle.address_map.specs.declared.region.Kind.{Kind}
-use Rattle.address_map.specs.declared.region.Kind.TheVariants as kind
-use Rattle.address_map.specs.declared.region.Region.{Region}
-use Rattle.address_map.specs.Bytes.{with_moved}
-use Rattle.address_map.specs.Items.{size_of}
-use Rattle.address_map.specs.Records.{anchor_among}
+use Rattle.os_heap_words.specs.Item.{Item}
+use Rattle.os_heap_words.specs.Kind.{Kind}
+use Rattle.os_heap_words.specs.Kind.TheVariants as kind
+use Rattle.os_heap_words.specs.Region.{Region}
+use Rattle.os_heap_words.specs.Bytes.{with_moved}
+use Rattle.os_heap_words.specs.Items.{size_of}
+use Rattle.os_heap_words.specs.Records.{anchor_among}
 use Rattle.os_heap_words.specs.lists.Heap.{HeapList, with_heap}
 use Rattle.os_heap_words.specs.lists.Lists.{round_up_8, total_for, claim_in_items, items_after_release, changed_by, live_total, resized_in_place}
 use Rattle.os_heap_words.specs.lists.Counts.{all_free, largest_block}

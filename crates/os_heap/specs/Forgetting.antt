@@ -3,7 +3,7 @@
 -- project's own).
 use Rattle.std.specs.Prelude.{ℕ, Bool, not, min, ◌&&◌, ◌+◌, ◌-◌, nat_lt, List, [], ◌∷◌, if◌then◌else◌}
 use Rattle.std.specs.List.{filter, list_any}
-use Rattle.address_map.specs.Bytes.{in_range}
+use Rattle.os_heap_words.specs.Bytes.{in_range}
 use Rattle.os_heap_words.specs.lists.Heap.{HeapList}
 use Rattle.os_heap.specs.Nesting.{is_module_area}
 use Rattle.os_heap.specs.Store.{Store}

@@ -1,10 +1,10 @@
 -- The blocks of one heap that are a guest's: no module image is recorded there. What a walk finds
 -- of them, and what is done to one among all heaps.
 use Rattle.std.specs.Prelude.{ℕ, ◌≡◌, ◌+◌, ◌-◌, Bool, true, false, None, Option, Some, List, MatchOption, is_some}
-use Rattle.address_map.specs.Memory.{anchor_of, regions}
-use Rattle.address_map.specs.declared.item.Item.{Item}
-use Rattle.address_map.specs.declared.map.AddressMap.{AddressMap}
-use Rattle.address_map.specs.declared.region.Region.{Region}
+use Rattle.os_heap_words.specs.Memory.{anchor_of, regions}
+use Rattle.os_heap_words.specs.Item.{Item}
+use Rattle.os_heap_words.specs.AddressMap.{AddressMap}
+use Rattle.os_heap_words.specs.Region.{Region}
 use Rattle.os_heap_words.specs.lists.Lists.{live_total, items_after_release, resized_in_place}
 use Rattle.os_heap_words.specs.lists.Walks.{IsBlock}
 use Rattle.os_heap_words.specs.Cursors.{RefitsBlock}

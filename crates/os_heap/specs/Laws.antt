@@ -2,9 +2,9 @@
 -- is its claimer's until it is given back).
 use Rattle.std.specs.Prelude.{ℕ, ◌≡◌, ◌≤◌, ◌<◌, ◌⊎◌, ◌↔◌, ◌+◌, ◌-◌, ◌&&◌, Bool, not, true, false, Option, Some, None, Ok}
 use Rattle.std.specs.List.{list_any}
-use Rattle.address_map.specs.Bytes.{in_range, shares_address}
-use Rattle.address_map.specs.Memory.{regions}
-use Rattle.address_map.specs.declared.map.AddressMap.{AddressMap}
+use Rattle.os_heap_words.specs.Bytes.{in_range, shares_address}
+use Rattle.os_heap_words.specs.Memory.{regions}
+use Rattle.os_heap_words.specs.AddressMap.{AddressMap}
 use Rattle.os_heap_words.specs.lists.Heap.{HeapList}
 use Rattle.os_heap_words.specs.lists.Lists.{live_total}
 use Rattle.os_heap.specs.Calls.{store_after_init, store_after_change, gave_back, store_after_get, store_after_resize}

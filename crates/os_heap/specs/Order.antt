@@ -1,11 +1,11 @@
 -- The order in which ranges are recorded. A store has heaps and other ranges as two lists; this says how they stand among each other.
 use Rattle.std.specs.Prelude.{ℕ, ◌≡◌, Bool, not, ◌||◌, is_some, List, [], ◌∷◌, ◌++◌, map}
 use Rattle.std.specs.List.{filter}
-use Rattle.address_map.specs.declared.map.AddressMap.{AddressMap}
-use Rattle.address_map.specs.declared.region.Kind.{Kind}
-use Rattle.address_map.specs.declared.region.Region.{Region}
-use Rattle.address_map.specs.Memory.{regions}
-use Rattle.address_map.specs.Records.{is_heap_kind}
+use Rattle.os_heap_words.specs.AddressMap.{AddressMap}
+use Rattle.os_heap_words.specs.Kind.{Kind}
+use Rattle.os_heap_words.specs.Region.{Region}
+use Rattle.os_heap_words.specs.Memory.{regions}
+use Rattle.os_heap_words.specs.Records.{is_heap_kind}
 use Rattle.os_heap_words.specs.lists.Heap.{HeapList}
 use Rattle.os_heap.specs.Store.{find_heap, store_of}
 

@@ -2,10 +2,10 @@
 -- Manual, "OS_Heap", the internal format).
 use Rattle.os_heap_words.specs.MemoryMap.{module_area_start}
 use Rattle.std.specs.Prelude.{ℕ, ◌+◌, ◌-◌, Bool, true, false, Option, Some, None, List, [], ◌∷◌, if◌then◌else◌}
-use Rattle.address_map.specs.Bytes.{in_range}
-use Rattle.address_map.specs.Items.{total_of}
-use Rattle.address_map.specs.declared.item.Item.{Item}
-use Rattle.address_map.specs.declared.item.Item.TheVariants.{Live, Free}
+use Rattle.os_heap_words.specs.Bytes.{in_range}
+use Rattle.os_heap_words.specs.Items.{total_of}
+use Rattle.os_heap_words.specs.Item.{Item}
+use Rattle.os_heap_words.specs.Item.TheVariants.{Live, Free}
 use Rattle.os_heap_words.specs.lists.Heap.{HeapList}
 use Rattle.os_heap.specs.Store.{Store, find_heap}
 use Rattle.os_heap.specs.declared.payload.Payload.{Payload}

@@ -2,10 +2,10 @@
 -- there is none (that a call's work is counted is this project's own).
 use Rattle.std.specs.List.{list_any}
 use Rattle.std.specs.Prelude.{ℕ, ◌≡◌, ◌≤◌, Bool, ◌&&◌, ◌||◌, ◌==◌, ◌+◌, ◌-◌, ◌*◌, ◌%◌, nat_le, nat_lt, Option, Some, None, List, [], ◌∷◌, length, if◌then◌else◌}
-use Rattle.address_map.specs.Bytes.{shares_address}
-use Rattle.address_map.specs.Items.{total_of}
-use Rattle.address_map.specs.Records.{anchor_among}
-use Rattle.address_map.specs.declared.item.Item.{Item}
+use Rattle.os_heap_words.specs.Bytes.{shares_address}
+use Rattle.os_heap_words.specs.Items.{total_of}
+use Rattle.os_heap_words.specs.Records.{anchor_among}
+use Rattle.os_heap_words.specs.Item.{Item}
 use Rattle.os_heap_words.specs.lists.Counts.{looked_at, begun_below, free_below, free_count}
 use Rattle.os_heap_words.specs.lists.Heap.{HeapList}
 use Rattle.os_heap_words.specs.lists.Lists.{Claim, round_up_8, total_for, claim_in_items, changed_by, live_total, resized_in_place}

@@ -2,11 +2,11 @@
 use Rattle.os_heap_words.specs.MemoryMap.{module_area_start}
 use Rattle.std.specs.Prelude.{ℕ, ◌≡◌, Bool, List, [], true, false, not, zero, suc, ◌+◌, ◌-◌, ◌%◌, ◌==◌, ◌&&◌, ◌||◌, nat_le, nat_lt, if◌then◌else◌}
 use Rattle.std.specs.List.{list_any}
-use Rattle.address_map.specs.declared.region.Kind.{Kind}
-use Rattle.address_map.specs.declared.region.Kind.TheVariants as kind
-use Rattle.address_map.specs.Bytes.{Bytes, in_range, shares_address}
-use Rattle.address_map.specs.Items.{size_of}
-use Rattle.address_map.specs.Records.{anchor_among}
+use Rattle.os_heap_words.specs.Kind.{Kind}
+use Rattle.os_heap_words.specs.Kind.TheVariants as kind
+use Rattle.os_heap_words.specs.Bytes.{Bytes, in_range, shares_address}
+use Rattle.os_heap_words.specs.Items.{size_of}
+use Rattle.os_heap_words.specs.Records.{anchor_among}
 use Rattle.os_heap_words.specs.lists.Heap.{HeapList}
 use Rattle.os_heap.specs.Nesting.{holds_range, is_crossed}
 use Rattle.os_heap.specs.Store.{Store, guest_count}

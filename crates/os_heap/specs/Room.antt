@@ -1,6 +1,6 @@
 -- How far a heap's items reach, which says how much room there is behind them.
 use Rattle.std.specs.Prelude.{ℕ, ◌+◌, Option, Some, None}
-use Rattle.address_map.specs.Items.{size_of}
+use Rattle.os_heap_words.specs.Items.{size_of}
 use Rattle.os_heap_words.specs.lists.Heap.{HeapList}
 use Rattle.os_heap.specs.Store.{Store, find_heap}
 

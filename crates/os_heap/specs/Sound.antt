@@ -2,8 +2,8 @@
 use Rattle.std.specs.Prelude.{ℕ, ◌≡◌, ◌+◌, Some, Result, Ok}
 use Rattle.os_heap_words.specs.Outcome.{Gives}
 use Rattle.os_heap_words.specs.ErrorNumber.{ErrorNumber}
-use Rattle.address_map.specs.Memory.{byte_at, layout, mapping}
-use Rattle.address_map.specs.declared.map.AddressMap.{AddressMap}
+use Rattle.os_heap_words.specs.Memory.{byte_at, layout, mapping}
+use Rattle.os_heap_words.specs.AddressMap.{AddressMap}
 use Rattle.os_heap_words.specs.lists.Heap.{HeapList}
 use Rattle.os_heap_words.specs.lists.Lists.{live_total}
 use Rattle.os_heap.specs.Calls.{gave_back}

@@ -3,16 +3,16 @@
 use Rattle.os_heap_words.specs.MemoryMap.{module_area_start}
 use Rattle.std.specs.Prelude.{ℕ, ◌≡◌, ◌≤◌, ◌<◌, ◌⊎◌, Bool, true, false, suc, ◌+◌, ◌==◌, ◌&&◌, ◌||◌, Option, Some, None, List, [], ◌∷◌, length, if◌then◌else◌}
 use Rattle.std.specs.List.{list_any}
-use Rattle.address_map.specs.declared.region.Kind.{Kind}
-use Rattle.address_map.specs.declared.region.Kind.TheVariants as kind
-use Rattle.address_map.specs.declared.region.Region.{Region}
-use Rattle.address_map.specs.declared.map.AddressMap.{AddressMap}
-use Rattle.address_map.specs.Bytes.{Bytes, in_range, word_at, word_start}
-use Rattle.address_map.specs.Classes.{is_heap_class, is_flex_header, is_anchor}
-use Rattle.address_map.specs.Items.{items_in, is_heap_word}
-use Rattle.address_map.specs.declared.item.Item.{Item}
-use Rattle.address_map.specs.Records.{is_heap_kind}
-use Rattle.address_map.specs.Memory.{bytes_of, class_of, regions}
+use Rattle.os_heap_words.specs.Kind.{Kind}
+use Rattle.os_heap_words.specs.Kind.TheVariants as kind
+use Rattle.os_heap_words.specs.Region.{Region}
+use Rattle.os_heap_words.specs.AddressMap.{AddressMap}
+use Rattle.os_heap_words.specs.Bytes.{Bytes, in_range, word_at, word_start}
+use Rattle.os_heap_words.specs.Classes.{is_heap_class, is_flex_header, is_anchor}
+use Rattle.os_heap_words.specs.Items.{items_in, is_heap_word}
+use Rattle.os_heap_words.specs.Item.{Item}
+use Rattle.os_heap_words.specs.Records.{is_heap_kind}
+use Rattle.os_heap_words.specs.Memory.{bytes_of, class_of, regions}
 pub use Rattle.os_heap.specs.Nesting.{AreClear, IsClearOfHeaps, StandApart, is_module_area}
 use Rattle.os_heap_words.specs.lists.Heap.{HeapList, IsHeapIn}
 use Rattle.os_heap_words.specs.lists.Lists.{live_total}

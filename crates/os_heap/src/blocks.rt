@@ -5,7 +5,7 @@ ghost use Rattle.os_heap.specs.Store.{store_of, IsSound};
 ghost use Rattle.os_heap.specs.Calls.{items_of};
 
 use crate::heaps::{Heaps, find};
-use address_map::AddressMap;
+use os_heap_words::AddressMap;
 use os_heap_words::blocks::{Blocks, blocks_of};
 
 impl Heaps {

@@ -2,8 +2,8 @@
 
 ghost use Rattle.std.specs.Prelude.{ℕ, ◌≡◌, ◌≤◌, ◌+◌, ◌%◌, true, Some, Err, MatchResult};
 ghost use Rattle.os_heap_words.specs.Outcome.{Gives};
-ghost use Rattle.address_map.specs.Memory.{byte_at, bytes_of};
-ghost use Rattle.address_map.specs.Records.{is_heap_kind};
+ghost use Rattle.os_heap_words.specs.Memory.{byte_at, bytes_of};
+ghost use Rattle.os_heap_words.specs.Records.{is_heap_kind};
 ghost use Rattle.os_heap_words.specs.lists.Words.{AreApart};
 ghost use Rattle.os_heap.specs.Calls.{store_after_change, end_changed, ending, has_own_size, MayEndArea, IsAreaEnded};
 ghost use Rattle.os_heap.specs.Probes.{change_probes, end_probes, growth_probes};
@@ -15,10 +15,9 @@ ghost use Rattle.os_heap.specs.Store.{store_of, heap_in, find_heap};
 use crate::heaps::{Heaps, find};
 use crate::init::{MOST_HEAP, is_heap_region};
 use crate::obstacles::{Tested, is_obstructed};
-use address_map::{AddressMap, Kind, Region};
 use os_heap_words::counted::{Counted, refused};
 use os_heap_words::words::{BASE, END, put, word};
-use os_heap_words::{ErrorNumber, RMA_START, changed_by};
+use os_heap_words::{AddressMap, ErrorNumber, Kind, RMA_START, Region, changed_by};
 
 impl Heaps {
     /// Changes the size of a heap by `change`, a signed word in two's complement. Its items stay as they are.

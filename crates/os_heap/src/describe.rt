@@ -6,11 +6,10 @@ ghost use Rattle.os_heap.specs.Calls.{heap_description};
 ghost use Rattle.os_heap.specs.Probes.{describe_probes};
 
 use crate::heaps::{Heaps, find};
-use address_map::AddressMap;
-use os_heap_words::ErrorNumber;
 use os_heap_words::counted::{Counted, refused};
 use os_heap_words::free_items::free_room;
 use os_heap_words::words::{BASE, word};
+use os_heap_words::{AddressMap, ErrorNumber};
 
 impl Heaps {
     /// The largest block that can be claimed of a heap, and all that is free in it, in bytes.

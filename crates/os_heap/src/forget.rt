@@ -1,14 +1,14 @@
 //! Heaps in a block that is freed or cut: they are recorded no more.
 
 ghost use Rattle.std.specs.Prelude.{◌≡◌, ◌≤◌, ◌+◌, ◌-◌, ◌%◌};
-ghost use Rattle.address_map.specs.Bytes.{Bytes};
+ghost use Rattle.os_heap_words.specs.Bytes.{Bytes};
 ghost use Rattle.os_heap.specs.Forgetting.{holds_heap, lowest_lost};
 ghost use Rattle.os_heap.specs.Sound.{Forgets, HasBlock, IsSoundMap};
 ghost use Rattle.os_heap.specs.Store.{heaps_in, store_of};
 
 use crate::heaps::Heaps;
-use address_map::{AddressMap, Region};
 use os_heap_words::marks::unmark_heads;
+use os_heap_words::{AddressMap, Region};
 
 impl Heaps {
     /// Whether a guest's heap starts among the `len` bytes from `at` on.

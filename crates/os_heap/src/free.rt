@@ -2,7 +2,7 @@
 
 ghost use Rattle.std.specs.Prelude.{◌≡◌, Ok, true, false, is_some};
 ghost use Rattle.os_heap_words.specs.Outcome.{Gives};
-ghost use Rattle.address_map.specs.Memory.{regions};
+ghost use Rattle.os_heap_words.specs.Memory.{regions};
 ghost use Rattle.os_heap_words.specs.Outcomes.{items_at};
 ghost use Rattle.os_heap.specs.GuestBlocks.{IsGuestBlock, has_anchor_in};
 ghost use Rattle.os_heap_words.specs.Cursors.{IsAtBlock};
@@ -14,12 +14,11 @@ ghost use Rattle.os_heap.specs.Probes.{walk_probes};
 use crate::forget::forget_inner;
 use crate::guests::find_guest_block;
 use crate::heaps::{Heaps, find};
-use address_map::AddressMap;
-use os_heap_words::ErrorNumber;
 use os_heap_words::counted::{Counted, refused};
 use os_heap_words::free::give_back;
 use os_heap_words::neighbour::own_total;
 use os_heap_words::walk::Cursor;
+use os_heap_words::{AddressMap, ErrorNumber};
 
 /// Whether the block at the cursor holds an anchor, its length word counted with it.
 pub(crate) fn holds_anchor(map: &AddressMap, heap: u32, block: u32, cursor: &Cursor) -> bool

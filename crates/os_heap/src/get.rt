@@ -8,10 +8,9 @@ ghost use Rattle.os_heap.specs.Calls.{store_after_get};
 ghost use Rattle.os_heap.specs.Probes.{get_probes};
 
 use crate::heaps::{Heaps, find};
-use address_map::AddressMap;
-use os_heap_words::ErrorNumber;
 use os_heap_words::claim::{claim_total, total_for};
 use os_heap_words::counted::{Counted, refused};
+use os_heap_words::{AddressMap, ErrorNumber};
 
 impl Heaps {
     /// Claims a block of `size` bytes in the heap that starts at `heap`, and answers the address of its first byte. The

@@ -6,8 +6,8 @@ ghost use Rattle.os_heap_words.specs.Outcomes.{HasHeapAt, items_at};
 ghost use Rattle.os_heap.specs.GuestBlocks.{FindsGuestBlock};
 ghost use Rattle.os_heap.specs.Store.{has_image, is_image};
 
-use address_map::{AddressMap, Kind, Region};
 use os_heap_words::walk::{Walk, find_block};
+use os_heap_words::{AddressMap, Kind, Region};
 
 /// The guest's block whose bytes begin at `block`: where a module image is recorded there is none.
 pub(crate) fn find_guest_block(map: &AddressMap, heap: u32, block: u32) -> Walk

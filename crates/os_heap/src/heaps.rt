@@ -1,10 +1,10 @@
 //! The heaps of a machine, and how the record of one is found.
 
 ghost use Rattle.std.specs.Prelude.{◌≡◌, Some, None, MatchOption};
-ghost use Rattle.address_map.specs.Memory.{bytes_of};
+ghost use Rattle.os_heap_words.specs.Memory.{bytes_of};
 ghost use Rattle.os_heap.specs.Store.{store_of, heap_in, find_heap};
 
-use address_map::{AddressMap, Region};
+use os_heap_words::{AddressMap, Region};
 
 /// The heaps of a machine. Where they start and end stands in the record of the address map, and all else of them in the words of memory alone.
 #[derive(Clone, Copy, Debug, Default)]

@@ -2,10 +2,10 @@
 
 ghost use Rattle.std.specs.Prelude.{ℕ, [], true, ◌≡◌, ◌≤◌, ◌%◌, length, IsTrue, MatchResult, Err};
 ghost use Rattle.os_heap_words.specs.Outcome.{Gives};
-ghost use Rattle.address_map.specs.Bytes.{Bytes, AreMapped};
-ghost use Rattle.address_map.specs.Memory.{byte_at, is_mapped, bytes_of, layout, class_of};
-ghost use Rattle.address_map.specs.Records.{is_heap_kind};
-ghost use Rattle.address_map.specs.declared.region.Kind.TheVariants.{Heap, Rma};
+ghost use Rattle.os_heap_words.specs.Bytes.{Bytes, AreMapped};
+ghost use Rattle.os_heap_words.specs.Memory.{byte_at, is_mapped, bytes_of, layout, class_of};
+ghost use Rattle.os_heap_words.specs.Records.{is_heap_kind};
+ghost use Rattle.os_heap_words.specs.Kind.TheVariants.{Heap, Rma};
 ghost use Rattle.os_heap.specs.Order.{AddsRecord, KeepsOrder};
 ghost use Rattle.os_heap.specs.Probes.{init_probes};
 ghost use Rattle.os_heap.specs.Ranges.{MayBegin, is_heap_region};
@@ -16,11 +16,10 @@ ghost use Rattle.os_heap.specs.Calls.{store_after_init, store_with_new_heap};
 
 use crate::heaps::Heaps;
 use crate::obstacles::is_obstructed;
-use address_map::{AddressMap, Kind, Region};
 use os_heap_words::counted::{Counted, refused};
 use os_heap_words::marks::mark_descriptor;
 use os_heap_words::words::{BASE, END, LINK};
-use os_heap_words::{ErrorNumber, HEAP_DESCRIPTOR, HEAP_NAME};
+use os_heap_words::{AddressMap, ErrorNumber, HEAP_DESCRIPTOR, HEAP_NAME, Kind, Region};
 
 /// The most bytes of a heap.
 pub(crate) const MOST_HEAP: u32 = 16_777_216;

@@ -22,7 +22,11 @@ pub mod resize;
 pub mod room;
 pub mod size;
 
-pub use address_map::AddressMap;
 pub use heaps::Heaps;
-pub use os_heap_words::{Blocks, Counted, Item, changed_by, round_up_8, total_for};
+pub use os_heap_words::marks::{make, mark_item};
+pub use os_heap_words::words::{BASE, follow, put, put_free, put_link, word};
+pub use os_heap_words::{
+    AddressMap, BlockMove, Blocks, Counted, Item, Kind, changed_by, do_meet, moved_to, round_up_8,
+    total_for,
+};
 pub use payload::Payload;

@@ -4,9 +4,9 @@
 ghost use Rattle.std.specs.Prelude.{ℕ, ◌≡◌, ◌≤◌, ◌<◌, ◌+◌, ◌^◌, ◌&&◌, nat_lt, true, Some, MatchResult};
 ghost use Rattle.std.specs.List.{list_any};
 ghost use Rattle.std.specs.Option.{option_map};
-ghost use Rattle.address_map.specs.Bytes.{Bytes, in_range};
-ghost use Rattle.address_map.specs.Items.{size_of};
-ghost use Rattle.address_map.specs.Records.{is_heap_kind};
+ghost use Rattle.os_heap_words.specs.Bytes.{Bytes, in_range};
+ghost use Rattle.os_heap_words.specs.Items.{size_of};
+ghost use Rattle.os_heap_words.specs.Records.{is_heap_kind};
 ghost use Rattle.os_heap_words.specs.lists.Heap.{AreTotals};
 ghost use Rattle.os_heap.specs.Bars.{IsInnermost, bars_record};
 ghost use Rattle.os_heap.specs.Nesting.{holds_range, is_round, later_heap};
@@ -17,9 +17,8 @@ ghost use Rattle.os_heap.specs.Sound.{IsSoundMap};
 ghost use Rattle.os_heap.specs.Store.{heap_in, store_of};
 
 use crate::payload::holds_byte;
-use address_map::{AddressMap, Region, do_meet};
-use os_heap_words::HEAP_DESCRIPTOR;
 use os_heap_words::blocks::{Blocks, blocks_of};
+use os_heap_words::{AddressMap, HEAP_DESCRIPTOR, Region, do_meet};
 
 /// What a test of a range answers, and how many items it looked at.
 #[derive(Clone, Copy)]

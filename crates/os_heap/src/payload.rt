@@ -2,18 +2,17 @@
 //! none.
 
 ghost use Rattle.std.specs.Prelude.{◌≡◌, ◌≤◌, ◌+◌, ◌^◌, ◌&&◌};
-ghost use Rattle.address_map.specs.Bytes.{in_range};
-ghost use Rattle.address_map.specs.Items.{size_of, total_of};
-ghost use Rattle.address_map.specs.Records.{is_heap_kind};
+ghost use Rattle.os_heap_words.specs.Bytes.{in_range};
+ghost use Rattle.os_heap_words.specs.Items.{size_of, total_of};
+ghost use Rattle.os_heap_words.specs.Records.{is_heap_kind};
 ghost use Rattle.os_heap_words.specs.lists.Heap.{AreTotals};
 ghost use Rattle.os_heap_words.specs.Outcomes.{IsHeapAt, items_at};
 ghost use Rattle.os_heap.specs.Payloads.{holds_byte, is_other, payload_by, payload_from, payload_of, payload_or};
 ghost use Rattle.os_heap.specs.Store.{find_heap, store_of, IsSound};
 
 use crate::heaps::{Heaps, find};
-use address_map::{AddressMap, Item, Region};
-use os_heap_words::HEAP_DESCRIPTOR;
 use os_heap_words::blocks::{Blocks, blocks_of};
+use os_heap_words::{AddressMap, HEAP_DESCRIPTOR, Item, Region};
 
 /// Where a byte lies among the heaps.
 #[derive(Clone, Copy, Debug, PartialEq, Eq)]

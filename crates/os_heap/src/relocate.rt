@@ -12,12 +12,11 @@ ghost use Rattle.os_heap.specs.Sound.{IsSoundMap, KeepsRest};
 ghost use Rattle.os_heap.specs.Store.{store_of, find_heap};
 
 use crate::forget::holds_heap;
-use address_map::AddressMap;
-use os_heap_words::ErrorNumber;
 use os_heap_words::by_links::find_by_links;
 use os_heap_words::claim::{claim_total, find_room};
 use os_heap_words::counted::Counted;
 use os_heap_words::free::give_back;
+use os_heap_words::{AddressMap, ErrorNumber};
 
 /// Moves a block to one of `needed` bytes: claims that, copies the bytes that the old block holds, and gives the old
 /// block back. A block in which a heap lies is not moved.

@@ -2,8 +2,8 @@
 
 ghost use Rattle.std.specs.Prelude.{◌≡◌, ◌≤◌, ◌<◌, ◌+◌, ◌-◌, ◌^◌, is_some, true};
 ghost use Rattle.os_heap_words.specs.Outcome.{Gives};
-ghost use Rattle.address_map.specs.Memory.{anchor_of, regions};
-ghost use Rattle.address_map.specs.Records.{anchor_among};
+ghost use Rattle.os_heap_words.specs.Memory.{anchor_of, regions};
+ghost use Rattle.os_heap_words.specs.Records.{anchor_among};
 ghost use Rattle.os_heap.specs.Calls.{store_after_resize};
 ghost use Rattle.os_heap_words.specs.Cursors.{IsNewTotal};
 ghost use Rattle.os_heap.specs.GuestBlocks.{ResizesInPlace, IsGuestBlock};
@@ -17,13 +17,12 @@ use crate::free::{give_up, holds_anchor};
 use crate::guests::find_guest_block;
 use crate::heaps::{Heaps, find};
 use crate::relocate::relocate;
-use address_map::AddressMap;
 use os_heap_words::counted::{Counted, refused};
 use os_heap_words::neighbour::own_total;
 use os_heap_words::refit::refit;
 use os_heap_words::walk::Cursor;
 use os_heap_words::words::word;
-use os_heap_words::{ErrorNumber, changed_by, round_up_8};
+use os_heap_words::{AddressMap, ErrorNumber, changed_by, round_up_8};
 
 impl Heaps {
     /// Changes the total of the block whose first byte is at `block` by `change`, a signed word in two's complement,

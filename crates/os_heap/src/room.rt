@@ -1,13 +1,13 @@
 //! Where the items of a heap end.
 
 ghost use Rattle.std.specs.Prelude.{◌≡◌, ◌+◌};
-ghost use Rattle.address_map.specs.Items.{size_of};
+ghost use Rattle.os_heap_words.specs.Items.{size_of};
 ghost use Rattle.os_heap_words.specs.Outcomes.{HasHeapAt, items_at};
 ghost use Rattle.os_heap.specs.Room.{base_offset};
 ghost use Rattle.os_heap.specs.Store.{store_of, IsSound};
 
 use crate::heaps::{Heaps, find};
-use address_map::AddressMap;
+use os_heap_words::AddressMap;
 use os_heap_words::words::{BASE, word};
 
 impl Heaps {

@@ -4,16 +4,15 @@ ghost use Rattle.std.specs.Prelude.{◌≡◌, ◌+◌};
 ghost use Rattle.os_heap.specs.Calls.{bytes_held, guests_total, block_sized};
 ghost use Rattle.os_heap_words.specs.Outcomes.{HasHeapAt, items_at};
 ghost use Rattle.os_heap_words.specs.lists.Counts.{begun_below};
-ghost use Rattle.address_map.specs.Memory.{regions};
+ghost use Rattle.os_heap_words.specs.Memory.{regions};
 ghost use Rattle.os_heap.specs.Store.{store_of, IsSound};
 ghost use Rattle.os_heap.specs.Probes.{walk_probes};
 
 use crate::guests::find_guest_block;
 use crate::heaps::{Heaps, find};
-use address_map::AddressMap;
-use os_heap_words::ErrorNumber;
 use os_heap_words::counted::{Counted, refused};
 use os_heap_words::words::word;
+use os_heap_words::{AddressMap, ErrorNumber};
 
 impl Heaps {
     /// The bytes that the block whose first byte is at `block` holds: its total, less the 4 bytes of its length word. A

@@ -1,7 +1,7 @@
 -- What a call on one heap leaves of memory.
 use Rattle.std.specs.Prelude.{ℕ, List, ◌+◌, ◌%◌, ◌≡◌, None, Option, Result, Err, Ok, Some, Bool, false, true}
-use Rattle.profile.specs.declared.error.ErrorNumber.{ErrorNumber}
-use Rattle.profile.specs.declared.error.ErrorNumber.TheVariants.{HeapNoRoom, HeapNotABlock}
+use Rattle.address_map.specs.ErrorNumber.{ErrorNumber}
+use Rattle.address_map.specs.ErrorNumber.TheVariants.{HeapNoRoom, HeapNotABlock}
 use Rattle.address_map.specs.Bytes.{AreMapped, word_at}
 use Rattle.address_map.specs.Items.{items_in, size_of}
 use Rattle.address_map.specs.Memory.{byte_at, bytes_of, is_mapped, layout, class_of}

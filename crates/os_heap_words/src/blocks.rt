@@ -9,8 +9,7 @@ ghost use Rattle.os_heap_words.specs.Outcomes.{IsHeapAt, items_at};
 
 use crate::links::linked;
 use crate::words::{BASE, LINK, word};
-use address_map::{AddressMap, Item};
-use profile::memory_map::HEAP_DESCRIPTOR;
+use address_map::{AddressMap, HEAP_DESCRIPTOR, Item};
 use std::marker::Model;
 
 /// The items of a heap, live and free, in the order of their addresses.

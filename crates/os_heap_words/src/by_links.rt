@@ -9,8 +9,7 @@ ghost use Rattle.os_heap_words.specs.Outcomes.{HasHeapAt, items_at};
 
 use crate::walk::{Cursor, last_link};
 use crate::words::{follow, word};
-use address_map::AddressMap;
-use profile::memory_map::HEAP_DESCRIPTOR;
+use address_map::{AddressMap, HEAP_DESCRIPTOR};
 
 /// The place of a block among the free items, along their links. A probe is a free item below the block.
 pub fn find_by_links(map: &AddressMap, heap: u32, block: u32) -> Cursor

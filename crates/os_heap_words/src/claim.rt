@@ -12,8 +12,7 @@ use crate::counted::{Counted, refused};
 use crate::marks::{make, remark};
 use crate::sums::round_up_8;
 use crate::words::{BASE, END, follow, put, put_free, put_link, word};
-use address_map::{AddressMap, Item};
-use profile::ErrorNumber;
+use address_map::{AddressMap, ErrorNumber, Item};
 
 /// A free item, and the one before it along the links, or the heap itself.
 #[derive(Clone, Copy)]

@@ -2,7 +2,7 @@
 
 ghost use Rattle.std.specs.Prelude.{◌≡◌, Err};
 
-use profile::ErrorNumber;
+use address_map::ErrorNumber;
 
 /// What a heap call answers, and how much of the heap it looked at: a probe is one free item looked at along the links,
 /// or one item passed in a walk.

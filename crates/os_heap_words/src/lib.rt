@@ -20,10 +20,11 @@ mod sums;
 pub mod walk;
 pub mod words;
 
-pub use address_map::Item;
+pub use address_map::{
+    AddressMap, BlockMove, Class, ErrorNumber, HEAP_DESCRIPTOR, HEAP_NAME, Item, Kind, RMA_START,
+    Region, do_meet, moved_to,
+};
 pub use blocks::Blocks;
 pub use claim::total_for;
 pub use counted::Counted;
-pub use profile::ErrorNumber;
-pub use profile::memory_map::{HEAP_DESCRIPTOR, HEAP_NAME, RMA_START};
 pub use sums::{changed_by, round_up_8};

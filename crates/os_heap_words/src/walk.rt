@@ -9,8 +9,7 @@ ghost use Rattle.os_heap_words.specs.lists.Walks.{last_link};
 ghost use Rattle.os_heap_words.specs.Cursors.{FindsBlock, HasWalked};
 
 use crate::words::{BASE, follow, word};
-use address_map::AddressMap;
-use profile::memory_map::HEAP_DESCRIPTOR;
+use address_map::{AddressMap, HEAP_DESCRIPTOR};
 
 /// Where a walk from item to item stands.
 #[derive(Clone, Copy)]

@@ -9,6 +9,8 @@ pub mod block;
 mod lanes;
 pub mod store;
 
-pub use profile::memory_map::{ADDRESS_LIMIT, MOST_PAGES, PAGE_SIZE};
-pub use profile::{Fault, ImageBytes};
+pub use profile::memory_map::{
+    ADDRESS_LIMIT, HEAP_DESCRIPTOR, HEAP_NAME, MOST_PAGES, PAGE_SIZE, RMA_START,
+};
+pub use profile::{ErrorNumber, Fault, ImageBytes};
 pub use store::RawStore;

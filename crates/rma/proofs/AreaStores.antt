@@ -3,8 +3,8 @@ use Rattle.std.proofs.Common.{◌≡◌, ℕ, true, false, sym, ap, subst, ◌�
 use Rattle.std.specs.Prelude.{Result, is_ok}
 use Rattle.profile.specs.Outcome.{Gives, bind}
 use Rattle.profile.specs.declared.error.ErrorNumber.{ErrorNumber}
-use Rattle.address_map.specs.Memory.{Mapping, mapping, free_pages}
-use Rattle.address_map.specs.declared.map.AddressMap.{AddressMap}
+use Rattle.dynamic_areas.specs.Memory.{Mapping, mapping, free_pages}
+use Rattle.dynamic_areas.specs.AddressMap.{AddressMap}
 use Rattle.dynamic_areas.specs.Store.{Store, store_of}
 use Rattle.dynamic_areas.specs.Areas.{AreaTable}
 use Rattle.dynamic_areas.specs.Ground.{AreaStore, area_store_of}

@@ -4,12 +4,12 @@ use Rattle.std.proofs.Common.{◌≡◌, ◌≢◌, ℕ, ◌+◌, ◌-◌, ◌*�
 use Rattle.std.specs.Prelude.{Option, nat_lt}
 use Rattle.std.specs.List.{list_any, range_with_len}
 use Rattle.std.proofs.lemmas.Bool.{cases_Bool, cases_lt, le-ltb, lt-ltb, or_left, or_right}
-use Rattle.address_map.proofs.InRange.{range_before, range_inside, range_past}
-use Rattle.address_map.specs.Bytes.{in_range}
-use Rattle.address_map.specs.declared.item.Item.{Item}
-use Rattle.address_map.specs.declared.item.Item.TheVariants.{Live, Free}
-use Rattle.os_heap_words.specs.lists.Heap.{AreTotals, HeapList}
-use Rattle.os_heap_words.proofs.ListsLemmas.Reading.{total_facts}
+use Rattle.dynamic_areas.proofs.InRange.{range_before, range_inside, range_past}
+use Rattle.dynamic_areas.specs.Bytes.{in_range}
+use Rattle.dynamic_areas.specs.Item.{Item}
+use Rattle.dynamic_areas.specs.Item.TheVariants.{Live, Free}
+use Rattle.dynamic_areas.specs.Heap.{AreTotals, HeapList}
+use Rattle.dynamic_areas.proofs.Reading.{total_facts}
 use Rattle.dynamic_areas.specs.Payloads.{area_payload, is_other, payload_from, payload_in}
 use Rattle.dynamic_areas.specs.Store.{find_heap}
 use Rattle.dynamic_areas.specs.Payload.TheVariants.{Inside, Other}

@@ -6,18 +6,18 @@ use Rattle.std.proofs.lemmas.Bool.{both_ways, cases_Bool, eq-eqb, eqb-true, leb-
 use Rattle.profile.specs.Outcome.{Gives, bind}
 use Rattle.profile.specs.declared.error.ErrorNumber.{ErrorNumber}
 use Rattle.profile.specs.declared.error.ErrorNumber.TheVariants.{BlockHoldsHeap, HeapBadDesc, HeapNotABlock, RmaBlockHoldsHeap, RmaNoRoom}
-use Rattle.address_map.specs.Items.{size_of}
-use Rattle.address_map.specs.Memory.{bytes_of}
-use Rattle.address_map.specs.declared.map.AddressMap.{AddressMap}
-use Rattle.os_heap_words.specs.lists.Heap.{HeapList, AreTotals, IsHeapIn}
-use Rattle.os_heap_words.specs.lists.Lists.{changed_by, live_total, resized_in_place, round_up_8, total_for}
-use Rattle.os_heap_words.proofs.ListsLemmas.LiveBlocks.{LiveBytes, law_live_bytes}
+use Rattle.dynamic_areas.specs.Items.{size_of}
+use Rattle.dynamic_areas.specs.Memory.{bytes_of}
+use Rattle.dynamic_areas.specs.AddressMap.{AddressMap}
+use Rattle.dynamic_areas.specs.Heap.{HeapList, AreTotals, IsHeapIn}
+use Rattle.dynamic_areas.specs.OsHeapWordsLists.{changed_by, live_total, resized_in_place, round_up_8, total_for}
+use Rattle.dynamic_areas.proofs.LiveBlocks.{LiveBytes, law_live_bytes}
 use Rattle.dynamic_areas.specs.Calls.{block_sized, bytes_held, store_after_get, guests_total, holds_anchor, store_after_resize, unless_image}
 use Rattle.dynamic_areas.specs.Forgetting.{holds_heap}
 use Rattle.dynamic_areas.specs.Room.{base_offset}
 use Rattle.dynamic_areas.specs.Store.{Store, IsSound, find_heap, has_image, store_of}
 use Rattle.dynamic_areas.proofs.Found.{found_heap, found_start}
-use Rattle.os_heap_words.proofs.Replace.{heap_below}
+use Rattle.dynamic_areas.proofs.Replace.{heap_below}
 use Rattle.dynamic_areas.specs.Changing.{pages_had}
 use Rattle.dynamic_areas.specs.Ground.{AreaStore, IsAreaStore}
 use Rattle.rma.specs.Calls.{area_pages, block_holds, end_if_moved, end_in_place, grown_in_place, grown_to, in_area, in_grown_area, is_full, or_as_before, rma_base, total_changed}

@@ -3,11 +3,11 @@ use Rattle.profile.specs.MemoryMap.{module_area_start}
 use Rattle.std.proofs.Common.{◌≡◌, ℕ, ◌+◌, ◌-◌, ◌≤◌, false, List, length, sym, ap, subst, ◌∙◌, Some, inl, inr, arith}
 use Rattle.std.specs.Prelude.{IfOk}
 use Rattle.std.proofs.lemmas.Bool.{cases_Bool}
-use Rattle.address_map.specs.Bytes.{with_bytes, with_moved}
-use Rattle.address_map.specs.Memory.{free_pages}
-use Rattle.address_map.specs.declared.map.AddressMap.{AddressMap}
-use Rattle.os_heap_words.specs.lists.Heap.{HeapList}
-use Rattle.os_heap_words.specs.lists.Lists.{live_total}
+use Rattle.dynamic_areas.specs.Bytes.{with_bytes, with_moved}
+use Rattle.dynamic_areas.specs.Memory.{free_pages}
+use Rattle.dynamic_areas.specs.AddressMap.{AddressMap}
+use Rattle.dynamic_areas.specs.Heap.{HeapList}
+use Rattle.dynamic_areas.specs.OsHeapWordsLists.{live_total}
 use Rattle.dynamic_areas.specs.Calls.{OfHeap, block_sized, store_after_copy}
 use Rattle.dynamic_areas.specs.Forgetting.{holds_heap}
 use Rattle.dynamic_areas.specs.Store.{IsSound, Store, find_heap, has_image, store_of}

@@ -6,8 +6,8 @@ use Rattle.std.proofs.lemmas.Bool.{cases_Bool, cases_lt, lt-ltb, le-ltb, le-leb,
 use Rattle.profile.specs.Outcome.{Leaves}
 use Rattle.profile.specs.declared.error.ErrorNumber.{ErrorNumber}
 use Rattle.profile.specs.declared.error.ErrorNumber.TheVariants.{AreaNoPages, RmaNoRoom}
-use Rattle.address_map.specs.Bytes.{in_range}
-use Rattle.os_heap_words.specs.lists.Heap.{HeapList, AreTotals}
+use Rattle.dynamic_areas.specs.Bytes.{in_range}
+use Rattle.dynamic_areas.specs.Heap.{HeapList, AreTotals}
 use Rattle.dynamic_areas.specs.Calls.{with_end}
 use Rattle.dynamic_areas.specs.Forgetting.{holds_heap, starts_in}
 use Rattle.dynamic_areas.specs.Store.{Store, find_heap}

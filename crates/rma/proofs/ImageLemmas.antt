@@ -3,18 +3,18 @@ use Rattle.profile.specs.MemoryMap.{module_area_start}
 use Rattle.std.proofs.Common.{◌≡◌, ◌≢◌, ℕ, ◌+◌, ◌-◌, ◌==◌, ◌%◌, ◌&&◌, ◌<◌, ◌≤◌, ◌⊎◌, Bool, true, false, List, [], ◌∷◌, ◌++◌, length, refl, sym, ap, subst, ◌∙◌, Some, None, Ok, inl, inr, arith, length-append}
 use Rattle.std.specs.Prelude.{Option}
 use Rattle.std.proofs.lemmas.Bool.{and_parts, cases_Bool, both_ways, false_from_ne_true, false≢true, eq-eqb, le-leb, lt-ltb, or_parts}
-use Rattle.address_map.specs.Bytes.{Bytes, AreMapped, in_range}
-use Rattle.address_map.specs.Classes.{is_anchor, is_flex_header}
-use Rattle.address_map.specs.Items.{size_of}
-use Rattle.address_map.specs.Memory.{Mapping, bytes_of, class_of, free_pages, mapping, regions}
-use Rattle.address_map.specs.Records.{are_same, is_heap_kind, is_record, without_region}
-use Rattle.address_map.specs.declared.map.AddressMap.{AddressMap}
-use Rattle.address_map.specs.declared.region.Kind.{Kind}
-use Rattle.address_map.specs.declared.region.Kind.TheVariants as kind
-use Rattle.address_map.specs.declared.region.Region.{Region}
-use Rattle.os_heap_words.specs.lists.Heap.{HeapList, IsHeapIn}
-use Rattle.os_heap_words.specs.lists.Lists.{live_total}
-use Rattle.os_heap_words.proofs.ListsLemmas.LiveBlocks.{LiveBytes, law_live_bytes}
+use Rattle.dynamic_areas.specs.Bytes.{Bytes, AreMapped, in_range}
+use Rattle.dynamic_areas.specs.Classes.{is_anchor, is_flex_header}
+use Rattle.dynamic_areas.specs.Items.{size_of}
+use Rattle.dynamic_areas.specs.Memory.{Mapping, bytes_of, class_of, free_pages, mapping, regions}
+use Rattle.dynamic_areas.specs.Records.{are_same, is_heap_kind, is_record, without_region}
+use Rattle.dynamic_areas.specs.AddressMap.{AddressMap}
+use Rattle.dynamic_areas.specs.Kind.{Kind}
+use Rattle.dynamic_areas.specs.Kind.TheVariants as kind
+use Rattle.dynamic_areas.specs.Region.{Region}
+use Rattle.dynamic_areas.specs.Heap.{HeapList, IsHeapIn}
+use Rattle.dynamic_areas.specs.OsHeapWordsLists.{live_total}
+use Rattle.dynamic_areas.proofs.LiveBlocks.{LiveBytes, law_live_bytes}
 use Rattle.dynamic_areas.specs.Calls.{OfHeap, block_sized}
 use Rattle.dynamic_areas.specs.Store.{AreClear, ArePlaced, AreRangesApart, IsClearOfRanges, IsImageBlock, IsPlacedIn, IsSound, Store, find_heap, has_image, heaps_in, is_module_area, is_flex_store, is_image, is_in_flex_store, others_in, store_of}
 use Rattle.dynamic_areas.proofs.Apart.{block_inside, one_block, range_parts}

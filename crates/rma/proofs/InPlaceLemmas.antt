@@ -2,11 +2,11 @@
 use Rattle.std.proofs.Common.{◌≡◌, ℕ, ◌+◌, ◌%◌, ◌==◌, ◌&&◌, ◌||◌, ◌<◌, ◌≤◌, Bool, true, false, List, [], ◌∷◌, length, refl, not, arith}
 use Rattle.std.specs.List.{list_any}
 use Rattle.std.proofs.lemmas.Bool.{and_parts, both_ways, eqb-true, false_from_ne_true, lt-ltb, not-true, or_parts}
-use Rattle.address_map.specs.Bytes.{AreMapped, in_range, shares_address}
-use Rattle.address_map.specs.Records.{IsRegion, anchor_among}
-use Rattle.address_map.specs.declared.map.AddressMap.{AddressMap}
-use Rattle.address_map.specs.declared.region.Kind.TheVariants as kind
-use Rattle.address_map.specs.declared.region.Region.{Region}
+use Rattle.dynamic_areas.specs.Bytes.{AreMapped, in_range, shares_address}
+use Rattle.dynamic_areas.specs.Records.{IsRegion, anchor_among}
+use Rattle.dynamic_areas.specs.AddressMap.{AddressMap}
+use Rattle.dynamic_areas.specs.Kind.TheVariants as kind
+use Rattle.dynamic_areas.specs.Region.{Region}
 use Rattle.dynamic_areas.proofs.RangeTests.{are_mapped_all, clear_of_heaps, range_end}
 use Rattle.dynamic_areas.proofs.Apart.{range_parts}
 use Rattle.dynamic_areas.proofs.Recorded.{IsClearOfAll, recorded_sound}

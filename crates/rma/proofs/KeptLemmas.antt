@@ -5,10 +5,10 @@ use Rattle.std.specs.List.{filter}
 use Rattle.std.specs.Prelude.{Option, Result, is_some}
 use Rattle.profile.specs.Outcome.{Gives}
 use Rattle.profile.specs.declared.error.ErrorNumber.{ErrorNumber}
-use Rattle.address_map.specs.Bytes.{AreMapped}
-use Rattle.address_map.specs.Memory.{Layout, Mapping, is_mapped, layout, mapping, place, regions}
-use Rattle.address_map.specs.declared.map.AddressMap.{AddressMap}
-use Rattle.address_map.specs.declared.region.Kind.{Kind}
+use Rattle.dynamic_areas.specs.Bytes.{AreMapped}
+use Rattle.dynamic_areas.specs.Memory.{Layout, Mapping, is_mapped, layout, mapping, place, regions}
+use Rattle.dynamic_areas.specs.AddressMap.{AddressMap}
+use Rattle.dynamic_areas.specs.Kind.{Kind}
 use Rattle.dynamic_areas.specs.Areas.{AreaTable}
 use Rattle.dynamic_areas.specs.Calls.{gave_back, store_after_get, store_after_resize}
 use Rattle.dynamic_areas.specs.Kept.{IsAreaMap}

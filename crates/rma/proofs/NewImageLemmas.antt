@@ -6,19 +6,19 @@ use Rattle.profile.specs.MemoryMap.{module_area_maximum, module_area_start}
 use Rattle.profile.specs.Outcome.{Gives}
 use Rattle.profile.specs.declared.error.ErrorNumber.{ErrorNumber}
 use Rattle.profile.specs.declared.error.ErrorNumber.TheVariants.{RmaNoRoom}
-use Rattle.address_map.proofs.Equations.{stored_bytes, stored_moved}
-use Rattle.address_map.proofs.InRange.{range_inside}
-use Rattle.address_map.specs.Bytes.{AreMapped, Bytes, in_range, with_bytes, with_bytes_at, with_moved, with_moved_at}
-use Rattle.address_map.specs.Items.{is_total, size_of}
-use Rattle.address_map.specs.Memory.{byte_at, bytes_of, class_of, layout}
-use Rattle.address_map.specs.declared.map.AddressMap.{AddressMap}
-use Rattle.address_map.specs.declared.region.Kind.{Kind}
-use Rattle.address_map.specs.declared.region.Kind.TheVariants as kind
-use Rattle.address_map.specs.declared.region.Region.{Region}
-use Rattle.os_heap_words.proofs.ListsLemmas.LiveBlocks.{LiveBytes, law_live_bytes}
-use Rattle.os_heap_words.proofs.ListsLemmas.Spelling.{total_of-numbers}
-use Rattle.os_heap_words.specs.lists.Heap.{HeapList, IsHeapIn}
-use Rattle.os_heap_words.specs.lists.Lists.{Claim, claim_in_items, live_total, total_for}
+use Rattle.dynamic_areas.proofs.Equations.{stored_bytes, stored_moved}
+use Rattle.dynamic_areas.proofs.InRange.{range_inside}
+use Rattle.dynamic_areas.specs.Bytes.{AreMapped, Bytes, in_range, with_bytes, with_bytes_at, with_moved, with_moved_at}
+use Rattle.dynamic_areas.specs.Items.{is_total, size_of}
+use Rattle.dynamic_areas.specs.Memory.{byte_at, bytes_of, class_of, layout}
+use Rattle.dynamic_areas.specs.AddressMap.{AddressMap}
+use Rattle.dynamic_areas.specs.Kind.{Kind}
+use Rattle.dynamic_areas.specs.Kind.TheVariants as kind
+use Rattle.dynamic_areas.specs.Region.{Region}
+use Rattle.dynamic_areas.proofs.LiveBlocks.{LiveBytes, law_live_bytes}
+use Rattle.dynamic_areas.proofs.Spelling.{total_of-numbers}
+use Rattle.dynamic_areas.specs.Heap.{HeapList, IsHeapIn}
+use Rattle.dynamic_areas.specs.OsHeapWordsLists.{Claim, claim_in_items, live_total, total_for}
 use Rattle.dynamic_areas.proofs.Apart.{range_parts}
 use Rattle.dynamic_areas.proofs.ClaimedBlocks.{IsNewBlock, is_new_block}
 use Rattle.dynamic_areas.proofs.Found.{found_heap, found_start}

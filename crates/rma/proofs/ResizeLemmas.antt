@@ -5,16 +5,16 @@ use Rattle.std.proofs.lemmas.Bool.{cases_Bool, cases_eq, le-leb, leb-true, eqb-t
 use Rattle.profile.specs.Outcome.{bind}
 use Rattle.profile.specs.declared.error.ErrorNumber.{ErrorNumber}
 use Rattle.profile.specs.declared.error.ErrorNumber.TheVariants.{BlockHoldsHeap, HeapNoRoom, HeapNotABlock}
-use Rattle.address_map.proofs.Anchors.{among_none, none_among}
-use Rattle.address_map.specs.Items.{size_of}
-use Rattle.address_map.specs.Records.{anchor_among}
-use Rattle.address_map.specs.declared.item.Item.{Item}
-use Rattle.address_map.specs.declared.item.Item.TheVariants.{Live, Free}
-use Rattle.os_heap_words.specs.lists.Heap.{HeapList, AreTotals}
-use Rattle.os_heap_words.specs.lists.Lists.{Claim, changed_by, claim_in_items, first_fit, live_total, or_at_base, items_after_refit, items_after_release, resized_in_place, round_up_8, total_for}
-use Rattle.os_heap_words.proofs.ListsLemmas.LiveBlocks.{IsStill, LiveBytes, claim_still, law_live_bytes}
-use Rattle.os_heap_words.proofs.ListsLemmas.Reading.{total_facts}
-use Rattle.os_heap_words.proofs.ListsLemmas.Resizes.{last_some, unreleased}
+use Rattle.dynamic_areas.proofs.Anchors.{among_none, none_among}
+use Rattle.dynamic_areas.specs.Items.{size_of}
+use Rattle.dynamic_areas.specs.Records.{anchor_among}
+use Rattle.dynamic_areas.specs.Item.{Item}
+use Rattle.dynamic_areas.specs.Item.TheVariants.{Live, Free}
+use Rattle.dynamic_areas.specs.Heap.{HeapList, AreTotals}
+use Rattle.dynamic_areas.specs.OsHeapWordsLists.{Claim, changed_by, claim_in_items, first_fit, live_total, or_at_base, items_after_refit, items_after_release, resized_in_place, round_up_8, total_for}
+use Rattle.dynamic_areas.proofs.LiveBlocks.{IsStill, LiveBytes, claim_still, law_live_bytes}
+use Rattle.dynamic_areas.proofs.Reading.{total_facts}
+use Rattle.dynamic_areas.proofs.Resizes.{last_some, unreleased}
 use Rattle.dynamic_areas.specs.Calls.{store_after_copy, gave_back, store_after_get, handed_over, store_holding, holds_anchor, store_after_move, store_after_resize, resized_or_moved}
 use Rattle.dynamic_areas.specs.Forgetting.{store_after_forget, holds_heap}
 use Rattle.dynamic_areas.specs.Store.{Store, find_heap, has_image}

@@ -6,15 +6,15 @@ use Rattle.std.proofs.lemmas.Bool.{both_ways, false_from_ne_true, false≢true, 
 use Rattle.profile.specs.Outcome.{bind}
 use Rattle.profile.specs.declared.error.ErrorNumber.{ErrorNumber}
 use Rattle.profile.specs.declared.error.ErrorNumber.TheVariants.{HeapNoRoom}
-use Rattle.address_map.proofs.Anchors.{among_none}
-use Rattle.address_map.specs.Bytes.{in_range}
-use Rattle.address_map.specs.Items.{is_total, size_of}
-use Rattle.os_heap_words.specs.lists.Heap.{HeapList, AreSpaced, AreTotals, IsHeapIn}
-use Rattle.os_heap_words.specs.lists.Lists.{Claim, claim_in_items, live_total, items_after_release, total_for}
-use Rattle.os_heap_words.proofs.ListsLemmas.ClaimedLists.{HasTotals, IsUnheld, IsWithin, claim_totals, claim_unheld, claim_within}
-use Rattle.os_heap_words.proofs.ListsLemmas.LiveBlocks.{IsFresh, IsStill, LiveBytes, claim_fresh, claim_still, live_apart, law_live_bytes}
-use Rattle.os_heap_words.proofs.ListsLemmas.ReleaseOfClaim.{gives_back}
-use Rattle.os_heap_words.proofs.ListsLemmas.Spelling.{total_of-numbers}
+use Rattle.dynamic_areas.proofs.Anchors.{among_none}
+use Rattle.dynamic_areas.specs.Bytes.{in_range}
+use Rattle.dynamic_areas.specs.Items.{is_total, size_of}
+use Rattle.dynamic_areas.specs.Heap.{HeapList, AreSpaced, AreTotals, IsHeapIn}
+use Rattle.dynamic_areas.specs.OsHeapWordsLists.{Claim, claim_in_items, live_total, items_after_release, total_for}
+use Rattle.dynamic_areas.proofs.ClaimedLists.{HasTotals, IsUnheld, IsWithin, claim_totals, claim_unheld, claim_within}
+use Rattle.dynamic_areas.proofs.LiveBlocks.{IsFresh, IsStill, LiveBytes, claim_fresh, claim_still, live_apart, law_live_bytes}
+use Rattle.dynamic_areas.proofs.ReleaseOfClaim.{gives_back}
+use Rattle.dynamic_areas.proofs.Spelling.{total_of-numbers}
 use Rattle.dynamic_areas.specs.Calls.{gave_back, store_after_get, store_holding, holds_anchor, items_of, total_or_0, heaps_with_items}
 use Rattle.dynamic_areas.specs.Forgetting.{store_after_forget}
 use Rattle.dynamic_areas.specs.Store.{IsSound, Store, find_heap, has_image}

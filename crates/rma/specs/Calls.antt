@@ -7,7 +7,7 @@ use Rattle.std.specs.Prelude.{ℕ, Bool, true, false, ◌+◌, ◌-◌, ◌*◌,
 use Rattle.profile.specs.Outcome.{bind}
 use Rattle.profile.specs.declared.error.ErrorNumber.{ErrorNumber}
 use Rattle.profile.specs.declared.error.ErrorNumber.TheVariants.{HeapNotABlock, HeapHoldsAnchor, HeapNoRoom, BlockHoldsHeap, RmaNotABlock, RmaHoldsAnchor, RmaNoRoom, RmaBlockHoldsHeap}
-use Rattle.os_heap_words.specs.lists.Lists.{round_up_8, total_for, changed_by}
+use Rattle.dynamic_areas.specs.OsHeapWordsLists.{round_up_8, total_for, changed_by}
 use Rattle.dynamic_areas.specs.Calls.{heap_description, store_after_get, gave_back, store_after_resize, block_sized}
 use Rattle.dynamic_areas.specs.Forgetting.{holds_heap}
 use Rattle.dynamic_areas.specs.Room.{base_offset}

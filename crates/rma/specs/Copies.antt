@@ -4,7 +4,7 @@
 use Rattle.profile.specs.MemoryMap.{module_area_start}
 use Rattle.std.specs.Prelude.{ℕ, ◌*◌, ◌&&◌, not, Bool}
 use Rattle.std.specs.List.{list_any, range_with_len}
-use Rattle.address_map.specs.Bytes.{in_range}
+use Rattle.dynamic_areas.specs.Bytes.{in_range}
 use Rattle.dynamic_areas.specs.Payloads.{area_payload, is_other}
 use Rattle.dynamic_areas.specs.Ranges.{are_bytes_mapped}
 use Rattle.dynamic_areas.specs.Ground.{AreaStore}

@@ -4,8 +4,8 @@
 use Rattle.profile.specs.MemoryMap.{module_area_start}
 use Rattle.std.specs.Prelude.{ℕ, ◌≡◌, ◌<◌, true, false, length, IfOk, Result, Ok, Err, [], ◌∷◌, ◌++◌}
 use Rattle.profile.specs.declared.error.ErrorNumber.{ErrorNumber}
-use Rattle.address_map.specs.declared.region.Kind.TheVariants as kind
-use Rattle.address_map.specs.Records.{without_region}
+use Rattle.dynamic_areas.specs.Kind.TheVariants as kind
+use Rattle.dynamic_areas.specs.Records.{without_region}
 use Rattle.dynamic_areas.specs.Calls.{OfHeap, block_sized, gave_back}
 use Rattle.dynamic_areas.specs.Forgetting.{holds_heap}
 use Rattle.dynamic_areas.specs.Store.{Store, find_heap, is_module_area}

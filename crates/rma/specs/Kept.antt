@@ -1,9 +1,9 @@
 -- What a call on the module area keeps of the map and of the areas on it.
 use Rattle.std.specs.Prelude.{ℕ, ◌≡◌, ◌-◌, List}
 use Rattle.std.specs.List.{filter}
-use Rattle.address_map.specs.Memory.{layout, mapping, regions, StaysInPlace}
-use Rattle.address_map.specs.declared.map.AddressMap.{AddressMap}
-use Rattle.address_map.specs.declared.region.Region.{Region}
+use Rattle.dynamic_areas.specs.Memory.{layout, mapping, regions, StaysInPlace}
+use Rattle.dynamic_areas.specs.AddressMap.{AddressMap}
+use Rattle.dynamic_areas.specs.Region.{Region}
 use Rattle.dynamic_areas.specs.Areas.{AreaTable}
 use Rattle.dynamic_areas.specs.Ground.{area_store_of, IsAreaStore}
 use Rattle.dynamic_areas.specs.Order.{stays, KeepsOrder, LosesInOrder}

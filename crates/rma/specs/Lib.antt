@@ -1,5 +1,34 @@
 -- The module area as a heap that grows. Begin with Calls.
-pub use Rattle.os_heap_words.specs.lists
+pub use Rattle.dynamic_areas.specs.AddressMap
+pub use Rattle.dynamic_areas.specs.Areas
+pub use Rattle.dynamic_areas.specs.BlockMove
+pub use Rattle.dynamic_areas.specs.Bytes
+pub use Rattle.dynamic_areas.specs.Calls as OsHeapCalls
+pub use Rattle.dynamic_areas.specs.Changing
+pub use Rattle.dynamic_areas.specs.Creating
+pub use Rattle.dynamic_areas.specs.Forgetting
+pub use Rattle.dynamic_areas.specs.Ground
+pub use Rattle.dynamic_areas.specs.Item
+pub use Rattle.dynamic_areas.specs.Items
+pub use Rattle.dynamic_areas.specs.Kept as DynamicAreasKept
+pub use Rattle.dynamic_areas.specs.Kind
+pub use Rattle.dynamic_areas.specs.Memory
+pub use Rattle.dynamic_areas.specs.Moves
+pub use Rattle.dynamic_areas.specs.Order
+pub use Rattle.dynamic_areas.specs.PageCounts
+pub use Rattle.dynamic_areas.specs.Ranges
+pub use Rattle.dynamic_areas.specs.Records
+pub use Rattle.dynamic_areas.specs.Region
+pub use Rattle.dynamic_areas.specs.Remapped
+pub use Rattle.dynamic_areas.specs.Rooms
+pub use Rattle.dynamic_areas.specs.Start
+pub use Rattle.dynamic_areas.specs.Store
+pub use Rattle.dynamic_areas.specs.declared.area.Area
+pub use Rattle.dynamic_areas.specs.declared.area.Changed
+pub use Rattle.dynamic_areas.specs.declared.area.Created
+pub use Rattle.dynamic_areas.specs.declared.area.Extent
+pub use Rattle.dynamic_areas.specs.declared.area.Wanted
+pub use Rattle.dynamic_areas.specs.lists
 pub mod Calls
 pub mod Copies
 pub mod Images

@@ -5,10 +5,10 @@ use Rattle.profile.specs.MemoryMap.{module_area_start}
 use Rattle.std.specs.Prelude.{ℕ, ◌≡◌, ◌+◌, ◌-◌, ◌==◌, ◌%◌, ◌&&◌, not, Bool, List, length, Some, Result, Ok, [], ◌∷◌, ◌++◌}
 use Rattle.profile.specs.Outcome.{bind}
 use Rattle.profile.specs.declared.error.ErrorNumber.{ErrorNumber}
-use Rattle.address_map.specs.declared.region.Kind.TheVariants as kind
-use Rattle.address_map.specs.declared.region.Region.{Region}
-use Rattle.address_map.specs.Bytes.{with_bytes}
-use Rattle.os_heap_words.specs.lists.Lists.{live_total, total_for}
+use Rattle.dynamic_areas.specs.Kind.TheVariants as kind
+use Rattle.dynamic_areas.specs.Region.{Region}
+use Rattle.dynamic_areas.specs.Bytes.{with_bytes}
+use Rattle.dynamic_areas.specs.OsHeapWordsLists.{live_total, total_for}
 use Rattle.dynamic_areas.specs.Calls.{OfHeap, store_after_copy}
 use Rattle.dynamic_areas.specs.Ranges.{are_bytes_mapped, meets_any}
 use Rattle.dynamic_areas.specs.Store.{Store, find_heap}

@@ -1,7 +1,7 @@
 -- Where the bytes of memory lie.
 use Rattle.std.specs.Prelude.{ℕ, ◌≡◌, true}
-use Rattle.address_map.specs.declared.map.AddressMap.{AddressMap}
-use Rattle.address_map.specs.Memory.{is_mapped, place}
+use Rattle.dynamic_areas.specs.AddressMap.{AddressMap}
+use Rattle.dynamic_areas.specs.Memory.{is_mapped, place}
 
 -- what is mapped stays so, and lies where it lay
 abbrev pub KeepsPlaces : AddressMap → AddressMap → Type 0

@@ -4,8 +4,7 @@ ghost use Rattle.std.specs.Prelude.{◌≡◌, Ok};
 ghost use Rattle.dynamic_areas.specs.Store.{store_of, IsSound};
 ghost use Rattle.rma.specs.Calls.{rma_described};
 
-use address_map::AddressMap;
-use dynamic_areas::Heaps;
+use dynamic_areas::{AddressMap, Heaps};
 use profile::ErrorNumber;
 use profile::memory_map::RMA_START;
 

@@ -3,8 +3,8 @@
 ghost use Rattle.std.specs.Prelude.{◌≡◌, ◌+◌, ◌-◌, false, true, IfOk};
 ghost use Rattle.profile.specs.MemoryMap.{module_area_maximum, module_area_start};
 ghost use Rattle.profile.specs.Outcome.{Gives};
-ghost use Rattle.address_map.specs.Bytes.{in_range};
-ghost use Rattle.os_heap_words.specs.lists.Lists.{total_for};
+ghost use Rattle.dynamic_areas.specs.Bytes.{in_range};
+ghost use Rattle.dynamic_areas.specs.OsHeapWordsLists.{total_for};
 ghost use Rattle.dynamic_areas.specs.Calls.{store_after_get};
 ghost use Rattle.dynamic_areas.specs.Forgetting.{holds_heap};
 ghost use Rattle.dynamic_areas.specs.Store.{store_of};
@@ -18,8 +18,7 @@ ghost use Rattle.rma.specs.Kept.{KeepsRecords};
 use crate::area::Rma;
 use crate::errors::{is_no_room, rma_error};
 use crate::growth::grow_to;
-use address_map::AddressMap;
-use dynamic_areas::{Areas, Heaps, total_for};
+use dynamic_areas::{AddressMap, Areas, Heaps, total_for};
 use profile::ErrorNumber;
 use profile::memory_map::RMA_START;
 

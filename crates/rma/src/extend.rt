@@ -14,8 +14,7 @@ ghost use Rattle.rma.specs.Kept.{KeepsRecords, LosesInnerHeaps};
 use crate::area::Rma;
 use crate::errors::{is_no_room, rma_error};
 use crate::growth::{can_grow_to, grow_to};
-use address_map::AddressMap;
-use dynamic_areas::{Areas, Heaps, changed_by, round_up_8};
+use dynamic_areas::{AddressMap, Areas, Heaps, changed_by, round_up_8};
 use profile::ErrorNumber;
 use profile::memory_map::RMA_START;
 

@@ -1,7 +1,7 @@
 //! OS_Module 7: a block is given back.
 
 ghost use Rattle.profile.specs.Outcome.{Gives};
-ghost use Rattle.address_map.specs.Memory.{regions};
+ghost use Rattle.dynamic_areas.specs.Memory.{regions};
 ghost use Rattle.dynamic_areas.specs.Store.{store_of};
 ghost use Rattle.dynamic_areas.specs.Areas.{AreaTable};
 ghost use Rattle.dynamic_areas.specs.Ground.{area_store_of};
@@ -11,8 +11,7 @@ ghost use Rattle.rma.specs.Kept.{FreesRoom};
 
 use crate::area::Rma;
 use crate::errors::rma_error;
-use address_map::AddressMap;
-use dynamic_areas::Heaps;
+use dynamic_areas::{AddressMap, Heaps};
 use profile::ErrorNumber;
 use profile::memory_map::RMA_START;
 

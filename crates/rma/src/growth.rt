@@ -10,8 +10,7 @@ ghost use Rattle.rma.specs.Calls.{grown_to};
 ghost use Rattle.dynamic_areas.specs.Kept.{IsAreaMap};
 ghost use Rattle.rma.specs.Kept.{KeepsRecords};
 
-use address_map::AddressMap;
-use dynamic_areas::{Areas, MODULE_AREA};
+use dynamic_areas::{AddressMap, Areas, MODULE_AREA};
 use profile::ErrorNumber;
 use profile::memory_map::{PAGE_SIZE, RMA_MAXIMUM};
 

@@ -7,5 +7,5 @@ pub mod laws;
 pub mod moves;
 mod steps;
 
-pub use address_map::{BlockMove, moved_to};
+pub use dynamic_areas::{BlockMove, moved_to};
 pub use moves::{Moves, slide};

@@ -2,9 +2,9 @@
 
 ghost use Rattle.profile.specs.MemoryMap.{module_area_start};
 ghost use Rattle.std.specs.Prelude.{◌≡◌, IfOk, MatchResult};
-ghost use Rattle.address_map.specs.Memory.{regions};
-ghost use Rattle.address_map.specs.Records.{without_region};
-ghost use Rattle.address_map.specs.declared.region.Kind.TheVariants.{Image};
+ghost use Rattle.dynamic_areas.specs.Memory.{regions};
+ghost use Rattle.dynamic_areas.specs.Records.{without_region};
+ghost use Rattle.dynamic_areas.specs.Kind.TheVariants.{Image};
 ghost use Rattle.dynamic_areas.specs.Calls.{block_sized};
 ghost use Rattle.dynamic_areas.specs.Order.{AddsRecord, KeepsOrder};
 ghost use Rattle.dynamic_areas.specs.Store.{store_of, IsSound};
@@ -14,8 +14,7 @@ ghost use Rattle.dynamic_areas.specs.Sound.{IsSoundMap};
 ghost use Rattle.rma.specs.Kept.{KeepsAreaStores, KeepsFlexAreas, FreesRoom};
 
 use crate::area::Rma;
-use address_map::{AddressMap, Kind};
-use dynamic_areas::Heaps;
+use dynamic_areas::{AddressMap, Heaps, Kind};
 use profile::memory_map::RMA_START;
 
 impl Rma {

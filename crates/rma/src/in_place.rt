@@ -1,7 +1,7 @@
 //! Images that stay where they lie: whether a range may be one, and its record.
 
 ghost use Rattle.std.specs.Prelude.{◌≡◌, ◌<◌, true, length};
-ghost use Rattle.address_map.specs.declared.region.Kind.TheVariants.{Image};
+ghost use Rattle.dynamic_areas.specs.Kind.TheVariants.{Image};
 ghost use Rattle.dynamic_areas.specs.Order.{AddsRecord};
 ghost use Rattle.dynamic_areas.specs.Ranges.{are_bytes_mapped, meets_any};
 ghost use Rattle.dynamic_areas.specs.Store.{store_of, IsSound};
@@ -12,7 +12,7 @@ ghost use Rattle.rma.specs.NewImages.{may_be_in_place, with_image_in_place};
 ghost use Rattle.rma.specs.Kept.{KeepsFlexAreas};
 
 use crate::area::Rma;
-use address_map::{AddressMap, Kind};
+use dynamic_areas::{AddressMap, Kind};
 
 impl Rma {
     /// Whether the `len` bytes from an address on may be an image in place: they begin at a whole

@@ -21,3 +21,6 @@ pub mod slide;
 
 pub use crate::heap_slide::{BlockMove, Moves};
 pub use area::Rma;
+pub use dynamic_areas::{
+    AddressMap, Area, Areas, Blocks, Changed, Heaps, Item, Wanted, areas_count_pages, start_memory,
+};

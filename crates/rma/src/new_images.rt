@@ -3,12 +3,12 @@
 ghost use Rattle.std.specs.Prelude.{◌≡◌, ◌-◌, ◌%◌, ◌≤◌, ◌<◌, ◌++◌, ◌∷◌, [], false, true, length, IfOk, MatchResult};
 ghost use Rattle.profile.specs.MemoryMap.{module_area_maximum, module_area_start};
 ghost use Rattle.profile.specs.Outcome.{Gives};
-ghost use Rattle.address_map.specs.Bytes.{in_range, AreMapped};
-ghost use Rattle.address_map.specs.Memory.{is_mapped};
-ghost use Rattle.os_heap_words.specs.lists.Lists.{total_for};
+ghost use Rattle.dynamic_areas.specs.Bytes.{in_range, AreMapped};
+ghost use Rattle.dynamic_areas.specs.Memory.{is_mapped};
+ghost use Rattle.dynamic_areas.specs.OsHeapWordsLists.{total_for};
 ghost use Rattle.dynamic_areas.specs.Calls.{store_after_copy};
 ghost use Rattle.dynamic_areas.specs.Forgetting.{holds_heap};
-ghost use Rattle.address_map.specs.declared.region.Kind.TheVariants.{Image};
+ghost use Rattle.dynamic_areas.specs.Kind.TheVariants.{Image};
 ghost use Rattle.dynamic_areas.specs.Order.{AddsRecord, KeepsOrder};
 ghost use Rattle.dynamic_areas.specs.Store.{store_of, IsSound, has_image};
 ghost use Rattle.dynamic_areas.specs.Ground.{area_store_of};
@@ -18,8 +18,7 @@ ghost use Rattle.dynamic_areas.specs.Kept.{IsAreaMap};
 ghost use Rattle.rma.specs.Kept.{KeepsAreas, KeepsBlock};
 
 use crate::area::Rma;
-use address_map::AddressMap;
-use dynamic_areas::Areas;
+use dynamic_areas::{AddressMap, Areas};
 use profile::ErrorNumber;
 use profile::memory_map::RMA_MAXIMUM;
 

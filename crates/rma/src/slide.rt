@@ -2,8 +2,8 @@
 
 ghost use Rattle.profile.specs.MemoryMap.{module_area_start};
 ghost use Rattle.std.specs.Prelude.{◌≡◌};
-ghost use Rattle.address_map.specs.Memory.{regions};
-ghost use Rattle.address_map.specs.Moves.{moved_regions};
+ghost use Rattle.dynamic_areas.specs.Memory.{regions};
+ghost use Rattle.dynamic_areas.specs.Moves.{moved_regions};
 ghost use Rattle.dynamic_areas.specs.Store.{store_of};
 ghost use Rattle.rma.specs.heap_slide.Slide.{MaySlide, IsHeapSlid};
 ghost use Rattle.dynamic_areas.specs.Sound.{IsSoundMap};
@@ -11,7 +11,7 @@ ghost use Rattle.rma.specs.Kept.{KeepsMapped};
 
 use crate::area::Rma;
 use crate::heap_slide::{Moves, slide};
-use address_map::AddressMap;
+use dynamic_areas::AddressMap;
 use profile::memory_map::RMA_START;
 
 impl Rma {

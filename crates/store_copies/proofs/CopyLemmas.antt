@@ -9,9 +9,9 @@ use Rattle.address_map.proofs.Loads.{place_past}
 use Rattle.address_map.specs.declared.class.Class.{Class}
 use Rattle.address_map.specs.declared.map.AddressMap.{AddressMap}
 use Rattle.address_map.specs.declared.region.Region.{Region}
-use Rattle.dynamic_areas.specs.PageCounts.{AreasCountPages}
-use Rattle.os_heap.specs.Store.{Store, heaps_in, others_in, store_of}
-use Rattle.os_heap.proofs.Frame.{layout-regions}
+use Rattle.swi_dispatch_guest.specs.PageCounts.{AreasCountPages}
+use Rattle.swi_dispatch_guest.specs.Store.{Store, heaps_in, others_in, store_of}
+use Rattle.swi_dispatch_guest.proofs.OsHeapFrame.{layout-regions}
 use Rattle.swi_dispatch_guest.specs.Value.{IsMachine, MachineValue}
 
 -- how many pages below one are mapped

@@ -4,13 +4,13 @@ use Rattle.address_map.specs.Bytes.{Bytes}
 use Rattle.address_map.specs.Memory.{byte_at, bytes_of, class_of, is_mapped}
 use Rattle.address_map.specs.Classes.{is_anchor, is_flex_header}
 use Rattle.address_map.specs.declared.map.AddressMap.{AddressMap}
-use Rattle.os_heap.proofs.Frame.{store_bytes}
-use Rattle.os_heap.specs.Store.{Store, store_of}
-use Rattle.flex_store.specs.Blocks.{Block, bytes_taken_by_all}
-use Rattle.flex_store.specs.Memory.{AreAnchored, Holds, blocks_in, blocks_text_of}
-use Rattle.flex_store.specs.State.{AreAnchorWords, IsFlex, IsFlexAt, IsFlexRange, IsFlexStore, blocks_of, is_recorded}
-use Rattle.flex_store.specs.declared.flex.Extent.{Extent}
-use Rattle.flex_store.specs.declared.flex.Flex.{Flex}
+use Rattle.swi_dispatch_guest.proofs.OsHeapFrame.{store_bytes}
+use Rattle.swi_dispatch_guest.specs.Store.{Store, store_of}
+use Rattle.swi_dispatch_guest.specs.Blocks.{Block, bytes_taken_by_all}
+use Rattle.swi_dispatch_guest.specs.Memory.{AreAnchored, Holds, blocks_in, blocks_text_of}
+use Rattle.swi_dispatch_guest.specs.State.{AreAnchorWords, IsFlex, IsFlexAt, IsFlexRange, IsFlexStore, blocks_of, is_recorded}
+use Rattle.swi_dispatch_guest.specs.Extent.{Extent}
+use Rattle.swi_dispatch_guest.specs.Flex.{Flex}
 
 same_header : (m n : AddressMap) → store_of n ≡ store_of m → (a : ℕ) → is_flex_header (class_of n a) ≡ is_flex_header (class_of m a)
 unfolding store_of

@@ -7,7 +7,7 @@ use Rattle.address_map.specs.Memory.{byte_at, bytes_of, is_mapped}
 use Rattle.address_map.specs.declared.map.AddressMap.{AddressMap}
 use Rattle.address_map.proofs.Bytes.{byte_at-lt, is_mapped-page}
 use Rattle.address_map.proofs.Spans.{mapped_below}
-use Rattle.os_heap.proofs.Frame.{store_bytes}
+use Rattle.swi_dispatch_guest.proofs.OsHeapFrame.{store_bytes}
 use Rattle.swi_dispatch_guest.specs.MachineState.{MachineState}
 use Rattle.swi_dispatch_guest.specs.GuestState.{IsState}
 use Rattle.store_copies.specs.declared.changes.WordChange.{WordChange}

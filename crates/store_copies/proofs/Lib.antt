@@ -1,3 +1,5 @@
+pub use Rattle.swi_dispatch_guest.proofs.Found
+pub use Rattle.swi_dispatch_guest.proofs.Reading
 pub mod ChangeLemmas
 pub mod CopyLemmas
 pub mod FlexLemmas

@@ -9,10 +9,10 @@ use Rattle.address_map.specs.Bytes.{Bytes, in_range}
 use Rattle.address_map.specs.Memory.{bytes_of, is_mapped}
 use Rattle.address_map.specs.declared.map.AddressMap.{AddressMap}
 use Rattle.address_map.proofs.Bytes.{is_mapped-page}
-use Rattle.dynamic_areas.specs.declared.area.Area.{Area}
-use Rattle.dynamic_areas.specs.Areas.{AreaTable}
-use Rattle.dynamic_areas.specs.Ground.{is_fixed, is_in_area, is_area_table}
-use Rattle.os_heap.proofs.Frame.{store_bytes}
+use Rattle.swi_dispatch_guest.specs.Area.{Area}
+use Rattle.swi_dispatch_guest.specs.DynamicAreasAreas.{AreaTable}
+use Rattle.swi_dispatch_guest.specs.DynamicAreasGround.{is_fixed, is_in_area, is_area_table}
+use Rattle.swi_dispatch_guest.proofs.OsHeapFrame.{store_bytes}
 use Rattle.swi_dispatch_guest.specs.Value.{IsMachine, MachineValue}
 use Rattle.store_copies.specs.Pages.{AreUnmappedPages, IsNoStartBetween, IsNotBetween}
 use Rattle.store_copies.specs.Words.{word_changes_below}

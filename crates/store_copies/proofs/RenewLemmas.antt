@@ -13,11 +13,11 @@ use Rattle.address_map.specs.declared.map.AddressMap.{AddressMap}
 use Rattle.address_map.specs.declared.region.Region.{Region}
 use Rattle.address_map.proofs.Bytes.{byte_at-unmapped, is_mapped-layout, is_mapped-page}
 use Rattle.address_map.proofs.Loads.{place_past}
-use Rattle.flex_store.specs.State.{IsFlex, IsFlexAt, IsNoFlex}
-use Rattle.flex_store.specs.declared.flex.Extent.{Extent}
-use Rattle.flex_store.specs.declared.flex.Flex.{Flex}
-use Rattle.os_heap.proofs.Frame.{layout-regions}
-use Rattle.os_heap.specs.Store.{Store, heaps_in, others_in, store_of}
+use Rattle.swi_dispatch_guest.specs.State.{IsFlex, IsFlexAt, IsNoFlex}
+use Rattle.swi_dispatch_guest.specs.Extent.{Extent}
+use Rattle.swi_dispatch_guest.specs.Flex.{Flex}
+use Rattle.swi_dispatch_guest.proofs.OsHeapFrame.{layout-regions}
+use Rattle.swi_dispatch_guest.specs.Store.{Store, heaps_in, others_in, store_of}
 use Rattle.store_copies.specs.Copies.{IsLaidAlike}
 use Rattle.store_copies.specs.Pages.{AreUnmappedPages}
 

@@ -3,10 +3,10 @@
 use Rattle.std.specs.Prelude.{◌≡◌, ℕ, List}
 use Rattle.address_map.specs.Memory.{is_mapped, regions}
 use Rattle.address_map.specs.declared.map.AddressMap.{AddressMap}
-use Rattle.os_heap.specs.Store.{Store, store_of}
-use Rattle.flex_store.specs.State.{IsNoFlex}
-use Rattle.flex_store.specs.declared.flex.Flex.{Flex}
-use Rattle.instances_table.specs.Modules.{Module}
+use Rattle.swi_dispatch_guest.specs.Store.{Store, store_of}
+use Rattle.swi_dispatch_guest.specs.State.{IsNoFlex}
+use Rattle.swi_dispatch_guest.specs.Flex.{Flex}
+use Rattle.swi_dispatch_guest.specs.Modules.{Module}
 use Rattle.swi_dispatch_guest.specs.MachineState.{MachineState}
 
 pub record CopiedParts : Type 0 where

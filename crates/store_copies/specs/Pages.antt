@@ -6,7 +6,7 @@ use Rattle.std.specs.List.{All}
 use Rattle.profile.specs.MemoryMap.{application_start, system_start}
 use Rattle.address_map.specs.Memory.{is_mapped}
 use Rattle.address_map.specs.declared.map.AddressMap.{AddressMap}
-use Rattle.dynamic_areas.specs.declared.area.Area.{Area}
+use Rattle.swi_dispatch_guest.specs.Area.{Area}
 
 -- from one page up to another none is mapped
 abbrev pub AreUnmappedPages : AddressMap → ℕ → ℕ → Type 0

@@ -12,5 +12,7 @@ pub mod store_copy;
 pub use changes::{
     MOST_CHANGES, PageRange, WordChange, WordChanges, changed_words, changed_words_in,
 };
-pub use instances::{InstanceInfo, Instances, ModuleInfo};
 pub use store_copy::StoreCopy;
+pub use swi_dispatch_guest::{
+    Area, Blocks, Flex, FlexBlock, FlexBlocks, Heaps, InstanceInfo, Instances, ModuleInfo,
+};

@@ -1,13 +1,12 @@
 //! The pages of a machine's memory that are mapped, found without a look at each that isn't.
 
 ghost use Rattle.std.specs.Prelude.{ℕ, ◌≡◌, ◌≤◌, ◌<◌, ◌*◌, ◌^◌, false};
-ghost use Rattle.dynamic_areas.specs.Areas.{AreaTable};
+ghost use Rattle.swi_dispatch_guest.specs.DynamicAreasAreas.{AreaTable};
 ghost use Rattle.address_map.specs.Memory.{is_mapped};
 ghost use Rattle.store_copies.specs.Pages.{AreUnmappedPages, IsNoStartBetween};
 
-use dynamic_areas::Area;
 use profile::memory_map::{ADDRESS_LIMIT, APPLICATION_START, PAGE_SIZE, SYSTEM_START};
-use swi_dispatch_guest::Machine;
+use swi_dispatch_guest::{Area, Machine};
 
 /// How many pages the address space has.
 pub(crate) const PAGES: u32 = ADDRESS_LIMIT / PAGE_SIZE;

@@ -2,20 +2,17 @@
 
 ghost use Rattle.std.specs.Prelude.{◌≡◌, ◌≤◌, ℕ, true, IfOk};
 ghost use Rattle.address_map.specs.Memory.{byte_at, class_of, layout, page_total};
-ghost use Rattle.flex_store.specs.State.{IsFlex};
-ghost use Rattle.os_heap.specs.Store.{IsSound, store_of};
+ghost use Rattle.swi_dispatch_guest.specs.State.{IsFlex};
+ghost use Rattle.swi_dispatch_guest.specs.Store.{IsSound, store_of};
 ghost use Rattle.swi_dispatch_guest.specs.GuestState.{state_of};
 ghost use Rattle.store_copies.specs.Copies.{IsLaidAlike, kept_in, kept_of};
 
 use crate::pages::{PAGES, past_unmapped};
 use address_map::{AddressMap, pages_are_counted};
-use dynamic_areas::areas_count_pages;
-use flex_store::Flex;
-use instances::Instances;
 use profile::memory_map::PAGE_SIZE;
 use std::alloc::{AllocError, Global};
 use std::marker::Model;
-use swi_dispatch_guest::Machine;
+use swi_dispatch_guest::{Flex, Instances, Machine, areas_count_pages};
 
 /// A copy of a machine's memory, with its heaps and what is recorded in it, of its modules, and of where
 /// its flex store is.
@@ -31,8 +28,8 @@ pub struct StoreCopy {
 impl Model for StoreCopy {
     ghost use Rattle.std.specs.Prelude.{◌≡◌};
     ghost use Rattle.address_map.specs.Memory.{page_total};
-    ghost use Rattle.os_heap.specs.Store.{IsSound, store_of};
-    ghost use Rattle.flex_store.specs.State.{IsFlex};
+    ghost use Rattle.swi_dispatch_guest.specs.Store.{IsSound, store_of};
+    ghost use Rattle.swi_dispatch_guest.specs.State.{IsFlex};
     ghost use Rattle.store_copies.specs.Copies.{CopiedParts};
 
     ghost Value = { CopiedParts };
@@ -45,7 +42,7 @@ impl Model for StoreCopy {
 
 impl StoreCopy {
     ghost use Rattle.address_map.specs.Memory.{bytes_of};
-    ghost use Rattle.flex_store.specs.State.{IsFlex};
+    ghost use Rattle.swi_dispatch_guest.specs.State.{IsFlex};
 
     /// A copy of a machine's store as it is.
     ///

@@ -16,5 +16,6 @@ pub mod strings;
 pub mod words;
 
 pub use arm_core::{Cpu, Mode, Psr};
+pub use instances_table::plans::{Given, private_word};
 pub use refusal::Refusal;
 pub use strings::{MAX_TEXT, TextEnd};

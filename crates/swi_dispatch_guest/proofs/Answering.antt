@@ -2,8 +2,8 @@
 use Rattle.std.proofs.Common.{◌≡◌, ℕ, Bool, true, false, List, [], Result, Ok, Err, Some, refl, sym, ◌∙◌, ap}
 use Rattle.std.specs.Prelude.{OnErr}
 use Rattle.profile.specs.Outcome.{Leaves}
-use Rattle.swi_dispatch_answers.specs.declared.refusal.Refusal.{Refusal}
-use Rattle.swi_dispatch_answers.specs.declared.frames.call.Call.{Call}
+use Rattle.swi_dispatch_plans.specs.Refusal.{Refusal}
+use Rattle.swi_dispatch_plans.specs.Call.{Call}
 use Rattle.swi_dispatch_guest.specs.MachineState.{MachineState, StepOutcome, outcome_with, silent}
 use Rattle.swi_dispatch_guest.specs.Answers.{Answer, went_on}
 use Rattle.swi_dispatch_guest.specs.GuestState.{Answers}

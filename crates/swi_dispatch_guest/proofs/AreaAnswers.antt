@@ -9,15 +9,15 @@ use Rattle.profile.specs.declared.fault.Fault.TheVariants.{ErrorStop}
 use Rattle.profile.specs.declared.swi.SwiName.{SwiName}
 use Rattle.profile.specs.declared.swi.SwiName.TheVariants as swi
 use Rattle.profile.specs.ErrorNames.{error_code}
-use Rattle.arm_core.specs.State.{State, register_of, slot_of, with_register}
-use Rattle.dynamic_areas.specs.declared.area.Area.{Area}
-use Rattle.dynamic_areas.specs.Areas.{find_area}
-use Rattle.dynamic_areas.specs.Ground.{AreAreas}
-use Rattle.dynamic_areas.proofs.HeapCalls.{system_mapped}
-use Rattle.dynamic_areas.proofs.SystemPages.{change_keeps_system}
+use Rattle.arm_run.specs.State.{State, register_of, slot_of, with_register}
+use Rattle.swi_dispatch_plans.specs.Area.{Area}
+use Rattle.swi_dispatch_plans.specs.Areas.{find_area}
+use Rattle.swi_dispatch_plans.specs.Ground.{AreAreas}
+use Rattle.swi_dispatch_plans.proofs.HeapCalls.{system_mapped}
+use Rattle.swi_dispatch_plans.proofs.SystemPages.{change_keeps_system}
 use Rattle.swi_dispatch_guest.specs.declared.halt.Halt.TheVariants as halt
-use Rattle.swi_dispatch_answers.specs.declared.refusal.Refusal.{Refusal}
-use Rattle.swi_dispatch_answers.specs.declared.refusal.Refusal.TheVariants as refusal
+use Rattle.swi_dispatch_plans.specs.Refusal.{Refusal}
+use Rattle.swi_dispatch_plans.specs.Refusal.TheVariants as refusal
 use Rattle.swi_dispatch_plans.specs.store.Areas.{change_asked, change_left}
 use Rattle.swi_dispatch_guest.specs.Calls.{area_changing, call_answer, moving_error, with_guest}
 use Rattle.swi_dispatch_guest.specs.MachineState.{MachineState, machine_area_store, outcome_with, silent}

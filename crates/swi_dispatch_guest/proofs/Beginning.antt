@@ -2,8 +2,8 @@
 use Rattle.std.proofs.Common.{◌≡◌, ℕ, Bool, Option, Ok, Err, ap, subst, sym, ◌∙◌}
 use Rattle.std.specs.Prelude.{OnErr, Result}
 use Rattle.profile.specs.declared.error.ErrorNumber.{ErrorNumber}
-use Rattle.instances_table.specs.plans.Plans.{Plan}
-use Rattle.swi_dispatch_answers.specs.declared.frames.call.Call.{Call}
+use Rattle.swi_dispatch_plans.specs.Plans.{Plan}
+use Rattle.swi_dispatch_plans.specs.Call.{Call}
 use Rattle.swi_dispatch_guest.specs.Additions.{Planned, Starts}
 use Rattle.swi_dispatch_guest.specs.Gates.{state_after_plan}
 use Rattle.swi_dispatch_guest.specs.MachineState.{MachineState, StepOutcome, silent}

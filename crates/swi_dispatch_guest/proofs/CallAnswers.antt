@@ -3,7 +3,7 @@ use Rattle.std.proofs.Common.{◌≡◌, ℕ, List, [], Option, Some, Result, re
 use Rattle.profile.specs.Outcome.{Leaves}
 use Rattle.profile.specs.declared.swi.SwiName.{SwiName}
 use Rattle.profile.specs.declared.swi.SwiName.TheVariants as swi
-use Rattle.swi_dispatch_answers.specs.declared.refusal.Refusal.{Refusal}
+use Rattle.swi_dispatch_plans.specs.Refusal.{Refusal}
 use Rattle.swi_dispatch_plans.specs.store.Areas.{area_called, area_read}
 use Rattle.swi_dispatch_plans.specs.store.Heaps.{heap_called}
 use Rattle.swi_dispatch_plans.specs.modules.Calls.{result_of_module_call}

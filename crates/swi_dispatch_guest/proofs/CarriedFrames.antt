@@ -2,19 +2,19 @@
 -- that its plan names.
 use Rattle.std.proofs.Common.{◌≡◌, false, Option, Some, None, Ok, Err, List, ◌∷◌, refl, sym, ap, ◌∙◌}
 use Rattle.std.specs.Prelude.{IfSome, Result, is_some, if◌then◌else◌}
-use Rattle.arm_core.specs.State.{State}
+use Rattle.arm_run.specs.State.{State}
 use Rattle.profile.specs.declared.images.module_header.fault.HeaderFault.{HeaderFault}
 use Rattle.profile.specs.declared.images.module_header.header.Header.{Header}
-use Rattle.instances_table.specs.declared.plans.code.Code.{Code}
-use Rattle.instances_table.specs.plans.Plans.{Plan, first_action}
-use Rattle.instances_table.specs.Changes.{modules_of_title}
-use Rattle.instances_table.specs.Modules.{Module, slots_of}
-use Rattle.instances.specs.Naming.{KeepsOtherInstances, NamesTitled, slots_of_kept, slots_of_plan}
-use Rattle.swi_dispatch_answers.specs.declared.frames.call.Call.{Call}
-use Rattle.swi_dispatch_answers.specs.declared.frames.frame.Frame.{Frame}
-use Rattle.swi_dispatch_answers.specs.declared.frames.frame.FrameKind.TheVariants.{Entry}
-use Rattle.swi_dispatch_answers.specs.frames.Busy.{has_swi_of, is_swi}
-use Rattle.swi_dispatch_answers.specs.frames.Frames.{frames_after_close, frame_of, innermost_frame}
+use Rattle.swi_dispatch_plans.specs.Code.{Code}
+use Rattle.swi_dispatch_plans.specs.Plans.{Plan, first_action}
+use Rattle.swi_dispatch_plans.specs.Changes.{modules_of_title}
+use Rattle.swi_dispatch_plans.specs.InstancesTableModules.{Module, slots_of}
+use Rattle.swi_dispatch_plans.specs.Naming.{KeepsOtherInstances, NamesTitled, slots_of_kept, slots_of_plan}
+use Rattle.swi_dispatch_plans.specs.Call.{Call}
+use Rattle.swi_dispatch_plans.specs.Frame.{Frame}
+use Rattle.swi_dispatch_plans.specs.FrameKind.TheVariants.{Entry}
+use Rattle.swi_dispatch_plans.specs.Busy.{has_swi_of, is_swi}
+use Rattle.swi_dispatch_plans.specs.Frames.{frames_after_close, frame_of, innermost_frame}
 use Rattle.swi_dispatch_guest.specs.Gates.{plan_unless_code, frames_by, kept_by}
 use Rattle.swi_dispatch_guest.specs.MachineState.{MachineState, Tables, setting_of}
 use Rattle.swi_dispatch_guest.specs.OpenFrames.{AreFrames, AreHeld, entries, entry_called}

@@ -3,20 +3,20 @@ use Rattle.profile.specs.MemoryMap.{error_block_start}
 use Rattle.std.proofs.Common.{◌≡◌, ◌≢◌, ◌<◌, ◌^◌, ◌+◌, ◌*◌, ◌/◌, ◌%◌, ℕ, Bool, true, List, length, refl, sym, ◌∙◌, ap, arith, rules, get_or-set_other, get_or-set_same}
 use Rattle.profile.specs.declared.error.ErrorNumber.{ErrorNumber}
 use Rattle.profile.specs.ErrorNames.{error_code, error_name}
-use Rattle.address_map.specs.Bytes.{Bytes, word_loaded}
-use Rattle.address_map.specs.Memory.{free_pages}
-use Rattle.arm_core.specs.declared.psr.Mode.{Mode}
-use Rattle.arm_core.specs.declared.psr.Psr.{Psr}
-use Rattle.arm_core.specs.State.{State, slot_of, register_of, with_register}
+use Rattle.os_heap.specs.Bytes.{Bytes, word_loaded}
+use Rattle.os_heap.specs.Memory.{free_pages}
+use Rattle.arm_run.specs.Mode.{Mode}
+use Rattle.arm_run.specs.Psr.{Psr}
+use Rattle.arm_run.specs.State.{State, slot_of, register_of, with_register}
 use Rattle.os_heap.specs.Store.{store_of}
-use Rattle.dynamic_areas.proofs.HeapCalls.{system_mapped}
-use Rattle.swi_dispatch_answers.specs.declared.refusal.Refusal.TheVariants as refusal
+use Rattle.swi_dispatch_plans.proofs.HeapCalls.{system_mapped}
+use Rattle.swi_dispatch_plans.specs.Refusal.TheVariants as refusal
 use Rattle.swi_dispatch_plans.proofs.ModuleCode.{first_slot}
 use Rattle.swi_dispatch_guest.specs.MachineState.{MachineState}
 use Rattle.swi_dispatch_guest.specs.Errors.{error_number, with_error}
-use Rattle.swi_dispatch_answers.specs.Errors.{error_at, memory_with_error}
+use Rattle.swi_dispatch_plans.specs.Errors.{error_at, memory_with_error}
 use Rattle.swi_dispatch_guest.specs.Returns.{gone_back}
-use Rattle.swi_dispatch_answers.specs.Returns.{state_after_return, return_word}
+use Rattle.swi_dispatch_plans.specs.Returns.{state_after_return, return_word}
 use Rattle.swi_dispatch_guest.specs.GuestState.{GuestState, IsWellFormed, state_of}
 
 -- R0 is the same register in all modes

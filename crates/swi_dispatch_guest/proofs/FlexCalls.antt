@@ -2,23 +2,23 @@
 -- they leave of it.
 use Rattle.std.proofs.Common.{◌≡◌, ◌≤◌, ◌<◌, Bool, true, false, List, [], Option, Some, None, Result, Ok, Err, length, lit≤, refl, sym, ◌∙◌, ap, subst}
 use Rattle.profile.specs.Outcome.{Leaves}
-use Rattle.address_map.specs.declared.map.AddressMap.{AddressMap}
-use Rattle.address_map.specs.Memory.{free_pages}
-use Rattle.arm_core.specs.State.{State}
+use Rattle.os_heap.specs.AddressMap.{AddressMap}
+use Rattle.os_heap.specs.Memory.{free_pages}
+use Rattle.arm_run.specs.State.{State}
 use Rattle.swi_dispatch_plans.specs.flex.Flex.{Flex}
-use Rattle.instances.proofs.ModuleStateLemmas.ModuleStates.{few_records}
-use Rattle.instances.specs.module_state.Sound.{IsModuleState}
-use Rattle.instances.specs.module_state.ModuleState.{ModuleState, module_state_of}
-use Rattle.instances_table.specs.declared.plans.given.Given.{Given}
-use Rattle.instances_table.specs.plans.Plans.{Plan}
-use Rattle.instances_table.specs.declared.parts.Image.{Image}
-use Rattle.instances_table.specs.Modules.{Module, slots_of}
-use Rattle.swi_dispatch_answers.specs.declared.refusal.Refusal.{Refusal}
+use Rattle.swi_dispatch_plans.proofs.ModuleStates.{few_records}
+use Rattle.swi_dispatch_plans.specs.Sound.{IsModuleState}
+use Rattle.swi_dispatch_plans.specs.ModuleState.{ModuleState, module_state_of}
+use Rattle.swi_dispatch_plans.specs.Given.{Given}
+use Rattle.swi_dispatch_plans.specs.Plans.{Plan}
+use Rattle.swi_dispatch_plans.specs.Image.{Image}
+use Rattle.swi_dispatch_plans.specs.InstancesTableModules.{Module, slots_of}
+use Rattle.swi_dispatch_plans.specs.Refusal.{Refusal}
 use Rattle.swi_dispatch_plans.specs.flex.Calls.{FlexMemory, memory_of}
 use Rattle.swi_dispatch_plans.specs.flex.Leaving.{CanCallFlex, LeavesFlex}
-use Rattle.instances.specs.Turns.{MayGoOn}
-use Rattle.instances.specs.actions.Pending.{is_pending, pending_by, pending_of}
-use Rattle.instances.specs.actions.Ready.{IsReady}
+use Rattle.swi_dispatch_plans.specs.Turns.{MayGoOn}
+use Rattle.swi_dispatch_plans.specs.Pending.{is_pending, pending_by, pending_of}
+use Rattle.swi_dispatch_plans.specs.Ready.{IsReady}
 use Rattle.swi_dispatch_guest.specs.declared.halt.Halt.{Halt}
 use Rattle.swi_dispatch_guest.specs.Calls.{on_flex}
 use Rattle.swi_dispatch_guest.specs.MachineState.{Tables}

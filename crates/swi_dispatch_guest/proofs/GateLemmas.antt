@@ -2,28 +2,28 @@
 -- the definitions.
 use Rattle.std.proofs.Common.{◌≡◌, ℕ, true, false, Some, None, Ok, Err, List, [], ◌∷◌, refl, sym, ap, subst, ◌∙◌}
 use Rattle.std.specs.Prelude.{Option, Result}
-use Rattle.dynamic_areas.specs.Ground.{IsAreaStore, IsRecorded, system_pages_range}
-use Rattle.instances_table.specs.declared.parts.Image.{Image}
-use Rattle.instances_table.specs.Modules.{Module, slots_of}
-use Rattle.address_map.specs.declared.map.AddressMap.{AddressMap}
-use Rattle.dynamic_areas.specs.Areas.{AreaTable}
-use Rattle.instances.proofs.RmaKeeping.{keeps_then}
+use Rattle.swi_dispatch_plans.specs.Ground.{IsAreaStore, IsRecorded, system_pages_range}
+use Rattle.swi_dispatch_plans.specs.Image.{Image}
+use Rattle.swi_dispatch_plans.specs.InstancesTableModules.{Module, slots_of}
+use Rattle.os_heap.specs.AddressMap.{AddressMap}
+use Rattle.swi_dispatch_plans.specs.Areas.{AreaTable}
+use Rattle.swi_dispatch_plans.proofs.Keeping.{keeps_then}
 use Rattle.os_heap.specs.Store.{AreClasses, store_of}
 use Rattle.profile.specs.Outcome.{Gives}
 use Rattle.profile.specs.declared.error.ErrorNumber.{ErrorNumber}
-use Rattle.instances_table.specs.declared.plans.action.PlanAction.{PlanAction}
-use Rattle.instances_table.specs.declared.plans.code.Code.{Code}
-use Rattle.instances_table.specs.declared.plans.code.Outcome.{Outcome as CodeOutcome}
-use Rattle.instances_table.specs.declared.plans.code.Outcome.TheVariants.{Well}
-use Rattle.instances_table.specs.plans.Carrying.{Carried, Doing, carry_of_plan, carried_by, carried_from}
-use Rattle.instances_table.specs.plans.Plans.{Plan, plan_after_code}
-use Rattle.instances.specs.module_state.Sound.{IsModuleState}
-use Rattle.instances.specs.module_state.ModuleState.{ModuleState, module_state_of}
-use Rattle.instances.specs.Turns.{IsUnderWay, MayGoOn, module_doing}
-use Rattle.instances.specs.actions.Pending.{pending_of}
-use Rattle.arm_core.specs.State.{State}
-use Rattle.swi_dispatch_answers.specs.declared.frames.call.Call.{Call}
-use Rattle.swi_dispatch_answers.specs.declared.frames.frame.Frame.{Frame}
+use Rattle.swi_dispatch_plans.specs.PlanAction.{PlanAction}
+use Rattle.swi_dispatch_plans.specs.Code.{Code}
+use Rattle.swi_dispatch_plans.specs.Outcome.{Outcome as CodeOutcome}
+use Rattle.swi_dispatch_plans.specs.Outcome.TheVariants.{Well}
+use Rattle.swi_dispatch_plans.specs.Carrying.{Carried, Doing, carry_of_plan, carried_by, carried_from}
+use Rattle.swi_dispatch_plans.specs.Plans.{Plan, plan_after_code}
+use Rattle.swi_dispatch_plans.specs.Sound.{IsModuleState}
+use Rattle.swi_dispatch_plans.specs.ModuleState.{ModuleState, module_state_of}
+use Rattle.swi_dispatch_plans.specs.Turns.{IsUnderWay, MayGoOn, module_doing}
+use Rattle.swi_dispatch_plans.specs.Pending.{pending_of}
+use Rattle.arm_run.specs.State.{State}
+use Rattle.swi_dispatch_plans.specs.Call.{Call}
+use Rattle.swi_dispatch_plans.specs.Frame.{Frame}
 use Rattle.profile.specs.declared.fault.Fault.TheVariants.{ErrorStop}
 use Rattle.swi_dispatch_guest.specs.declared.halt.Halt.TheVariants as halt
 use Rattle.swi_dispatch_guest.specs.Gates.{Resumes, carried_on, come_back, ended_of, fault_kept, state_after_plan, kept_by, state_with_code_entered, outcome_left, plan_left, with_code}
@@ -36,7 +36,7 @@ use Rattle.swi_dispatch_guest.specs.GuestState.{IsWellFormed, GuestState, parts_
 use Rattle.swi_dispatch_guest.specs.Returns.{outcome_of_halt}
 use Rattle.swi_dispatch_guest.specs.Step.{begun_alone, call_of, outcome_of_planned}
 use Rattle.swi_dispatch_plans.specs.flex.Ground.{HasFlex}
-use Rattle.instances.specs.flex_frame.Keeping.{KeepsFlex}
+use Rattle.swi_dispatch_plans.specs.Keeping.{KeepsFlex}
 use Rattle.swi_dispatch_guest.proofs.CarriedFrames.{AreBeneath, opened_frames}
 use Rattle.swi_dispatch_guest.proofs.Kept.{flex_by}
 use Rattle.swi_dispatch_guest.proofs.OpenFrames.{frames_kept}

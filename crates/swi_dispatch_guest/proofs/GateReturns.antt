@@ -1,16 +1,16 @@
 -- A SWI of a module goes back: what that leaves is what a step at the gate leaves.
 use Rattle.std.proofs.Common.{◌≡◌, ℕ, true, false, Some, refl, ap, ◌∙◌}
 use Rattle.std.specs.Prelude.{if◌then◌else◌, Bool, Option, ◌==◌, ◌&&◌, not}
-use Rattle.arm_core.specs.declared.psr.Mode.TheVariants.{Supervisor}
-use Rattle.arm_core.specs.State.{register_in}
-use Rattle.instances_table.specs.declared.plans.code.CodeKind.{CodeKind}
-use Rattle.instances_table.specs.plans.Plans.{Plan}
+use Rattle.arm_run.specs.Mode.TheVariants.{Supervisor}
+use Rattle.arm_run.specs.State.{register_in}
+use Rattle.swi_dispatch_plans.specs.CodeKind.{CodeKind}
+use Rattle.swi_dispatch_plans.specs.Plans.{Plan}
 use Rattle.profile.specs.declared.fault.Fault.TheVariants.{ErrorStop}
-use Rattle.swi_dispatch_answers.specs.frames.Busy.{is_swi}
-use Rattle.swi_dispatch_answers.specs.frames.Frames.{innermost_frame}
-use Rattle.swi_dispatch_answers.specs.declared.frames.frame.Frame.{Frame}
-use Rattle.swi_dispatch_answers.specs.declared.frames.frame.FrameKind.{FrameKind}
-use Rattle.swi_dispatch_answers.specs.declared.frames.frame.FrameKind.TheVariants.{Swi, Entry}
+use Rattle.swi_dispatch_plans.specs.Busy.{is_swi}
+use Rattle.swi_dispatch_plans.specs.Frames.{innermost_frame}
+use Rattle.swi_dispatch_plans.specs.Frame.{Frame}
+use Rattle.swi_dispatch_plans.specs.FrameKind.{FrameKind}
+use Rattle.swi_dispatch_plans.specs.FrameKind.TheVariants.{Swi, Entry}
 use Rattle.swi_dispatch_guest.specs.declared.halt.Halt.TheVariants as halt
 use Rattle.swi_dispatch_guest.specs.Errors.{error_number}
 use Rattle.swi_dispatch_guest.specs.Gates.{IsUntaken, frame_closed, frame_left, outcome_of_gate}

@@ -8,32 +8,32 @@ use Rattle.std.proofs.lemmas.Bool.Decides.{nat_tests}
 use Rattle.profile.specs.Outcome.{bind, Leaves}
 use Rattle.profile.specs.Sizes.{Sizes, AreGood}
 use Rattle.profile.specs.declared.fault.Fault.{Fault}
-use Rattle.address_map.specs.declared.map.AddressMap.{AddressMap}
-use Rattle.address_map.specs.Bytes.{Bytes, in_range, ok_unless_fault, store_fault, word_stored, with_word, with_word_at, with_bytes_at, with_bytes}
-use Rattle.address_map.specs.Memory.{bytes_of, byte_at, free_pages, Layout, layout, class_of, is_owned}
-use Rattle.address_map.proofs.Equations.{stored_bytes}
-use Rattle.address_map.proofs.Words.{unowned}
-use Rattle.arm_core.specs.State.{State}
-use Rattle.arm_step.specs.OwnedBytes.{IsByWords, KeepsOwnedBytes}
-use Rattle.address_map.specs.declared.region.Kind.TheVariants.{Rma}
+use Rattle.os_heap.specs.AddressMap.{AddressMap}
+use Rattle.os_heap.specs.Bytes.{Bytes, in_range, ok_unless_fault, store_fault, word_stored, with_word, with_word_at, with_bytes_at, with_bytes}
+use Rattle.os_heap.specs.Memory.{bytes_of, byte_at, free_pages, Layout, layout, class_of, is_owned}
+use Rattle.os_heap.proofs.Equations.{stored_bytes}
+use Rattle.arm_run.proofs.Words.{unowned}
+use Rattle.arm_run.specs.State.{State}
+use Rattle.arm_run.specs.OwnedBytes.{IsByWords, KeepsOwnedBytes}
+use Rattle.os_heap.specs.Kind.TheVariants.{Rma}
 use Rattle.os_heap.specs.lists.Heap.{HeapList}
 use Rattle.os_heap.specs.Store.{Store, store_of, owned_in, AreClasses, IsSound}
 use Rattle.os_heap.proofs.Frame.{IsKept, clear_kept, heads_kept, owned_word, spelled_owned}
 use Rattle.os_heap.proofs.Owned.{owned_marks}
-use Rattle.dynamic_areas.specs.Ground.{AreAreas, IsRecorded, system_pages_range}
-use Rattle.dynamic_areas.proofs.HeapCalls.{areas_written}
-use Rattle.dynamic_areas.proofs.SystemWrites.{kept_classes, system_kept}
+use Rattle.swi_dispatch_plans.specs.Ground.{AreAreas, IsRecorded, system_pages_range}
+use Rattle.swi_dispatch_plans.proofs.HeapCalls.{areas_written}
+use Rattle.swi_dispatch_plans.proofs.SystemWrites.{kept_classes, system_kept}
 use Rattle.swi_dispatch_guest.specs.declared.halt.Halt.{Halt}
 use Rattle.swi_dispatch_guest.specs.MachineState.{MachineState, Tables, with_memory}
 use Rattle.swi_dispatch_plans.proofs.FlexLemmas.Kept.{flex_frame, flex_stored}
 use Rattle.swi_dispatch_plans.specs.flex.Ground.{HasFlex}
 use Rattle.swi_dispatch_plans.specs.flex.Flex.{Flex}
-use Rattle.dynamic_areas.specs.Areas.{AreaTable}
-use Rattle.instances.proofs.Writes.{system_keeps}
-use Rattle.instances.specs.flex_frame.Keeping.{KeepsFlex}
-use Rattle.instances_table.specs.Modules.{slots_of}
-use Rattle.instances.specs.Turns.{MayGoOn}
-use Rattle.instances.proofs.GoingOn.{may_go_on_kept}
+use Rattle.swi_dispatch_plans.specs.Areas.{AreaTable}
+use Rattle.swi_dispatch_plans.proofs.Writes.{system_keeps}
+use Rattle.swi_dispatch_plans.specs.Keeping.{KeepsFlex}
+use Rattle.swi_dispatch_plans.specs.InstancesTableModules.{slots_of}
+use Rattle.swi_dispatch_plans.specs.Turns.{MayGoOn}
+use Rattle.swi_dispatch_plans.proofs.GoingOn.{may_go_on_kept}
 use Rattle.swi_dispatch_guest.specs.OpenFrames.{AreFrames}
 use Rattle.swi_dispatch_guest.specs.GuestState.{GuestState, IsWellFormed, parts_module_state}
 use Rattle.swi_dispatch_guest.specs.Writes.{machine_after_poke, with_program}

@@ -1,4 +1,19 @@
+pub use Rattle.arm_run.proofs.Framing
 pub use Rattle.os_heap.proofs.Found
+pub use Rattle.os_heap.proofs.Frame as OsHeapFrame
+pub use Rattle.os_heap.proofs.Owned
+pub use Rattle.os_heap.proofs.Reading
+pub use Rattle.os_heap.proofs.Spans
+pub use Rattle.swi_dispatch_plans.proofs.FlexFrameLemmas.AreaLemmas
+pub use Rattle.swi_dispatch_plans.proofs.FlexFrameLemmas.Calls as SwiDispatchPlansCalls
+pub use Rattle.swi_dispatch_plans.proofs.FlexFrameLemmas.Choosing
+pub use Rattle.swi_dispatch_plans.proofs.FlexFrameLemmas.InstancesModuleStates
+pub use Rattle.swi_dispatch_plans.proofs.FlexFrameLemmas.Kept as SwiDispatchPlansKept
+pub use Rattle.swi_dispatch_plans.proofs.FlexFrameLemmas.LawLemmas
+pub use Rattle.swi_dispatch_plans.proofs.FlexFrameLemmas.ModuleStates
+pub use Rattle.swi_dispatch_plans.proofs.FlexFrameLemmas.NameLemmas
+pub use Rattle.swi_dispatch_plans.proofs.FlexFrameLemmas.Tidying
+pub use Rattle.swi_dispatch_plans.proofs.ModuleCode
 pub mod Answering
 pub mod AreaAnswers
 pub mod Beginning

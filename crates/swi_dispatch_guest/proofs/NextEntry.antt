@@ -4,29 +4,29 @@ use Rattle.profile.specs.MemoryMap.{environment_text_start}
 use Rattle.std.proofs.Common.{◌≡◌, ℕ, ◌==◌, Option, Some, None, List, [], ◌∷◌, refl, sym, ap, subst, ◌∙◌, inl, inr}
 use Rattle.std.specs.Prelude.{IfSome, slice_get}
 use Rattle.std.proofs.lemmas.Bool.{cases_Bool}
-use Rattle.instances_table.specs.declared.plans.action.PlanAction.{PlanAction}
-use Rattle.instances_table.specs.declared.plans.action.PlanAction.TheVariants as act
-use Rattle.instances_table.specs.declared.plans.code.Code.{Code}
-use Rattle.instances_table.specs.declared.plans.code.CodeKind.{CodeKind}
-use Rattle.instances_table.specs.declared.plans.code.CodeKind.TheVariants as kind
-use Rattle.instances_table.specs.plans.Carrying.{Carried, carry_of_plan, carried_by, carried_from}
-use Rattle.instances_table.specs.plans.Plans.{Plan, first_action, plan_after_code}
-use Rattle.instances_table.specs.declared.parts.Place.{Place}
-use Rattle.instances_table.specs.Lookup.{place_of_slot}
-use Rattle.instances_table.specs.Modules.{Module}
-use Rattle.instances.specs.module_state.ModuleState.{ModuleState, module_state_of}
-use Rattle.instances.specs.Turns.{IsUnderWay, module_doing}
-use Rattle.instances.specs.actions.Codes.{code_among, code_at, code_to_enter, entered_at, entered_in, entry_offset, fatal_word}
-use Rattle.address_map.specs.declared.map.AddressMap.{AddressMap}
-use Rattle.arm_core.specs.State.{State}
-use Rattle.dynamic_areas.specs.Areas.{AreaTable}
+use Rattle.swi_dispatch_plans.specs.PlanAction.{PlanAction}
+use Rattle.swi_dispatch_plans.specs.PlanAction.TheVariants as act
+use Rattle.swi_dispatch_plans.specs.Code.{Code}
+use Rattle.swi_dispatch_plans.specs.CodeKind.{CodeKind}
+use Rattle.swi_dispatch_plans.specs.CodeKind.TheVariants as kind
+use Rattle.swi_dispatch_plans.specs.Carrying.{Carried, carry_of_plan, carried_by, carried_from}
+use Rattle.swi_dispatch_plans.specs.Plans.{Plan, first_action, plan_after_code}
+use Rattle.swi_dispatch_plans.specs.Place.{Place}
+use Rattle.swi_dispatch_plans.specs.Lookup.{place_of_slot}
+use Rattle.swi_dispatch_plans.specs.InstancesTableModules.{Module}
+use Rattle.swi_dispatch_plans.specs.ModuleState.{ModuleState, module_state_of}
+use Rattle.swi_dispatch_plans.specs.Turns.{IsUnderWay, module_doing}
+use Rattle.swi_dispatch_plans.specs.Codes.{code_among, code_at, code_to_enter, entered_at, entered_in, entry_offset, fatal_word}
+use Rattle.os_heap.specs.AddressMap.{AddressMap}
+use Rattle.arm_run.specs.State.{State}
+use Rattle.swi_dispatch_plans.specs.Areas.{AreaTable}
 use Rattle.os_heap.specs.Store.{AreClasses, store_of}
-use Rattle.instances.specs.flex_frame.Keeping.{KeepsFlex}
-use Rattle.instances.specs.module_state.Sound.{IsModuleState}
-use Rattle.instances.specs.Naming.{KeepsOtherInstances}
-use Rattle.instances_table.specs.declared.plans.code.Outcome.{Outcome as CodeOutcome}
-use Rattle.swi_dispatch_answers.specs.declared.frames.call.Call.{Call}
-use Rattle.swi_dispatch_answers.specs.declared.frames.frame.Frame.{Frame}
+use Rattle.swi_dispatch_plans.specs.Keeping.{KeepsFlex}
+use Rattle.swi_dispatch_plans.specs.Sound.{IsModuleState}
+use Rattle.swi_dispatch_plans.specs.Naming.{KeepsOtherInstances}
+use Rattle.swi_dispatch_plans.specs.Outcome.{Outcome as CodeOutcome}
+use Rattle.swi_dispatch_plans.specs.Call.{Call}
+use Rattle.swi_dispatch_plans.specs.Frame.{Frame}
 use Rattle.swi_dispatch_plans.specs.ModuleCode.{core_by, frames_by, kept_by, plan_unless_code}
 use Rattle.swi_dispatch_guest.specs.Carried.{IsCarriedNext}
 use Rattle.swi_dispatch_guest.specs.OpenFrames.{entry_called}

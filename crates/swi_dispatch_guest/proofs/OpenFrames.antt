@@ -5,16 +5,16 @@ use Rattle.std.specs.List.{All, list_any}
 use Rattle.std.proofs.lemmas.Bool.{false≢true, or_parts}
 use Rattle.std.proofs.lemmas.List.{take-append-drop}
 use Rattle.std.proofs.lemmas.List.Elements.{All-cons, All-head, All-nil, All-push, All-tail, All-take}
-use Rattle.instances.specs.Naming.{slots_of_kept, slots_of_plan}
-use Rattle.instances_table.specs.declared.plans.code.CodeKind.{CodeKind}
-use Rattle.instances_table.specs.plans.Plans.{Plan, first_action}
-use Rattle.instances_table.specs.plans.Doable.{is_used}
-use Rattle.instances_table.specs.Modules.{Module, slots_of}
-use Rattle.swi_dispatch_answers.specs.declared.frames.frame.Frame.{Frame}
-use Rattle.swi_dispatch_answers.specs.declared.frames.frame.FrameKind.{FrameKind}
-use Rattle.swi_dispatch_answers.specs.declared.frames.frame.FrameKind.TheVariants.{Swi, Entry}
-use Rattle.swi_dispatch_answers.specs.frames.Busy.{has_swi_of, is_swi}
-use Rattle.swi_dispatch_answers.specs.frames.Frames.{frames_after_close, innermost_frame}
+use Rattle.swi_dispatch_plans.specs.Naming.{slots_of_kept, slots_of_plan}
+use Rattle.swi_dispatch_plans.specs.CodeKind.{CodeKind}
+use Rattle.swi_dispatch_plans.specs.Plans.{Plan, first_action}
+use Rattle.swi_dispatch_plans.specs.Doable.{is_used}
+use Rattle.swi_dispatch_plans.specs.InstancesTableModules.{Module, slots_of}
+use Rattle.swi_dispatch_plans.specs.Frame.{Frame}
+use Rattle.swi_dispatch_plans.specs.FrameKind.{FrameKind}
+use Rattle.swi_dispatch_plans.specs.FrameKind.TheVariants.{Swi, Entry}
+use Rattle.swi_dispatch_plans.specs.Busy.{has_swi_of, is_swi}
+use Rattle.swi_dispatch_plans.specs.Frames.{frames_after_close, innermost_frame}
 use Rattle.swi_dispatch_plans.proofs.Sparing.{among, none_of}
 use Rattle.swi_dispatch_guest.specs.MachineState.{Tables}
 use Rattle.swi_dispatch_guest.specs.OpenFrames.{AreCalled, AreFrames, AreHeld, AreSpared, IsFrameOfCode, entries, entry_called, entry_kept}

@@ -2,10 +2,10 @@
 use Rattle.std.proofs.Common.{◌≡◌, ℕ, zero, suc, ◌+◌, Option, Some, None, List, [], Result, Ok, Err, refl, sym, ◌∙◌, ap, subst, arith, Bool, if◌then◌else◌}
 use Rattle.profile.specs.declared.stop.Stop.{Stop}
 use Rattle.profile.specs.declared.stop.Stop.TheVariants as stop
-use Rattle.address_map.specs.Bytes.{Bytes}
-use Rattle.arm_core.specs.declared.turn.StepEnd.{StepEnd}
-use Rattle.arm_core.specs.declared.turn.StepEnd.TheVariants as turn
-use Rattle.arm_core.specs.State.{State}
+use Rattle.os_heap.specs.Bytes.{Bytes}
+use Rattle.arm_run.specs.StepEnd.{StepEnd}
+use Rattle.arm_run.specs.StepEnd.TheVariants as turn
+use Rattle.arm_run.specs.State.{State}
 use Rattle.swi_dispatch_plans.specs.Entries.{Entry}
 use Rattle.swi_dispatch_guest.specs.declared.halt.Halt.{Halt}
 use Rattle.swi_dispatch_guest.specs.MachineState.{MachineState, StepOutcome, silent}

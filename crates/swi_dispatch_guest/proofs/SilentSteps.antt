@@ -2,17 +2,17 @@
 use Rattle.std.proofs.Common.{◌≡◌, ◌⊎◌, ℕ, zero, suc, Bool, true, false, List, Option, None, Result, Ok, Err, inl, inr, refl, sym, ◌∙◌, ap, subst, arith, IfOk, add-one}
 use Rattle.profile.specs.declared.stop.Stop.{Stop}
 use Rattle.profile.specs.declared.stop.Stop.TheVariants as stop
-use Rattle.address_map.specs.declared.map.AddressMap.{AddressMap}
-use Rattle.address_map.specs.Bytes.{Bytes}
-use Rattle.address_map.specs.Memory.{bytes_of, is_owned, layout, class_of}
-use Rattle.arm_core.specs.declared.turn.StepEnd.{StepEnd}
-use Rattle.arm_core.specs.declared.turn.StepEnd.TheVariants as turn
-use Rattle.arm_core.specs.State.{State}
+use Rattle.os_heap.specs.AddressMap.{AddressMap}
+use Rattle.os_heap.specs.Bytes.{Bytes}
+use Rattle.os_heap.specs.Memory.{bytes_of, is_owned, layout, class_of}
+use Rattle.arm_run.specs.StepEnd.{StepEnd}
+use Rattle.arm_run.specs.StepEnd.TheVariants as turn
+use Rattle.arm_run.specs.State.{State}
 use Rattle.arm_run.specs.Runs.{AreDone, StopsBy}
-use Rattle.arm_step.specs.OwnedBytes.{IsByWords, KeepsOwnedBytes}
-use Rattle.arm_step.specs.Step.{result_of_step}
-use Rattle.arm_step.specs.Turns.{Turns}
-use Rattle.arm_step.proofs.Framing.{step_keeps}
+use Rattle.arm_run.specs.OwnedBytes.{IsByWords, KeepsOwnedBytes}
+use Rattle.arm_run.specs.Step.{result_of_step}
+use Rattle.arm_run.specs.Turns.{Turns}
+use Rattle.arm_run.proofs.Framing.{step_keeps}
 use Rattle.os_heap.specs.Store.{store_of, owned_in, IsSound}
 use Rattle.os_heap.proofs.Owned.{owned_marks}
 use Rattle.swi_dispatch_plans.specs.Entries.{Entry}

@@ -1,20 +1,20 @@
 -- The written machine at its start.
 use Rattle.std.proofs.Common.{inl, ◌≡◌, Bool, false, true, IsSome, [], Option, Some, None, refl, ap}
 use Rattle.profile.specs.Sizes.{Sizes}
-use Rattle.address_map.specs.declared.map.AddressMap.{AddressMap}
-use Rattle.address_map.specs.Memory.{free_pages}
-use Rattle.arm_core.specs.State.{cpu_start_state}
-use Rattle.instances.specs.module_state.Sound.{IsModuleState}
-use Rattle.instances.specs.module_state.ModuleState.{module_state_of}
-use Rattle.instances.proofs.ModuleStateLemmas.Starting.{start_module_state}
+use Rattle.os_heap.specs.AddressMap.{AddressMap}
+use Rattle.os_heap.specs.Memory.{free_pages}
+use Rattle.arm_run.specs.State.{cpu_start_state}
+use Rattle.swi_dispatch_plans.specs.Sound.{IsModuleState}
+use Rattle.swi_dispatch_plans.specs.ModuleState.{module_state_of}
+use Rattle.swi_dispatch_plans.proofs.Starting.{start_module_state}
 use Rattle.os_heap.specs.Store.{Store, store_of}
-use Rattle.dynamic_areas.specs.Areas.{start_area_table}
-use Rattle.dynamic_areas.specs.Ground.{AreAreas, IsRecorded, pool_of, system_pages_range}
-use Rattle.dynamic_areas.proofs.HeapCalls.{pool_is}
+use Rattle.swi_dispatch_plans.specs.Areas.{start_area_table}
+use Rattle.swi_dispatch_plans.specs.Ground.{AreAreas, IsRecorded, pool_of, system_pages_range}
+use Rattle.swi_dispatch_plans.proofs.HeapCalls.{pool_is}
 use Rattle.swi_dispatch_guest.specs.declared.halt.Halt.{Halt}
 use Rattle.swi_dispatch_guest.specs.MachineState.{MachineState, machine_start}
 use Rattle.swi_dispatch_guest.proofs.Kept.{over, with_core}
-use Rattle.dynamic_areas.specs.Start.{start_store}
+use Rattle.swi_dispatch_plans.specs.DynamicAreasStart.{start_store}
 
 pub starts : (m : AddressMap) (s : Sizes) → store_of m ≡ start_store s → AreAreas (store_of m) (free_pages m) (start_area_table s)
     → over m cpu_start_state (record { area_table = start_area_table s; modules = []; frames = []; plan = None; flex = record { extent = None } }) None ≡ machine_start s

@@ -1,15 +1,15 @@
 -- What the families of store calls leave of the machine, by what they leave of its parts.
 use Rattle.std.proofs.Common.{◌≡◌, false, Option, Result, Ok, Err, sym, ◌∙◌, ap}
 use Rattle.profile.specs.Outcome.{Leaves}
-use Rattle.address_map.specs.declared.map.AddressMap.{AddressMap}
-use Rattle.address_map.specs.Memory.{free_pages}
-use Rattle.arm_core.specs.State.{State}
+use Rattle.os_heap.specs.AddressMap.{AddressMap}
+use Rattle.os_heap.specs.Memory.{free_pages}
+use Rattle.arm_run.specs.State.{State}
 use Rattle.os_heap.specs.Store.{Store, store_of}
-use Rattle.dynamic_areas.specs.Areas.{AreaTable}
-use Rattle.dynamic_areas.specs.Ground.{AreaStore, IsAreaStore, area_store_of}
-use Rattle.dynamic_areas.proofs.HeapCalls.{pool_is}
-use Rattle.instances.specs.module_state.ModuleState.{ModuleState}
-use Rattle.swi_dispatch_answers.specs.declared.refusal.Refusal.{Refusal}
+use Rattle.swi_dispatch_plans.specs.Areas.{AreaTable}
+use Rattle.swi_dispatch_plans.specs.Ground.{AreaStore, IsAreaStore, area_store_of}
+use Rattle.swi_dispatch_plans.proofs.HeapCalls.{pool_is}
+use Rattle.swi_dispatch_plans.specs.ModuleState.{ModuleState}
+use Rattle.swi_dispatch_plans.specs.Refusal.{Refusal}
 use Rattle.swi_dispatch_plans.specs.store.Leaving.{LeavesSound}
 use Rattle.swi_dispatch_plans.specs.modules.Leaving.{LeavesModuleState}
 use Rattle.swi_dispatch_guest.specs.declared.halt.Halt.{Halt}

@@ -1,15 +1,15 @@
 -- The system pages are mapped and recorded, and the private words stand there.
 use Rattle.profile.specs.MemoryMap.{system_start}
 use Rattle.std.proofs.Common.{ℕ, arith}
-use Rattle.address_map.proofs.InRange.{range_inside}
-use Rattle.address_map.specs.declared.map.AddressMap.{AddressMap}
-use Rattle.address_map.specs.Bytes.{AreMapped}
-use Rattle.address_map.specs.Memory.{free_pages}
+use Rattle.os_heap.proofs.InRange.{range_inside}
+use Rattle.os_heap.specs.AddressMap.{AddressMap}
+use Rattle.os_heap.specs.Bytes.{AreMapped}
+use Rattle.os_heap.specs.Memory.{free_pages}
 use Rattle.os_heap.specs.Store.{Store, store_of}
-use Rattle.dynamic_areas.specs.Areas.{AreaTable}
-use Rattle.dynamic_areas.specs.Ground.{AreAreas, IsRecorded, system_pages_range}
-use Rattle.dynamic_areas.proofs.HeapCalls.{system_mapped}
-use Rattle.instances.specs.module_state.Sound.{HasSystemPages}
+use Rattle.swi_dispatch_plans.specs.Areas.{AreaTable}
+use Rattle.swi_dispatch_plans.specs.Ground.{AreAreas, IsRecorded, system_pages_range}
+use Rattle.swi_dispatch_plans.proofs.HeapCalls.{system_mapped}
+use Rattle.swi_dispatch_plans.specs.Sound.{HasSystemPages}
 
 pub private_room : (s : Store) (free : ℕ) (l : AreaTable) → AreAreas s free l → AreMapped s.bytes.mapped 0x01C02000 256
 private_room s free l areas a low high = system_mapped s free l areas a (range_inside system_start 0x3000 a (omega arith) (omega arith))

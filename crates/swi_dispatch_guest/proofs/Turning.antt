@@ -1,8 +1,8 @@
 -- The core's part of a step, and then what its turn asks of the machine, are the written step.
 use Rattle.std.proofs.Common.{◌≡◌, List, Result, Ok, Err, ◌∙◌, ap}
-use Rattle.address_map.specs.Bytes.{Bytes}
-use Rattle.arm_core.specs.declared.turn.StepEnd.{StepEnd}
-use Rattle.arm_core.specs.State.{State}
+use Rattle.os_heap.specs.Bytes.{Bytes}
+use Rattle.arm_run.specs.StepEnd.{StepEnd}
+use Rattle.arm_run.specs.State.{State}
 use Rattle.swi_dispatch_plans.specs.Entries.{Entry}
 use Rattle.swi_dispatch_guest.specs.MachineState.{MachineState, silent}
 use Rattle.swi_dispatch_guest.specs.Step.{outcome_of_turn, turn_end, Turned}

@@ -4,10 +4,10 @@ use Rattle.std.specs.Prelude.{◌≡◌, ℕ, Bool, List, Option, Result, Ok, Er
 use Rattle.profile.specs.Outcome.{bind}
 use Rattle.profile.specs.declared.error.ErrorNumber.{ErrorNumber}
 use Rattle.swi_dispatch_plans.specs.Entries.{Entry}
-use Rattle.instances_table.specs.plans.Plans.{Plan}
-use Rattle.instances.specs.module_state.ModuleState.{ModuleState}
-use Rattle.instances.specs.Adding.{copying, inserting, loading}
-use Rattle.swi_dispatch_answers.specs.declared.frames.call.Call.{Call}
+use Rattle.swi_dispatch_plans.specs.Plans.{Plan}
+use Rattle.swi_dispatch_plans.specs.ModuleState.{ModuleState}
+use Rattle.swi_dispatch_plans.specs.Adding.{copying, inserting, loading}
+use Rattle.swi_dispatch_plans.specs.Call.{Call}
 use Rattle.swi_dispatch_guest.specs.Gates.{ended_of, state_with_code_entered}
 use Rattle.swi_dispatch_plans.specs.Trials.{module_state_carried}
 use Rattle.swi_dispatch_plans.specs.PlannerInput.{string_asked}

@@ -1,7 +1,7 @@
 -- What store calls answer, in words that all of them share.
 use Rattle.std.specs.Prelude.{ℕ, Option, Some, None, Result, Ok, Err, List, []}
-use Rattle.arm_core.specs.State.{with_register}
-use Rattle.swi_dispatch_answers.specs.declared.refusal.Refusal.{Refusal}
+use Rattle.arm_run.specs.State.{with_register}
+use Rattle.swi_dispatch_plans.specs.Refusal.{Refusal}
 use Rattle.swi_dispatch_guest.specs.MachineState.{MachineState, StepOutcome, silent}
 
 -- What a call answers: what it leaves, the machine but for what every call does to the core and the

@@ -7,16 +7,16 @@ use Rattle.profile.specs.declared.error.ErrorNumber.{ErrorNumber}
 use Rattle.profile.specs.declared.error.ErrorNumber.TheVariants.{BadString, BadPointer}
 use Rattle.profile.specs.declared.swi.SwiName.{SwiName}
 use Rattle.profile.specs.declared.swi.SwiName.TheVariants as swi
-use Rattle.address_map.specs.Bytes.{Bytes}
-use Rattle.arm_core.specs.declared.psr.Mode.TheVariants.{Supervisor}
-use Rattle.arm_core.specs.State.{State, register_of, with_mode}
+use Rattle.os_heap.specs.Bytes.{Bytes}
+use Rattle.arm_run.specs.Mode.TheVariants.{Supervisor}
+use Rattle.arm_run.specs.State.{State, register_of, with_mode}
 use Rattle.os_heap.specs.Store.{Store}
-use Rattle.dynamic_areas.specs.Ground.{AreaStore}
-use Rattle.instances.specs.module_state.ModuleState.{ModuleState}
-use Rattle.swi_dispatch_answers.specs.declared.refusal.Refusal.{Refusal}
-use Rattle.swi_dispatch_answers.specs.declared.refusal.Refusal.TheVariants as refusal
-use Rattle.swi_dispatch_answers.specs.declared.strings.TextEnd.TheVariants as end
-use Rattle.swi_dispatch_answers.specs.Strings.{ends, text_at, next_word}
+use Rattle.swi_dispatch_plans.specs.Ground.{AreaStore}
+use Rattle.swi_dispatch_plans.specs.ModuleState.{ModuleState}
+use Rattle.swi_dispatch_plans.specs.Refusal.{Refusal}
+use Rattle.swi_dispatch_plans.specs.Refusal.TheVariants as refusal
+use Rattle.swi_dispatch_plans.specs.TextEnd.TheVariants as end
+use Rattle.swi_dispatch_plans.specs.Strings.{ends, text_at, next_word}
 use Rattle.swi_dispatch_plans.specs.flex.Calls.{FlexMemory, flex_called}
 use Rattle.swi_dispatch_plans.specs.store.Areas.{area_called, area_changed, area_read, change_asked}
 use Rattle.swi_dispatch_plans.specs.store.Heaps.{heap_called}

@@ -1,22 +1,22 @@
 -- A call on modules that is carried on to its next code, or to its end, as the parts of the guest
 -- stand then (this project's own).
 use Rattle.std.specs.Prelude.{◌≡◌, IfSome, Option, Some, None, List, []}
-use Rattle.address_map.specs.declared.map.AddressMap.{AddressMap}
-use Rattle.arm_core.specs.State.{State}
-use Rattle.dynamic_areas.specs.Areas.{AreaTable}
+use Rattle.os_heap.specs.AddressMap.{AddressMap}
+use Rattle.arm_run.specs.State.{State}
+use Rattle.swi_dispatch_plans.specs.Areas.{AreaTable}
 use Rattle.os_heap.specs.Store.{AreClasses, store_of}
-use Rattle.instances.specs.flex_frame.Keeping.{KeepsFlex}
-use Rattle.instances.specs.module_state.Sound.{IsModuleState}
-use Rattle.instances.specs.module_state.ModuleState.{module_state_of}
-use Rattle.instances_table.specs.declared.plans.code.Code.{Code}
-use Rattle.instances_table.specs.declared.plans.code.Outcome.{Outcome as CodeOutcome}
-use Rattle.instances_table.specs.plans.Carrying.{carry_of_plan}
-use Rattle.instances_table.specs.plans.Plans.{Plan, first_action, plan_after_code}
-use Rattle.instances_table.specs.Modules.{Module}
-use Rattle.swi_dispatch_answers.specs.declared.frames.call.Call.{Call}
-use Rattle.swi_dispatch_answers.specs.declared.frames.frame.Frame.{Frame}
-use Rattle.instances.specs.Naming.{KeepsOtherInstances}
-use Rattle.instances.specs.Turns.{IsUnderWay, module_doing}
+use Rattle.swi_dispatch_plans.specs.Keeping.{KeepsFlex}
+use Rattle.swi_dispatch_plans.specs.Sound.{IsModuleState}
+use Rattle.swi_dispatch_plans.specs.ModuleState.{module_state_of}
+use Rattle.swi_dispatch_plans.specs.Code.{Code}
+use Rattle.swi_dispatch_plans.specs.Outcome.{Outcome as CodeOutcome}
+use Rattle.swi_dispatch_plans.specs.Carrying.{carry_of_plan}
+use Rattle.swi_dispatch_plans.specs.Plans.{Plan, first_action, plan_after_code}
+use Rattle.swi_dispatch_plans.specs.InstancesTableModules.{Module}
+use Rattle.swi_dispatch_plans.specs.Call.{Call}
+use Rattle.swi_dispatch_plans.specs.Frame.{Frame}
+use Rattle.swi_dispatch_plans.specs.Naming.{KeepsOtherInstances}
+use Rattle.swi_dispatch_plans.specs.Turns.{IsUnderWay, module_doing}
 use Rattle.swi_dispatch_plans.specs.ModuleCode.{core_by, frames_by, kept_by, plan_unless_code}
 use Rattle.swi_dispatch_guest.specs.OpenFrames.{entry_called}
 

@@ -3,10 +3,10 @@
 use Rattle.profile.specs.MemoryMap.{error_block_start}
 use Rattle.std.specs.Prelude.{ℕ}
 use Rattle.profile.specs.ErrorNames.{error_code, error_name}
-use Rattle.arm_core.specs.State.{register_of, with_register}
-use Rattle.swi_dispatch_answers.specs.declared.refusal.Refusal.{Refusal}
-use Rattle.swi_dispatch_answers.specs.declared.refusal.Refusal.TheVariants as refusal
-use Rattle.swi_dispatch_answers.specs.Errors.{error_at, memory_with_error}
+use Rattle.arm_run.specs.State.{register_of, with_register}
+use Rattle.swi_dispatch_plans.specs.Refusal.{Refusal}
+use Rattle.swi_dispatch_plans.specs.Refusal.TheVariants as refusal
+use Rattle.swi_dispatch_plans.specs.Errors.{error_at, memory_with_error}
 use Rattle.swi_dispatch_guest.specs.MachineState.{MachineState, with_memory}
 
 abbrev pub error_number : MachineState → ℕ

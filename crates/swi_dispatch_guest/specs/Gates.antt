@@ -5,21 +5,21 @@
 use Rattle.std.specs.Prelude.{◌≡◌, ℕ, Bool, true, false, ◌==◌, List, Option, Some, None, Result, Ok, Err, if◌then◌else◌}
 use Rattle.profile.specs.declared.error.ErrorNumber.{ErrorNumber}
 use Rattle.profile.specs.declared.fault.Fault.TheVariants.{FetchUnmapped, ErrorStop, StackChanged}
-use Rattle.arm_core.specs.declared.psr.Mode.TheVariants.{Supervisor}
-use Rattle.arm_core.specs.State.{State, register_in}
-use Rattle.instances_table.specs.declared.plans.code.Outcome.{Outcome as CodeOutcome}
-use Rattle.instances_table.specs.declared.plans.given.Given.{Given}
-use Rattle.instances_table.specs.plans.Carrying.{Carried}
-use Rattle.instances_table.specs.plans.Plans.{Plan, plan_after_code}
-use Rattle.instances.specs.module_state.ModuleState.{ModuleState}
-use Rattle.instances.specs.declared.answers.Start.{Start}
-use Rattle.instances.specs.Reading.{start_found}
-use Rattle.swi_dispatch_answers.specs.declared.frames.call.Call.{Call}
-use Rattle.swi_dispatch_answers.specs.declared.frames.frame.Frame.{Frame}
-use Rattle.swi_dispatch_answers.specs.declared.frames.frame.FrameKind.{FrameKind}
-use Rattle.swi_dispatch_answers.specs.declared.frames.frame.FrameKind.TheVariants.{Swi, Entry}
-use Rattle.swi_dispatch_answers.specs.frames.Frames.{frames_after_close, innermost_frame}
-use Rattle.swi_dispatch_answers.specs.frames.Leaving.{left}
+use Rattle.arm_run.specs.Mode.TheVariants.{Supervisor}
+use Rattle.arm_run.specs.State.{State, register_in}
+use Rattle.swi_dispatch_plans.specs.Outcome.{Outcome as CodeOutcome}
+use Rattle.swi_dispatch_plans.specs.Given.{Given}
+use Rattle.swi_dispatch_plans.specs.Carrying.{Carried}
+use Rattle.swi_dispatch_plans.specs.Plans.{Plan, plan_after_code}
+use Rattle.swi_dispatch_plans.specs.ModuleState.{ModuleState}
+use Rattle.swi_dispatch_plans.specs.Start.{Start}
+use Rattle.swi_dispatch_plans.specs.Reading.{start_found}
+use Rattle.swi_dispatch_plans.specs.Call.{Call}
+use Rattle.swi_dispatch_plans.specs.Frame.{Frame}
+use Rattle.swi_dispatch_plans.specs.FrameKind.{FrameKind}
+use Rattle.swi_dispatch_plans.specs.FrameKind.TheVariants.{Swi, Entry}
+use Rattle.swi_dispatch_plans.specs.Frames.{frames_after_close, innermost_frame}
+use Rattle.swi_dispatch_plans.specs.Leaving.{left}
 use Rattle.swi_dispatch_guest.specs.declared.halt.Halt.TheVariants as halt
 use Rattle.swi_dispatch_guest.specs.Answers.{with_answer}
 use Rattle.swi_dispatch_guest.specs.MachineState.{MachineState, StepOutcome, machine_module_state, silent, with_module_state}

@@ -1,21 +1,21 @@
 -- The parts of a guest, and the written machine that they stand for.
 use Rattle.std.specs.Prelude.{◌≡◌, ◌≢◌, ◌≤◌, ◌<◌, length, ℕ, zero, suc, IfSome, Option, Some, None, Result, Ok, Err}
 use Rattle.profile.specs.Sizes.{Sizes}
-use Rattle.address_map.specs.declared.map.AddressMap.{AddressMap}
-use Rattle.address_map.specs.Memory.{free_pages}
+use Rattle.os_heap.specs.AddressMap.{AddressMap}
+use Rattle.os_heap.specs.Memory.{free_pages}
 use Rattle.os_heap.specs.Store.{AreClasses, store_of}
-use Rattle.dynamic_areas.specs.Ground.{AreAreas, IsRecorded, system_pages_range}
-use Rattle.dynamic_areas.specs.Rooms.{IsAreaTable}
+use Rattle.swi_dispatch_plans.specs.Ground.{AreAreas, IsRecorded, system_pages_range}
+use Rattle.swi_dispatch_plans.specs.Rooms.{IsAreaTable}
 use Rattle.swi_dispatch_plans.specs.flex.Ground.{HasFlex}
-use Rattle.arm_core.specs.declared.turn.StepEnd.{StepEnd}
-use Rattle.arm_core.specs.declared.turn.StepEnd.TheVariants.{Done}
-use Rattle.arm_core.specs.State.{IsCore, State}
-use Rattle.instances.specs.module_state.ModuleState.{ModuleState, module_state_of}
-use Rattle.instances_table.specs.plans.Plans.{Plan}
-use Rattle.instances_table.specs.Modules.{AreModules}
-use Rattle.instances.specs.Turns.{MayGoOn}
+use Rattle.arm_run.specs.StepEnd.{StepEnd}
+use Rattle.arm_run.specs.StepEnd.TheVariants.{Done}
+use Rattle.arm_run.specs.State.{IsCore, State}
+use Rattle.swi_dispatch_plans.specs.ModuleState.{ModuleState, module_state_of}
+use Rattle.swi_dispatch_plans.specs.Plans.{Plan}
+use Rattle.swi_dispatch_plans.specs.InstancesTableModules.{AreModules}
+use Rattle.swi_dispatch_plans.specs.Turns.{MayGoOn}
 use Rattle.swi_dispatch_guest.specs.declared.halt.Halt.{Halt}
-use Rattle.swi_dispatch_answers.specs.declared.refusal.Refusal.{Refusal}
+use Rattle.swi_dispatch_plans.specs.Refusal.{Refusal}
 use Rattle.swi_dispatch_guest.specs.Answers.{Answer}
 use Rattle.swi_dispatch_guest.specs.MachineState.{MachineState, StepOutcome, Tables}
 use Rattle.swi_dispatch_guest.specs.OpenFrames.{AreFrames}

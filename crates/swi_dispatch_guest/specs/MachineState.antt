@@ -5,17 +5,17 @@ use Rattle.std.specs.Prelude.{ℕ, Option, None, List, []}
 use Rattle.profile.specs.declared.stop.Stop.{Stop}
 use Rattle.profile.specs.declared.stop.Stop.TheVariants as stop
 use Rattle.profile.specs.Sizes.{Sizes}
-use Rattle.address_map.specs.Bytes.{Bytes}
-use Rattle.arm_core.specs.State.{State, cpu_start_state}
+use Rattle.os_heap.specs.Bytes.{Bytes}
+use Rattle.arm_run.specs.State.{State, cpu_start_state}
 use Rattle.os_heap.specs.Store.{Store}
-use Rattle.dynamic_areas.specs.Areas.{AreaTable, start_area_table}
-use Rattle.dynamic_areas.specs.Ground.{AreaStore, pool_of}
-use Rattle.dynamic_areas.specs.Start.{start_store}
+use Rattle.swi_dispatch_plans.specs.Areas.{AreaTable, start_area_table}
+use Rattle.swi_dispatch_plans.specs.Ground.{AreaStore, pool_of}
+use Rattle.swi_dispatch_plans.specs.DynamicAreasStart.{start_store}
 use Rattle.swi_dispatch_plans.specs.flex.Flex.{Flex}
-use Rattle.instances.specs.module_state.ModuleState.{ModuleState}
-use Rattle.instances_table.specs.plans.Plans.{Plan}
-use Rattle.instances_table.specs.Modules.{Module}
-use Rattle.swi_dispatch_answers.specs.declared.frames.frame.Frame.{Frame}
+use Rattle.swi_dispatch_plans.specs.ModuleState.{ModuleState}
+use Rattle.swi_dispatch_plans.specs.Plans.{Plan}
+use Rattle.swi_dispatch_plans.specs.InstancesTableModules.{Module}
+use Rattle.swi_dispatch_plans.specs.Frame.{Frame}
 use Rattle.swi_dispatch_plans.specs.PlannerInput.{PlannerInput}
 use Rattle.swi_dispatch_guest.specs.declared.halt.Halt.{Halt}
 use Rattle.swi_dispatch_guest.specs.declared.halt.Halt.TheVariants as halt

@@ -1,7 +1,7 @@
 -- OS_Module 2, enter: a module is started as a program (RISC OS 3 Programmer's Reference Manual,
 -- "OS_Module", reason 2; that R10 has the address of the text is this project's own).
 use Rattle.std.specs.Prelude.{ℕ, List, Option, Some, None}
-use Rattle.instances.specs.module_state.ModuleState.{with_text}
+use Rattle.swi_dispatch_plans.specs.ModuleState.{with_text}
 use Rattle.swi_dispatch_plans.specs.Openings.{as_user}
 use Rattle.swi_dispatch_plans.specs.declared.openings.Opening.{Opening}
 use Rattle.swi_dispatch_guest.specs.MachineState.{MachineState, machine_area_store, with_area_store}

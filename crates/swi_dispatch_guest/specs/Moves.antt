@@ -3,10 +3,10 @@
 use Rattle.std.specs.Prelude.{ℕ, ◌≡◌, ◌+◌, ◌%◌, ◌^◌, Option, None, Result, Err, List, [], ◌∷◌}
 use Rattle.profile.specs.SwiNames.{swi_of}
 use Rattle.profile.specs.declared.swi.SwiName.{SwiName}
-use Rattle.address_map.specs.Bytes.{Bytes}
-use Rattle.arm_core.specs.State.{State}
-use Rattle.arm_core.specs.declared.turn.StepEnd.{StepEnd}
-use Rattle.arm_core.specs.declared.turn.StepEnd.TheVariants as turn
+use Rattle.os_heap.specs.Bytes.{Bytes}
+use Rattle.arm_run.specs.State.{State}
+use Rattle.arm_run.specs.StepEnd.{StepEnd}
+use Rattle.arm_run.specs.StepEnd.TheVariants as turn
 use Rattle.swi_dispatch_plans.specs.Entries.{Entry}
 use Rattle.swi_dispatch_guest.specs.Writes.{machine_with_register}
 use Rattle.swi_dispatch_guest.specs.MachineState.{MachineState}

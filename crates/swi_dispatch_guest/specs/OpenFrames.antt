@@ -1,16 +1,16 @@
 -- What holds of the frames of module code that is under way (this project's own).
 use Rattle.std.specs.Prelude.{◌≡◌, ℕ, false, is_some, Option, Some, None, List, ◌∷◌, ◌++◌, if◌then◌else◌}
 use Rattle.std.specs.List.{All}
-use Rattle.instances_table.specs.declared.plans.action.PlanAction.{PlanAction}
-use Rattle.instances_table.specs.declared.plans.action.PlanAction.TheVariants as act
-use Rattle.instances_table.specs.declared.plans.code.CodeKind.{CodeKind}
-use Rattle.instances_table.specs.declared.plans.code.CodeKind.TheVariants as kind
-use Rattle.instances_table.specs.plans.Plans.{Plan, first_action}
-use Rattle.swi_dispatch_answers.specs.frames.Busy.{has_swi_of, is_swi}
-use Rattle.swi_dispatch_answers.specs.declared.frames.frame.Frame.{Frame}
-use Rattle.swi_dispatch_answers.specs.declared.frames.frame.FrameKind.{FrameKind}
-use Rattle.swi_dispatch_answers.specs.declared.frames.frame.FrameKind.TheVariants.{Swi, Entry}
-use Rattle.instances.specs.Naming.{slots_of_kept}
+use Rattle.swi_dispatch_plans.specs.PlanAction.{PlanAction}
+use Rattle.swi_dispatch_plans.specs.PlanAction.TheVariants as act
+use Rattle.swi_dispatch_plans.specs.CodeKind.{CodeKind}
+use Rattle.swi_dispatch_plans.specs.CodeKind.TheVariants as kind
+use Rattle.swi_dispatch_plans.specs.Plans.{Plan, first_action}
+use Rattle.swi_dispatch_plans.specs.Busy.{has_swi_of, is_swi}
+use Rattle.swi_dispatch_plans.specs.Frame.{Frame}
+use Rattle.swi_dispatch_plans.specs.FrameKind.{FrameKind}
+use Rattle.swi_dispatch_plans.specs.FrameKind.TheVariants.{Swi, Entry}
+use Rattle.swi_dispatch_plans.specs.Naming.{slots_of_kept}
 pub use Rattle.swi_dispatch_plans.specs.Beginning.{AreHeld, entries}
 use Rattle.swi_dispatch_guest.specs.MachineState.{Tables}
 

@@ -3,11 +3,11 @@
 -- that nothing is done then is this project's own).
 use Rattle.std.specs.Prelude.{ℕ, Bool, true, false, Some}
 use Rattle.profile.specs.declared.fault.Fault.TheVariants.{ErrorStop}
-use Rattle.arm_core.specs.declared.psr.Psr.{Psr}
+use Rattle.arm_run.specs.Psr.{Psr}
 use Rattle.swi_dispatch_guest.specs.declared.halt.Halt.{Halt}
 use Rattle.swi_dispatch_guest.specs.declared.halt.Halt.TheVariants as halt
-use Rattle.swi_dispatch_answers.specs.declared.refusal.Refusal.{Refusal}
-use Rattle.swi_dispatch_answers.specs.Returns.{state_after_return}
+use Rattle.swi_dispatch_plans.specs.Refusal.{Refusal}
+use Rattle.swi_dispatch_plans.specs.Returns.{state_after_return}
 use Rattle.swi_dispatch_guest.specs.MachineState.{MachineState, StepOutcome, silent}
 use Rattle.swi_dispatch_guest.specs.Errors.{error_number, with_error}
 

@@ -5,7 +5,7 @@ use Rattle.std.specs.Prelude.{◌≡◌, ℕ, zero, suc, ◌+◌, Option, Some, 
 use Rattle.profile.specs.declared.stop.Stop.{Stop}
 use Rattle.profile.specs.declared.stop.Stop.TheVariants as stop
 use Rattle.swi_dispatch_plans.specs.Entries.{Entry}
-use Rattle.arm_core.specs.declared.turn.StepEnd.{StepEnd}
+use Rattle.arm_run.specs.StepEnd.{StepEnd}
 unfoldable pub use Rattle.arm_run.specs.Breaks.{is_among}
 use Rattle.swi_dispatch_guest.specs.declared.halt.Halt.{Halt}
 use Rattle.swi_dispatch_guest.specs.declared.halt.Halt.TheVariants as halt

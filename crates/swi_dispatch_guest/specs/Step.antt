@@ -11,31 +11,31 @@ use Rattle.profile.specs.declared.reason.ModuleReason.{ModuleReason}
 use Rattle.profile.specs.declared.reason.ModuleReason.TheVariants as reason
 use Rattle.profile.specs.Outcome.{bind}
 use Rattle.profile.specs.Word.{bit_of}
-use Rattle.address_map.specs.Bytes.{Bytes}
-use Rattle.arm_core.specs.declared.turn.StepEnd.{StepEnd}
-use Rattle.arm_core.specs.declared.turn.StepEnd.TheVariants as turn
-use Rattle.arm_core.specs.State.{State, register_of}
-use Rattle.arm_step.specs.Step.{result_of_step}
+use Rattle.os_heap.specs.Bytes.{Bytes}
+use Rattle.arm_run.specs.StepEnd.{StepEnd}
+use Rattle.arm_run.specs.StepEnd.TheVariants as turn
+use Rattle.arm_run.specs.State.{State, register_of}
+use Rattle.arm_run.specs.Step.{result_of_step}
 use Rattle.os_heap.specs.Store.{owned_in}
 use Rattle.swi_dispatch_plans.specs.Entries.{Entry}
-use Rattle.instances_table.specs.plans.Plans.{Plan}
-use Rattle.swi_dispatch_answers.specs.declared.frames.call.Call.{Call}
-use Rattle.swi_dispatch_answers.specs.declared.frames.frame.FrameKind.TheVariants.{Swi}
-use Rattle.swi_dispatch_answers.specs.frames.Entering.{swi_entered}
-use Rattle.swi_dispatch_answers.specs.frames.Frames.{frame_of}
+use Rattle.swi_dispatch_plans.specs.Plans.{Plan}
+use Rattle.swi_dispatch_plans.specs.Call.{Call}
+use Rattle.swi_dispatch_plans.specs.FrameKind.TheVariants.{Swi}
+use Rattle.swi_dispatch_plans.specs.Entering.{swi_entered}
+use Rattle.swi_dispatch_plans.specs.Frames.{frame_of}
 use Rattle.swi_dispatch_guest.specs.declared.halt.Halt.{Halt}
 use Rattle.swi_dispatch_guest.specs.declared.halt.Halt.TheVariants as halt
-use Rattle.instances_table.specs.declared.parts.Handler.{Handler}
-use Rattle.instances_table.specs.Lookup.{handler_of}
-use Rattle.swi_dispatch_answers.specs.declared.refusal.Refusal.{Refusal}
-use Rattle.swi_dispatch_answers.specs.declared.refusal.Refusal.TheVariants as refusal
+use Rattle.swi_dispatch_plans.specs.Handler.{Handler}
+use Rattle.swi_dispatch_plans.specs.Lookup.{handler_of}
+use Rattle.swi_dispatch_plans.specs.Refusal.{Refusal}
+use Rattle.swi_dispatch_plans.specs.Refusal.TheVariants as refusal
 use Rattle.swi_dispatch_plans.specs.declared.openings.Opening.{Opening}
 use Rattle.swi_dispatch_guest.specs.MachineState.{MachineState, StepOutcome, silent, setting_of, with_memory, with_module_state}
 use Rattle.swi_dispatch_plans.specs.ModulePlans.{clear_planned, delete_planned, reinit_planned, tidy_planned}
 use Rattle.swi_dispatch_plans.specs.ImagePlans.{instantiation_planned}
 use Rattle.swi_dispatch_plans.specs.Openings.{opening_asked}
 use Rattle.swi_dispatch_guest.specs.ModuleStart.{module_opened}
-use Rattle.swi_dispatch_answers.specs.Words.{host_string}
+use Rattle.swi_dispatch_plans.specs.Words.{host_string}
 use Rattle.swi_dispatch_guest.specs.Additions.{Planned, copy_planned, insertion_planned, load_planned, named_load_planned, plan_alone}
 use Rattle.swi_dispatch_guest.specs.Answers.{Answer, refusal_answer}
 use Rattle.swi_dispatch_guest.specs.Calls.{call_answer}

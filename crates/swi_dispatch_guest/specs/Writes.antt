@@ -4,10 +4,10 @@ use Rattle.std.specs.Prelude.{ℕ, None, Result, Ok, List}
 use Rattle.profile.specs.MemoryMap.{application_start}
 use Rattle.profile.specs.Outcome.{bind}
 use Rattle.profile.specs.declared.fault.Fault.{Fault}
-use Rattle.address_map.specs.Bytes.{with_bytes, word_stored}
-use Rattle.arm_core.specs.declared.psr.Mode.{Mode}
-use Rattle.arm_core.specs.declared.psr.Psr.{Psr}
-use Rattle.arm_core.specs.State.{with_psr, with_register, with_register_in}
+use Rattle.os_heap.specs.Bytes.{with_bytes, word_stored}
+use Rattle.arm_run.specs.Mode.{Mode}
+use Rattle.arm_run.specs.Psr.{Psr}
+use Rattle.arm_run.specs.State.{with_psr, with_register, with_register_in}
 use Rattle.os_heap.specs.Store.{owned_in}
 use Rattle.swi_dispatch_guest.specs.MachineState.{MachineState, with_memory}
 

@@ -4,18 +4,15 @@
 ghost use Rattle.std.specs.Prelude.{◌≡◌, ◌<◌, ◌^◌, false, true, Ok, OnErr, ok_or};
 ghost use Rattle.profile.specs.Outcome.{bind};
 ghost use Rattle.profile.specs.declared.error.ErrorNumber.TheVariants.{BadString};
-ghost use Rattle.swi_dispatch_answers.specs.Words.{host_string};
+ghost use Rattle.swi_dispatch_plans.specs.Words.{host_string};
 ghost use Rattle.profile.specs.images.module_header.Header.{header_of};
-ghost use Rattle.instances.specs.Copies.{may_be_copied};
-ghost use Rattle.instances.specs.NewImages.{may_be_in_place};
+ghost use Rattle.swi_dispatch_plans.specs.Copies.{may_be_copied};
+ghost use Rattle.swi_dispatch_plans.specs.NewImages.{may_be_in_place};
 
 use crate::guest::Guest;
-use instances_table::plans::{Outcome, Plan};
 use profile::ErrorNumber;
-use swi_dispatch_answers::frames::Call;
-use swi_dispatch_answers::words::host_string;
 use swi_dispatch_plans::module_code::open_code;
-use swi_dispatch_plans::{ImageFound, ImageRange, Images};
+use swi_dispatch_plans::{Call, ImageFound, ImageRange, Images, Outcome, Plan, host_string};
 
 /// What a call that adds a module has come to, if it isn't refused: its plan if that has ended;
 /// else its code runs.

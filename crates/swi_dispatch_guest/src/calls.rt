@@ -5,24 +5,20 @@ ghost use Rattle.profile.specs.ErrorNames.{error_code};
 ghost use Rattle.profile.specs.Outcome.{Leaves};
 ghost use Rattle.profile.specs.declared.error.ErrorNumber.{ErrorNumber};
 ghost use Rattle.profile.specs.declared.fault.Fault.TheVariants.{ErrorStop};
-ghost use Rattle.swi_dispatch_answers.specs.declared.frames.call.Call.{Call};
+ghost use Rattle.swi_dispatch_plans.specs.Call.{Call};
 ghost use Rattle.swi_dispatch_plans.specs.flex.Calls.{flex_called};
 ghost use Rattle.swi_dispatch_plans.specs.store.Areas.{area_changed, change_asked};
 ghost use Rattle.swi_dispatch_guest.specs.Step.{call_of, is_exit, os_module_called, outcome_of_answer, outcome_of_call};
 
 use crate::guest::Guest;
 use crate::halt::Halt;
-use arm_core::{Mode, Psr};
+use arm_run::{Mode, Psr};
 use arrayvec::ArrayVec;
 use profile::{ErrorNumber, Fault, ModuleReason, SwiName};
-use swi_dispatch_answers::frames::Call;
-use swi_dispatch_answers::returns::return_to;
-use swi_dispatch_answers::strings::{next_word, text_at};
-use swi_dispatch_answers::{Refusal, TextEnd};
-use swi_dispatch_plans::Images;
 use swi_dispatch_plans::flex::call_flex;
 use swi_dispatch_plans::modules::call_module;
 use swi_dispatch_plans::store::{call_area, call_heap, change_area, change_error, read_area};
+use swi_dispatch_plans::{Call, Images, Refusal, TextEnd, next_word, return_to, text_at};
 
 /// The most bytes that a step can print.
 pub const MOST_PRINTED: usize = 4096;
@@ -34,7 +30,7 @@ impl Guest {
     ghost use Rattle.swi_dispatch_guest.specs.Answers.{with_answer};
     ghost use Rattle.swi_dispatch_guest.specs.Calls.{area_changing, call_answer, machine_flex, machine_in_supervisor, moving_error, on_flex};
     ghost use Rattle.swi_dispatch_guest.specs.Calls.{printable_at, with_guest, wrote_text_after, wrote_text_at};
-    ghost use Rattle.arm_core.specs.State.{register_of};
+    ghost use Rattle.arm_run.specs.State.{register_of};
     ghost use Rattle.swi_dispatch_guest.specs.MachineState.{machine_area_store, outcome_with, silent};
     ghost use Rattle.swi_dispatch_guest.specs.GuestState.{Answers, state_of};
     ghost use Rattle.swi_dispatch_guest.specs.Returns.{gone_back, outcome_of_halt};

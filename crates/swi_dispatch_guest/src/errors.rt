@@ -7,9 +7,7 @@ use crate::guest::Guest;
 use crate::halt::Halt;
 use profile::memory_map::ERROR_BLOCK;
 use profile::{ErrorNumber, Fault};
-use swi_dispatch_answers::Refusal;
-use swi_dispatch_answers::errors::{error_at, write_error};
-use swi_dispatch_answers::frames::Call;
+use swi_dispatch_plans::{Call, Refusal, error_at, write_error};
 
 impl Guest {
     ghost use Rattle.swi_dispatch_guest.specs.GuestState.{state_of};
@@ -17,8 +15,8 @@ impl Guest {
     ghost use Rattle.swi_dispatch_guest.specs.Calls.{generated_refusal};
     ghost use Rattle.swi_dispatch_guest.specs.Errors.{error_number, with_error};
     ghost use Rattle.swi_dispatch_guest.specs.Returns.{gone_back, error_answered, outcome_of_error};
-    ghost use Rattle.arm_core.specs.State.{register_of};
-    ghost use Rattle.arm_core.specs.declared.psr.Psr.{Psr};
+    ghost use Rattle.arm_run.specs.State.{register_of};
+    ghost use Rattle.arm_run.specs.Psr.{Psr};
 
     /// A call that errs goes back with its error, or is a fault, and then nothing is changed.
     pub(crate) fn end_with_error(&mut self, call: Call, refusal: Refusal)

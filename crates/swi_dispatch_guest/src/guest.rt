@@ -7,21 +7,15 @@ ghost use Rattle.swi_dispatch_plans.specs.PlannerInput.{setting_in};
 
 use crate::calls::Output;
 use crate::halt::Halt;
-use address_map::AddressMap;
-use arm_core::{Cpu, StepEnd};
-use arm_run::DecodeCache;
-use dynamic_areas::{Areas, start_memory};
-use instances::Instances;
-use instances_table::plans::Plan;
-use os_heap::Heaps;
+use arm_run::{Cpu, DecodeCache, StepEnd};
+use os_heap::{AddressMap, Heaps};
 use profile::memory_map::{ADDRESS_LIMIT, APPLICATION_START};
 use profile::word::is_bit_set;
 use profile::{Config, Stop};
 use std::alloc::{AllocError, Global};
 use std::marker::Model;
-use swi_dispatch_answers::frames::Frames;
 use swi_dispatch_plans::flex::Flex;
-use swi_dispatch_plans::{Images, Planner, Scratch};
+use swi_dispatch_plans::{Areas, Frames, Images, Instances, Plan, Planner, Scratch, start_memory};
 
 /// The bit of a call's number that asks for errors to be returned.
 const X_BIT: u32 = 1 << 17;

@@ -2,24 +2,19 @@
 
 ghost use Rattle.std.specs.Prelude.{◌≡◌, ◌≤◌, false, length, IsSome};
 ghost use Rattle.std.specs.Option.{option_map};
-ghost use Rattle.address_map.specs.Memory.{bytes_of, free_pages};
+ghost use Rattle.os_heap.specs.Memory.{bytes_of, free_pages};
 ghost use Rattle.os_heap.specs.Store.{store_of, IsSound};
-ghost use Rattle.dynamic_areas.specs.Rooms.{IsAreaTable};
-ghost use Rattle.flex_store.specs.State.{IsFlex};
+ghost use Rattle.swi_dispatch_plans.specs.Rooms.{IsAreaTable};
+ghost use Rattle.swi_dispatch_plans.specs.State.{IsFlex};
 ghost use Rattle.swi_dispatch_guest.specs.Errors.{error_number};
 ghost use Rattle.swi_dispatch_guest.specs.MachineState.{stop_of};
 ghost use Rattle.swi_dispatch_guest.specs.GuestState.{state_of};
 
 use crate::machine::Machine;
-use address_map::AddressMap;
-use arm_core::Cpu;
-use dynamic_areas::Areas;
-use flex_store::Flex;
-use instances::Instances;
-use os_heap::Heaps;
+use arm_run::Cpu;
+use os_heap::{AddressMap, Heaps};
 use profile::Stop;
-use swi_dispatch_answers::errors::error_at;
-use swi_dispatch_answers::frames::Frame;
+use swi_dispatch_plans::{Areas, Flex, Frame, Instances, error_at};
 
 impl Machine {
     /// The bytes that the last step or store call printed; none before the first.

@@ -23,16 +23,15 @@ pub mod module_steps;
 pub mod outside;
 pub mod running;
 
-pub use arm_run::{BreakError, Breaks};
-pub use arm_step::{Mode, Psr};
+pub use arm_run::{BreakError, Breaks, Cpu, Mode, Psr, is_met};
 pub use boot_error::BootError;
-pub use dynamic_areas::{Area, Areas};
-pub use flex_store::{Flex, FlexBlock, FlexBlocks};
 pub use guest::without_x_bit;
 pub use halt::Halt;
-pub use instances::{InstanceInfo, Instances, ModuleInfo};
 pub use machine::Machine;
-pub use os_heap::Blocks;
+pub use os_heap::payload::Payload;
+pub use os_heap::{AddressMap, Blocks, Heaps, Item};
 pub use running::Ran;
-pub use swi_dispatch_answers::frames::{CodeKind, Frame, FrameKind};
-pub use swi_dispatch_answers::{Refusal, TextEnd};
+pub use swi_dispatch_plans::{
+    Area, Areas, CodeKind, Flex, FlexBlock, FlexBlocks, Frame, FrameKind, InstanceInfo, Instances,
+    MAX_TEXT, ModuleInfo, Refusal, TextEnd, areas_count_pages, next_word, text_at,
+};

@@ -3,15 +3,14 @@
 //! whose chunk has the number handles in a frame.
 
 ghost use Rattle.std.specs.Prelude.{◌≡◌, ◌<◌, ◌≤◌, ◌^◌, false, true, length};
-ghost use Rattle.instances_table.specs.plans.Doable.{is_used};
+ghost use Rattle.swi_dispatch_plans.specs.Doable.{is_used};
 
 use crate::guest::Guest;
-use instances::module_state::put_text;
-use instances::{Handler, Start};
 use profile::ErrorNumber;
-use swi_dispatch_answers::Refusal;
-use swi_dispatch_answers::frames::{Call, Frame, FrameKind, MOST_FRAMES, enter_swi};
-use swi_dispatch_plans::{Opening, enter_as_user};
+use swi_dispatch_plans::{
+    Call, Frame, FrameKind, Handler, MOST_FRAMES, Opening, Refusal, Start, enter_as_user,
+    enter_swi, put_text,
+};
 
 impl Guest {
     ghost use Rattle.swi_dispatch_guest.specs.GuestState.{state_of};
@@ -19,8 +18,8 @@ impl Guest {
     ghost use Rattle.swi_dispatch_guest.specs.ModuleStart.{opened_at};
     ghost use Rattle.swi_dispatch_guest.specs.Step.{call_of, call_refused, handler_entered, module_entered, outcome_of_module_swi};
     ghost use Rattle.swi_dispatch_plans.specs.Openings.{opening_asked};
-    ghost use Rattle.instances_table.specs.Lookup.{handler_of};
-    ghost use Rattle.instances_table.specs.Modules.{slots_of};
+    ghost use Rattle.swi_dispatch_plans.specs.Lookup.{handler_of};
+    ghost use Rattle.swi_dispatch_plans.specs.InstancesTableModules.{slots_of};
 
     /// OS_Module 2: R1 points to the name of an instance, R2 to a text. The call goes back, but the
     /// module is entered, if it has a start.

@@ -3,17 +3,16 @@
 //! "Modules" and "OS_Module").
 
 ghost use Rattle.std.specs.Prelude.{◌≡◌, false, Some, IfOk};
-ghost use Rattle.swi_dispatch_answers.specs.frames.Busy.{is_swi};
-ghost use Rattle.swi_dispatch_answers.specs.frames.Frames.{innermost_frame};
+ghost use Rattle.swi_dispatch_plans.specs.Busy.{is_swi};
+ghost use Rattle.swi_dispatch_plans.specs.Frames.{innermost_frame};
 ghost use Rattle.swi_dispatch_plans.specs.Trials.{module_state_carried};
 ghost use Rattle.swi_dispatch_guest.specs.Gates.{Resumes, ended_of, fault_kept, loaded_entered, outcome_of_gate, plan_left, state_after_plan, state_with_code_entered};
 
 use crate::guest::Guest;
 use crate::halt::Halt;
-use instances_table::plans::{Ended, Given, Outcome, Plan};
 use profile::{ErrorNumber, Fault};
-use swi_dispatch_answers::frames::{Call, Frame, FrameKind};
 use swi_dispatch_plans::module_code::{leave_swi, open_code, outcome_left};
+use swi_dispatch_plans::{Call, Ended, Frame, FrameKind, Given, Outcome, Plan};
 
 impl Guest {
     ghost use Rattle.swi_dispatch_guest.specs.GuestState.{state_of};

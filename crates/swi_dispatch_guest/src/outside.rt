@@ -5,7 +5,7 @@ ghost use Rattle.profile.specs.Outcome.{Leaves};
 ghost use Rattle.swi_dispatch_guest.specs.Writes.{machine_after_poke, machine_at, machine_unhalted, machine_with_bank_register, machine_with_register, machine_with_status};
 
 use crate::machine::Machine;
-use arm_core::{Mode, Psr};
+use arm_run::{Mode, Psr};
 use profile::Fault;
 
 impl Machine {

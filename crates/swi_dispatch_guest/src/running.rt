@@ -2,7 +2,7 @@
 //! kinds or only of instructions that the core does by itself, and what they print.
 
 ghost use Rattle.std.specs.Prelude.{◌≡◌, ◌≢◌, ◌<◌, ◌==◌, ◌≤◌, ◌↔◌, None, Some, Err, List, [], true, IsTrue, IfOk, OnOk, OnErr};
-ghost use Rattle.arm_core.specs.declared.turn.StepEnd.TheVariants.{Done};
+ghost use Rattle.arm_run.specs.StepEnd.TheVariants.{Done};
 ghost use Rattle.swi_dispatch_guest.specs.GuestState.{AreCoreSteps, AwaitsOtherTurn, IsGuest, TakesTurn, state_of};
 ghost use Rattle.swi_dispatch_guest.specs.Run.{ran, stop_after, count_after, last_or, silent_run, silent_last, silent_stop};
 ghost use Rattle.swi_dispatch_guest.specs.MachineState.{outcome_with};
@@ -14,8 +14,7 @@ ghost use Rattle.swi_dispatch_guest.specs.Ending.{Ends, StandsAfter};
 use crate::calls::Output;
 use crate::guest::Guest;
 use crate::machine::Machine;
-use arm_core::StepEnd;
-use arm_run::{Breaks, run};
+use arm_run::{Breaks, StepEnd, run};
 use profile::{Sink, Stop, WriteFault, push_all};
 use swi_dispatch_plans::Images;
 

@@ -2,17 +2,17 @@
 use Rattle.std.proofs.Common.{inl, inr, ◌≡◌, ℕ, true, false, Some, None, List, refl, sym, ap, ◌∙◌}
 use Rattle.std.specs.Prelude.{◌⊎◌, Option, is_some, option_map}
 use Rattle.std.proofs.lemmas.Bool.{false≢true, true≢false}
-use Rattle.address_map.specs.Bytes.{Bytes}
-use Rattle.address_map.specs.declared.map.AddressMap.{AddressMap}
-use Rattle.address_map.specs.Memory.{Layout, byte_at, bytes_of, class_of, layout}
+use Rattle.os_heap.specs.Bytes.{Bytes}
+use Rattle.os_heap.specs.AddressMap.{AddressMap}
+use Rattle.os_heap.specs.Memory.{Layout, byte_at, bytes_of, class_of, layout}
 use Rattle.instances.specs.module_state.ModuleState.{ModuleState, module_state_of}
-use Rattle.dynamic_areas.specs.Areas.{AreaTable}
-use Rattle.instances_table.specs.declared.plans.code.Code.{Code}
-use Rattle.instances_table.specs.declared.plans.code.Ended.{Ended}
-use Rattle.instances_table.specs.declared.plans.code.Ended.TheVariants as ended
-use Rattle.instances_table.specs.declared.plans.code.Outcome.{Outcome as CodeOutcome}
-use Rattle.instances_table.specs.plans.Carrying.{Carried, carry_of_plan}
-use Rattle.instances_table.specs.plans.Plans.{Plan, end_by, plan_after_code}
+use Rattle.instances.specs.Areas.{AreaTable}
+use Rattle.swi_dispatch_answers.specs.Code.{Code}
+use Rattle.swi_dispatch_answers.specs.Ended.{Ended}
+use Rattle.swi_dispatch_answers.specs.Ended.TheVariants as ended
+use Rattle.swi_dispatch_answers.specs.Outcome.{Outcome as CodeOutcome}
+use Rattle.swi_dispatch_answers.specs.Carrying.{Carried, carry_of_plan}
+use Rattle.swi_dispatch_answers.specs.Plans.{Plan, end_by, plan_after_code}
 use Rattle.instances.specs.Modules.{Module}
 use Rattle.os_heap.proofs.Frame.{IsKept, classes_same, heads_kept}
 use Rattle.os_heap.specs.Store.{AreClasses, IsSound, Store, store_of}

@@ -2,9 +2,9 @@
 use Rattle.std.specs.Prelude.{◌≡◌, ◌<◌, ◌+◌, length, ℕ, true, false, IfOk, None, Result, List, [], ◌∷◌, if◌then◌else◌}
 use Rattle.std.specs.List.{All}
 use Rattle.instances.specs.module_state.Sound.{IsModuleState}
-use Rattle.dynamic_areas.specs.Ground.{IsAreaStore}
-use Rattle.instances_table.specs.plans.Doable.{is_used}
-use Rattle.instances_table.specs.plans.Plans.{Plan}
+use Rattle.instances.specs.Ground.{IsAreaStore}
+use Rattle.swi_dispatch_answers.specs.Doable.{is_used}
+use Rattle.swi_dispatch_answers.specs.Plans.{Plan}
 use Rattle.instances.specs.Changes.{modules_of_title}
 use Rattle.instances.specs.Modules.{Module, slots_of}
 use Rattle.profile.specs.declared.images.module_header.fault.HeaderFault.{HeaderFault}

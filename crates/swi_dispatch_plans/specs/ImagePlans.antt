@@ -6,12 +6,12 @@ use Rattle.std.specs.Prelude.{ℕ, Bool, not, List, [], ok_or, Result, Ok, Err, 
 use Rattle.profile.specs.Outcome.{bind}
 use Rattle.profile.specs.declared.error.ErrorNumber.{ErrorNumber}
 use Rattle.profile.specs.declared.error.ErrorNumber.TheVariants.{BadPointer, BadString, ImageUnknown, ModuleNotFound}
-use Rattle.address_map.specs.Bytes.{bytes_between}
+use Rattle.os_heap.specs.Bytes.{bytes_between}
 use Rattle.swi_dispatch_answers.specs.State.{register_of}
 use Rattle.profile.specs.images.Entries.{Entry, bytes_of_image}
 use Rattle.instances.specs.Copies.{may_be_copied}
 use Rattle.instances.specs.NewImages.{may_be_in_place}
-use Rattle.instances_table.specs.plans.Plans.{Plan}
+use Rattle.swi_dispatch_answers.specs.Plans.{Plan}
 use Rattle.instances.specs.Changes.{modules_of_title}
 use Rattle.instances.specs.Modules.{slots_of}
 use Rattle.profile.specs.declared.images.module_header.fault.HeaderFault.{HeaderFault}

@@ -1,9 +1,62 @@
 -- OS_Module, what is refused first and what is planned. Begin with ModulePlans and ImagePlans.
-pub use Rattle.dynamic_areas.specs.Ground
-pub use Rattle.profile.specs.images.Entries
+pub use Rattle.flex_store.specs.Blocks
+pub use Rattle.flex_store.specs.Listed
+pub use Rattle.flex_store.specs.Memory
+pub use Rattle.flex_store.specs.State
+pub use Rattle.flex_store.specs.declared.blocks.FlexBlock
+pub use Rattle.flex_store.specs.declared.flex.Extent
+pub use Rattle.flex_store.specs.declared.flex.Flex as FlexStoreFlex
+pub use Rattle.instances.specs.Adding
+pub use Rattle.instances.specs.Area
+pub use Rattle.instances.specs.Areas
+pub use Rattle.instances.specs.Changes
+pub use Rattle.instances.specs.Copies
+pub use Rattle.instances.specs.DynamicAreasStart
+pub use Rattle.instances.specs.Ground
+pub use Rattle.instances.specs.Image
+pub use Rattle.instances.specs.InstancesTableInstanceInfo as InstanceInfo
+pub use Rattle.instances.specs.InstancesTableModuleInfo as ModuleInfo
+pub use Rattle.instances.specs.InstancesTablePlace as Place
+pub use Rattle.instances.specs.Keeping
+pub use Rattle.instances.specs.Lookup
+pub use Rattle.instances.specs.Modules as InstancesTableModules
+pub use Rattle.instances.specs.Naming
+pub use Rattle.instances.specs.NewImages
+pub use Rattle.instances.specs.PageCounts
 pub use Rattle.instances.specs.Reading
+pub use Rattle.instances.specs.Rooms
+pub use Rattle.instances.specs.Turns
+pub use Rattle.instances.specs.actions.Codes
+pub use Rattle.instances.specs.actions.Pending
+pub use Rattle.instances.specs.actions.Ready
 pub use Rattle.instances.specs.declared.answers.Start
 pub use Rattle.instances.specs.module_state
+pub use Rattle.instances.specs.module_state.ModuleState
+pub use Rattle.instances.specs.module_state.Sound
+pub use Rattle.profile.specs.images.Entries
+pub use Rattle.swi_dispatch_answers.specs.Carrying
+pub use Rattle.swi_dispatch_answers.specs.Code
+pub use Rattle.swi_dispatch_answers.specs.CodeKind
+pub use Rattle.swi_dispatch_answers.specs.Doable
+pub use Rattle.swi_dispatch_answers.specs.Errors
+pub use Rattle.swi_dispatch_answers.specs.Given
+pub use Rattle.swi_dispatch_answers.specs.Handler
+pub use Rattle.swi_dispatch_answers.specs.Outcome
+pub use Rattle.swi_dispatch_answers.specs.PlanAction
+pub use Rattle.swi_dispatch_answers.specs.Plans
+pub use Rattle.swi_dispatch_answers.specs.Refusals
+pub use Rattle.swi_dispatch_answers.specs.Returns
+pub use Rattle.swi_dispatch_answers.specs.Strings
+pub use Rattle.swi_dispatch_answers.specs.Words
+pub use Rattle.swi_dispatch_answers.specs.declared.frames.call.Call
+pub use Rattle.swi_dispatch_answers.specs.declared.frames.frame.Frame
+pub use Rattle.swi_dispatch_answers.specs.declared.frames.frame.FrameKind
+pub use Rattle.swi_dispatch_answers.specs.declared.refusal.Refusal
+pub use Rattle.swi_dispatch_answers.specs.declared.strings.TextEnd
+pub use Rattle.swi_dispatch_answers.specs.frames.Busy
+pub use Rattle.swi_dispatch_answers.specs.frames.Entering
+pub use Rattle.swi_dispatch_answers.specs.frames.Frames
+pub use Rattle.swi_dispatch_answers.specs.frames.Leaving
 pub mod Beginning
 pub mod ImagePlans
 pub mod ModuleCode

@@ -1,10 +1,10 @@
 -- Module code is entered, and comes back (this project's own).
 use Rattle.std.specs.Prelude.{◌≡◌, ℕ, true, false, ◌&&◌, not, ◌++◌, ◌∷◌, [], List, Option, Some, None, if◌then◌else◌}
-use Rattle.address_map.specs.Bytes.{Bytes}
-use Rattle.instances_table.specs.declared.plans.code.Code.{Code}
-use Rattle.instances_table.specs.declared.plans.code.Outcome.{Outcome as CodeOutcome}
-use Rattle.instances_table.specs.declared.plans.code.Outcome.TheVariants.{Well, Refused}
-use Rattle.instances_table.specs.plans.Plans.{Plan}
+use Rattle.os_heap.specs.Bytes.{Bytes}
+use Rattle.swi_dispatch_answers.specs.Code.{Code}
+use Rattle.swi_dispatch_answers.specs.Outcome.{Outcome as CodeOutcome}
+use Rattle.swi_dispatch_answers.specs.Outcome.TheVariants.{Well, Refused}
+use Rattle.swi_dispatch_answers.specs.Plans.{Plan}
 use Rattle.swi_dispatch_answers.specs.State.{State, register_of}
 use Rattle.swi_dispatch_answers.specs.Errors.{error_at}
 use Rattle.swi_dispatch_answers.specs.Returns.{state_after_return}

@@ -5,7 +5,7 @@ use Rattle.std.specs.Prelude.{ℕ, is_some, ◌==◌, ◌||◌, nat_lt, List, []
 use Rattle.profile.specs.Outcome.{bind}
 use Rattle.profile.specs.declared.error.ErrorNumber.{ErrorNumber}
 use Rattle.profile.specs.declared.error.ErrorNumber.TheVariants.{FrameLimit, ModuleBusy}
-use Rattle.instances_table.specs.plans.Plans.{Plan}
+use Rattle.swi_dispatch_answers.specs.Plans.{Plan}
 use Rattle.swi_dispatch_answers.specs.Words.{name_part, text_part}
 use Rattle.swi_dispatch_answers.specs.frames.Busy.{has_swi_of}
 use Rattle.instances.specs.Plans.{clearing, deletion, reinitialisation, tidying}

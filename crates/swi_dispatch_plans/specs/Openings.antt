@@ -8,7 +8,7 @@ use Rattle.profile.specs.declared.error.ErrorNumber.{ErrorNumber}
 use Rattle.profile.specs.declared.error.ErrorNumber.TheVariants.{ModuleBusy}
 use Rattle.swi_dispatch_answers.specs.Mode.TheVariants.{User}
 use Rattle.swi_dispatch_answers.specs.State.{State, start_psr, with_pc, with_psr, with_register_in}
-use Rattle.instances_table.specs.plans.Code.{private_of}
+use Rattle.swi_dispatch_answers.specs.InstancesTableCode.{private_of}
 use Rattle.instances.specs.declared.answers.Start.{Start}
 use Rattle.instances.specs.Reading.{start_found}
 use Rattle.swi_dispatch_plans.specs.declared.openings.Opening.{Opening}

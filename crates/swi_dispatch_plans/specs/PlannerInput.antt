@@ -1,11 +1,11 @@
 -- What a call on modules finds as it begins (this project's own).
 use Rattle.std.specs.Prelude.{ℕ, Option, Result, List}
 use Rattle.profile.specs.declared.error.ErrorNumber.{ErrorNumber}
-use Rattle.address_map.specs.declared.map.AddressMap.{AddressMap}
+use Rattle.os_heap.specs.AddressMap.{AddressMap}
 use Rattle.swi_dispatch_answers.specs.State.{State}
 use Rattle.instances.specs.module_state.ModuleState.{ModuleState, module_state_of}
-use Rattle.dynamic_areas.specs.Areas.{AreaTable}
-use Rattle.instances_table.specs.plans.Plans.{Plan}
+use Rattle.instances.specs.Areas.{AreaTable}
+use Rattle.swi_dispatch_answers.specs.Plans.{Plan}
 use Rattle.instances.specs.Modules.{Module}
 use Rattle.swi_dispatch_answers.specs.Strings.{string_in}
 use Rattle.swi_dispatch_answers.specs.declared.frames.frame.Frame.{Frame}

@@ -2,9 +2,9 @@
 -- (this project's own).
 use Rattle.std.specs.Prelude.{ℕ, Option, Some, None, option_map}
 use Rattle.instances.specs.module_state.ModuleState.{ModuleState}
-use Rattle.instances_table.specs.declared.plans.code.Code.{Code}
-use Rattle.instances_table.specs.plans.Carrying.{Carried, carry_of_plan}
-use Rattle.instances_table.specs.plans.Plans.{Plan}
+use Rattle.swi_dispatch_answers.specs.Code.{Code}
+use Rattle.swi_dispatch_answers.specs.Carrying.{Carried, carry_of_plan}
+use Rattle.swi_dispatch_answers.specs.Plans.{Plan}
 use Rattle.swi_dispatch_answers.specs.Errors.{error_at}
 use Rattle.instances.specs.Turns.{module_doing}
 

@@ -3,7 +3,7 @@
 
 ghost use Rattle.std.specs.Prelude.{◌≡◌, ◌≤◌, length, true, IfOk, Ok};
 ghost use Rattle.profile.specs.Outcome.{bind};
-ghost use Rattle.address_map.specs.Bytes.{AreMapped};
+ghost use Rattle.os_heap.specs.Bytes.{AreMapped};
 ghost use Rattle.profile.specs.images.module_header.Header.{header_of};
 ghost use Rattle.instances.specs.Copies.{may_be_copied};
 ghost use Rattle.instances.specs.NewImages.{may_be_in_place};
@@ -12,8 +12,7 @@ ghost use Rattle.swi_dispatch_plans.specs.ImagePlans.{SparesRange, copy_asked, i
 ghost use Rattle.swi_dispatch_plans.specs.PlannerInput.{setting_in};
 
 use crate::planner::Planner;
-use instances::Rma;
-use instances_table::plans::Plan;
+use instances::{Plan, Rma};
 use profile::ErrorNumber;
 use profile::images::Images;
 use profile::images::module_header::Header;

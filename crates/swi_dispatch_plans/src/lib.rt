@@ -23,8 +23,22 @@ pub mod refusals;
 pub mod scratch;
 pub mod store;
 
+pub use flex_store::{Flex, FlexBlock, FlexBlocks};
 pub use image_plans::{ImageFound, ImageRange, Load};
+pub use instances::module_state::put_text;
+pub use instances::{
+    Area, Areas, Ended, Handler, InstanceInfo, Instances, ModuleInfo, Outcome, Plan, Start,
+    areas_count_pages, start_memory,
+};
 pub use openings::{Opening, enter_as_user};
 pub use planner::Planner;
 pub use profile::images::Images;
 pub use scratch::Scratch;
+pub use swi_dispatch_answers::errors::{error_at, write_error};
+pub use swi_dispatch_answers::frames::{
+    Call, CodeKind, Frame, FrameKind, Frames, MOST_FRAMES, enter_swi,
+};
+pub use swi_dispatch_answers::returns::return_to;
+pub use swi_dispatch_answers::strings::{next_word, text_at};
+pub use swi_dispatch_answers::words::host_string;
+pub use swi_dispatch_answers::{Given, MAX_TEXT, Refusal, TextEnd};

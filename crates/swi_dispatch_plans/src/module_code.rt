@@ -2,12 +2,12 @@
 //! that is under way.
 
 ghost use Rattle.std.specs.Prelude.{◌≡◌, ◌<◌, length, true, MatchResult};
-ghost use Rattle.address_map.specs.Memory.{bytes_of};
+ghost use Rattle.os_heap.specs.Memory.{bytes_of};
 ghost use Rattle.swi_dispatch_answers.specs.frames.Busy.{is_swi};
 ghost use Rattle.swi_dispatch_plans.specs.ModuleCode.{GoesBack, IsUntaken, core_by, frames_by, kept_by, outcome_left, plan_unless_code};
 
-use address_map::AddressMap;
-use instances_table::plans::{Code, Outcome, Plan};
+use instances::{Code, Outcome, Plan};
+use os_heap::AddressMap;
 use swi_dispatch_answers::Cpu;
 use swi_dispatch_answers::errors::error_at;
 use swi_dispatch_answers::frames::{Call, Frame, FrameKind, Frames, enter_code};

@@ -7,7 +7,7 @@ ghost use Rattle.swi_dispatch_plans.specs.ModulePlans.{clear_planned, delete_pla
 ghost use Rattle.swi_dispatch_plans.specs.PlannerInput.{setting_in};
 
 use crate::planner::Planner;
-use instances_table::plans::Plan;
+use instances::Plan;
 use profile::ErrorNumber;
 use swi_dispatch_answers::words::{name_part, text_part};
 

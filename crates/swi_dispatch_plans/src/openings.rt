@@ -8,10 +8,9 @@ ghost use Rattle.swi_dispatch_plans.specs.PlannerInput.{setting_in};
 use crate::planner::Planner;
 use arrayvec::ArrayVec;
 use instances::Start;
-use instances_table::plans::private_word;
 use profile::ErrorNumber;
 use profile::memory_map::ENVIRONMENT_TEXT;
-use swi_dispatch_answers::{Cpu, MAX_TEXT, Mode, Psr};
+use swi_dispatch_answers::{Cpu, MAX_TEXT, Mode, Psr, private_word};
 
 /// A user's program finds all flags clear.
 const USER: Psr = Psr {

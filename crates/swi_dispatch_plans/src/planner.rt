@@ -5,11 +5,9 @@ ghost use Rattle.swi_dispatch_answers.specs.Strings.{bytes_read};
 ghost use Rattle.swi_dispatch_plans.specs.Beginning.{IsPlannerInput};
 ghost use Rattle.swi_dispatch_plans.specs.PlannerInput.{setting_in, string_asked};
 
-use address_map::AddressMap;
 use arrayvec::ArrayVec;
-use dynamic_areas::Areas;
-use instances::Instances;
-use instances_table::plans::Plan;
+use instances::{Areas, Instances, Plan};
+use os_heap::AddressMap;
 use profile::ErrorNumber;
 use std::marker::Model;
 use swi_dispatch_answers::frames::Frames;

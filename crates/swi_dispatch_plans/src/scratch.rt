@@ -3,15 +3,13 @@
 
 ghost use Rattle.std.specs.Prelude.{◌≡◌, IfOk};
 ghost use Rattle.profile.specs.Sizes.{AreGood};
-ghost use Rattle.instances_table.specs.plans.Plans.{plan_after_code};
+ghost use Rattle.swi_dispatch_answers.specs.Plans.{plan_after_code};
 ghost use Rattle.instances.specs.module_state.ModuleState.{module_state_of};
 ghost use Rattle.instances.specs.Turns.{IsMapUnderWay};
 ghost use Rattle.swi_dispatch_plans.specs.Trials.{error_ahead};
 
-use address_map::AddressMap;
-use dynamic_areas::{Areas, areas_count_pages};
-use instances::Instances;
-use instances_table::plans::{Ended, Outcome, Plan};
+use instances::{Areas, Ended, Instances, Outcome, Plan, areas_count_pages};
+use os_heap::AddressMap;
 use profile::Config;
 use std::alloc::{AllocError, Global};
 use std::marker::Model;
@@ -28,7 +26,7 @@ pub struct Scratch {
 impl Model for Scratch {
     ghost use Rattle.std.specs.Prelude.{◌≡◌};
     ghost use Rattle.profile.specs.Sizes.{Sizes};
-    ghost use Rattle.address_map.specs.Memory.{page_total};
+    ghost use Rattle.os_heap.specs.Memory.{page_total};
 
     ghost Value = { Sizes };
 

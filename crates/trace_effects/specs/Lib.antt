@@ -1,4 +1,6 @@
 -- What a step finds, of what a trace shows. Begin with Cause.
+pub use Rattle.arm_step.specs.Bytes
+pub use Rattle.arm_step.specs.Memory
 pub mod Cause
 pub mod Columns
 pub mod Effects

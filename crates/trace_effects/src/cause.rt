@@ -1,13 +1,13 @@
 //! What stands where a core goes on.
 
 ghost use Rattle.std.specs.Prelude.{◌≡◌};
-ghost use Rattle.address_map.specs.Memory.{bytes_of};
+ghost use Rattle.arm_step.specs.Memory.{bytes_of};
 ghost use Rattle.trace_effects.specs.Cause.{cause_of, swi_of_action, swi_of_cause};
 
-use address_map::AddressMap;
 use arm_core::Cpu;
 use arm_core::condition::is_met;
 use arm_decode::{Action, Condition, decode};
+use arm_step::AddressMap;
 use profile::memory_map::RETURN_GATE;
 
 /// What stands where a core goes on.

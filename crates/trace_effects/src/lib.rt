@@ -17,6 +17,7 @@ pub mod shown_words;
 pub mod stored;
 pub mod word_text;
 
+pub use arm_step::AddressMap;
 pub use cause::{Cause, called_swi};
 pub use effects::{Effects, effects_of};
 pub use leaving::{call_leaves, stays_in_heap};

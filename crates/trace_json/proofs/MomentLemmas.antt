@@ -7,9 +7,9 @@ use Rattle.profile.specs.images.Entries.{Entry}
 use Rattle.address_map.specs.Bytes.{Bytes, in_range, word_at}
 use Rattle.profile.specs.declared.stop.Stop.{Stop}
 use Rattle.arm_core.specs.State.{State}
-use Rattle.swi_dispatch_guest.specs.MachineState.{MachineState, stop_of}
-use Rattle.swi_dispatch_guest.specs.declared.halt.Halt.{Halt}
-use Rattle.swi_dispatch_guest.specs.Step.{machine_step}
+use Rattle.trace_text.specs.MachineState.{MachineState, stop_of}
+use Rattle.trace_moments.specs.Halt.{Halt}
+use Rattle.trace_text.specs.SwiDispatchGuestStep.{machine_step}
 use Rattle.trace_effects.specs.Cause.{cause_of}
 use Rattle.trace_effects.specs.Stored.{stored_words}
 use Rattle.trace_effects.specs.changes.Laws.{CoreChanges, core_after}
@@ -23,7 +23,7 @@ use Rattle.trace_moments.specs.law_trace.Laws.{PlainStepsStore, StoresWords, is_
 use Rattle.trace_moments.proofs.StoredLemmas.{renewed_after}
 use Rattle.trace_moments.specs.CoreFields.{AreCoreChanges, ShowsCore, core_fields}
 use Rattle.trace_effects.specs.shown_words.Replay.{words_after}
-use Rattle.store_copies.specs.Copies.{kept_in}
+use Rattle.trace_text.specs.Copies.{kept_in}
 use Rattle.trace_json.specs.Moments.{ChangesKept, ChangesListed, IsKeptBefore, IsCopy, KeepsMemory, ShowsChanges, expected_at, is_copied, step_place, words_of}
 use Rattle.trace_moments.specs.WordFields.{AreWordChanges, ShowsWords, word_fields}
 use Rattle.trace_json.specs.declared.before.MemoryBefore.{MemoryBefore}

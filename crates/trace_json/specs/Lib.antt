@@ -4,5 +4,8 @@ pub use Rattle.trace_moments.specs.CoreFields
 pub use Rattle.trace_moments.specs.Fields
 pub use Rattle.trace_moments.specs.WordFields
 pub use Rattle.trace_moments.specs.law_trace.Laws as PlainSteps
+pub use Rattle.trace_text.specs.GuestState
+pub use Rattle.trace_text.specs.MachineState
+pub use Rattle.trace_text.specs.SwiDispatchGuestStep as Step
 pub mod Moments
 pub mod OtherFields

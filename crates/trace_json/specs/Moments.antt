@@ -2,14 +2,14 @@
 -- where one that isn't mapped counts as 0.
 use Rattle.std.specs.Prelude.{◌≡◌, ℕ, ◌+◌, ◌%◌, ◌<◌, ◌^◌, Bool, true, false, is_some, IsSome, List, ◌++◌, Option, Some, None, if◌then◌else◌}
 use Rattle.address_map.specs.Bytes.{word_at}
-use Rattle.swi_dispatch_guest.specs.MachineState.{MachineState}
+use Rattle.trace_text.specs.MachineState.{MachineState}
 use Rattle.trace_effects.specs.Cause.{cause_of}
 use Rattle.trace_effects.specs.Stored.{stored_words}
 use Rattle.trace_effects.specs.changes.Laws.{CoreChanges}
 use Rattle.trace_effects.specs.declared.cause.Cause.{Cause}
 use Rattle.trace_effects.specs.declared.record_text.text.RecordText.{RecordText}
 use Rattle.trace_effects.specs.declared.shown_words.words.ShownWord.{ShownWord}
-use Rattle.store_copies.specs.Copies.{kept_in}
+use Rattle.trace_text.specs.Copies.{kept_in}
 use Rattle.trace_moments.specs.Stored.{AreListed, is_listed}
 use Rattle.trace_moments.specs.CoreFields.{AreCoreChanges, core_fields}
 use Rattle.trace_moments.specs.Fields.{HasMore}

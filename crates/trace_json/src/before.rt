@@ -1,19 +1,19 @@
 //! What is kept of a machine's memory before a step, by how the step is made.
 
 ghost use Rattle.std.specs.Prelude.{◌≡◌, ◌||◌, true, is_some, not, IfOk, OnOk};
-ghost use Rattle.swi_dispatch_guest.specs.GuestState.{state_of};
-ghost use Rattle.swi_dispatch_guest.specs.MachineState.{MachineState};
+ghost use Rattle.trace_text.specs.GuestState.{state_of};
+ghost use Rattle.trace_text.specs.MachineState.{MachineState};
 ghost use Rattle.trace_json.specs.Moments.{ChangesListed, KeepsWords, changes_all, is_copied, step_place_by, words_of};
 ghost use Rattle.trace_moments.specs.WordFields.{ShowsWords};
 ghost use Rattle.trace_moments.specs.law_trace.Laws.{is_plain};
 
 use crate::changes::MachineCopy;
 use std::alloc::{AllocError, Global};
-use swi_dispatch_guest::{Machine, without_x_bit};
 use trace_effects::record_text::RecordText;
 use trace_effects::shown_words::ShownWord;
 use trace_effects::{Cause, called_swi, stored_words};
 use trace_moments::{push_words, stored_changes, words_at};
+use trace_text::{Machine, without_x_bit};
 
 /// How a step is made.
 #[derive(Clone, Copy, Debug, PartialEq, Eq)]

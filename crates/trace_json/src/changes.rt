@@ -2,9 +2,9 @@
 
 ghost use Rattle.std.specs.Prelude.{◌≡◌, codes, IfOk, OnOk};
 ghost use Rattle.address_map.specs.Bytes.{word_at};
-ghost use Rattle.swi_dispatch_guest.specs.GuestState.{state_of};
-ghost use Rattle.swi_dispatch_guest.specs.MachineState.{MachineState};
-ghost use Rattle.store_copies.specs.Copies.{kept_in};
+ghost use Rattle.trace_text.specs.GuestState.{state_of};
+ghost use Rattle.trace_text.specs.MachineState.{MachineState};
+ghost use Rattle.trace_text.specs.Copies.{kept_in};
 ghost use Rattle.trace_json.specs.Moments.{IsCopy, ShowsChanges, words_of};
 ghost use Rattle.trace_moments.specs.WordFields.{ShowsWords};
 
@@ -13,14 +13,13 @@ use crate::heaps::{BlockFate, push_changed_heaps};
 use crate::lists::{push_areas, push_modules};
 use arm_core::Cpu;
 use std::alloc::{AllocError, Global};
-use store_copies::StoreCopy;
-use swi_dispatch_guest::Machine;
 use trace_effects::record_text::RecordText;
 use trace_effects::shown_registers::WrittenRegisters;
 use trace_effects::shown_words::changed_words;
 use trace_moments::{
     ShownAreas, changed_areas, changed_modules, push_core_changes, push_words, shown_areas,
 };
+use trace_text::{Machine, StoreCopy};
 
 /// What is kept of a machine, to show later what differs.
 #[derive(Drop)]

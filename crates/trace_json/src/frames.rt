@@ -1,12 +1,12 @@
 //! Frames of module code in records.
 
 use arm_core::{Cpu, Mode};
-use instances::Instances;
 use std::alloc::AllocError;
-use swi_dispatch_guest::{CodeKind, FrameKind, Machine};
 use trace_effects::record_text::{Bracket, RecordText};
-use trace_moments::{ShownFrame, changed_frames, mode_name};
-use trace_store_text::modules::marks_of;
+use trace_moments::{
+    CodeKind, FrameKind, Instances, ShownFrame, changed_frames, marks_of, mode_name,
+};
+use trace_text::Machine;
 
 /// Writes which frames a step has left and which one it entered, where so many were kept open of so
 /// many before it. `caller` is where the step was made, if that isn't outside.

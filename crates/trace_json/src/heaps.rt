@@ -1,14 +1,15 @@
 //! Heaps in records.
 
 ghost use Rattle.os_heap.specs.Store.{IsSound, store_of};
-ghost use Rattle.trace_store_text.specs.Sound.{AreBothSound};
+ghost use Rattle.trace_text.specs.Sound.{AreBothSound};
 
 use address_map::{AddressMap, Item, Region};
 use std::alloc::{AllocError, Global};
 use trace_effects::record_text::{Bracket, RecordText};
-use trace_moments::{SameBlock, all_changed_items, resized_block, slid_blocks};
-use trace_store_text::heaps::{HeapLimits, limits_of};
-use trace_store_text::items::{ItemChange, ItemWalk};
+use trace_moments::{
+    ItemWalk, SameBlock, all_changed_items, limits_of, resized_block, slid_blocks,
+};
+use trace_text::{HeapLimits, ItemChange};
 
 /// Which blocks a step left in another place or with another length.
 #[derive(Clone, Copy, Debug)]

@@ -28,3 +28,4 @@ pub use state::push_state;
 pub use step::StepBefore;
 pub use stops::{error_name, push_error, push_stop, stop_reason};
 pub use trace_moments::law_trace::laws::plain_steps_store;
+pub use trace_text::Machine;

@@ -4,7 +4,7 @@ use profile::memory_map::{PAGE_SIZE, PRIVATE_WORDS};
 use std::alloc::AllocError;
 use trace_effects::record_text::{Bracket, RecordText};
 use trace_moments::{ShownArea, ShownAreas};
-use trace_store_text::modules::InstanceMark;
+use trace_text::InstanceMark;
 
 /// Writes all dynamic areas, and how many pages are in the pool.
 pub(crate) fn push_areas(text: &mut RecordText, areas: &ShownAreas) -> Result<(), AllocError> {

@@ -6,8 +6,8 @@ use crate::heaps::BlockFate;
 use crate::step::push_out;
 use crate::stops::{push_stop, stop_reason};
 use std::alloc::{AllocError, Global};
-use swi_dispatch_guest::Machine;
 use trace_effects::record_text::RecordText;
+use trace_text::Machine;
 
 /// Writes what steps left that aren't shown one by one, beside what differs of the core and of words, and
 /// but for where images stand.

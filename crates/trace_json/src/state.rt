@@ -4,10 +4,9 @@ use crate::flex::push_store;
 use crate::heaps::push_all_heaps;
 use crate::lists::{push_areas, push_modules};
 use std::alloc::AllocError;
-use swi_dispatch_guest::Machine;
 use trace_effects::record_text::RecordText;
-use trace_moments::{flex_range_of, push_core, push_memory, shown_areas};
-use trace_store_text::modules::marks_of;
+use trace_moments::{flex_range_of, marks_of, push_core, push_memory, shown_areas};
+use trace_text::Machine;
 
 /// Writes all that stands in a machine: its core, its memory, its heaps, areas and modules, and where
 /// its flex store is.

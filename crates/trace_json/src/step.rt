@@ -1,8 +1,8 @@
 //! One step as a record: what is done, and what it leaves.
 
 ghost use Rattle.std.specs.Prelude.{◌≡◌, ◌||◌, true, codes, is_some, not, IfOk, OnOk};
-ghost use Rattle.swi_dispatch_guest.specs.GuestState.{state_of};
-ghost use Rattle.swi_dispatch_guest.specs.MachineState.{MachineState};
+ghost use Rattle.trace_text.specs.GuestState.{state_of};
+ghost use Rattle.trace_text.specs.MachineState.{MachineState};
 ghost use Rattle.trace_effects.specs.Cause.{cause_of};
 ghost use Rattle.trace_json.specs.Moments.{ChangesKept, IsKeptBefore, KeepsMemory, KeepsWords, ShowsChanges, changes_all, expected_at, is_copied, step_place, words_of};
 ghost use Rattle.trace_moments.specs.WordFields.{ShowsWords};
@@ -20,7 +20,6 @@ use profile::text_sink::TextSink;
 use profile::word::is_bit_set;
 use profile::{HexText, Stop, SwiName};
 use std::alloc::{AllocError, Global};
-use swi_dispatch_guest::{Machine, without_x_bit};
 use trace_effects::changes::following_word;
 use trace_effects::record_text::RecordText;
 use trace_effects::shown_registers::WrittenRegisters;
@@ -29,6 +28,7 @@ use trace_effects::{Cause, called_swi};
 use trace_moments::{
     loaded_words, push_core_changes, push_reads, words_at, written_by_call, written_by_instruction,
 };
+use trace_text::{Machine, without_x_bit};
 
 /// What is kept of a machine before a step.
 #[derive(Drop)]

@@ -1,5 +1,6 @@
 -- What a step or a line leaves of a machine, as values. Begin with Difference; law_replay says what the
 -- values are good for. CoreFields and WordFields say how records spell the core and the words of memory.
+pub use Rattle.law_machine.specs.Halt
 pub mod Areas
 pub mod CoreFields
 pub mod Difference

@@ -4,7 +4,7 @@ ghost use Rattle.std.specs.Prelude.{◌≡◌, ◌↔◌, IsTrue};
 ghost use Rattle.trace_moments.specs.Difference.{IsDifference};
 ghost use Rattle.trace_moments.specs.Modules.{module_marks};
 
-use instances::Instances;
+use law_machine::Instances;
 use trace_store_text::modules::{InstanceMark, InstanceMarks, marks_of};
 
 /// The instances of all modules as they are, where they aren't what they were. With each stand its

@@ -2,10 +2,10 @@
 use Rattle.std.proofs.Common.{◌≡◌, ℕ, List, ◌++◌, Option, Some, None, refl}
 use Rattle.address_map.specs.Memory.{bytes_of}
 use Rattle.address_map.specs.declared.map.AddressMap.{AddressMap}
-use Rattle.flex_store.specs.Listed.{all_listed}
-use Rattle.flex_store.specs.State.{flex_in}
-use Rattle.flex_store.specs.declared.flex.Extent.{Extent}
-use Rattle.flex_store.specs.declared.flex.Flex.{Flex}
+use Rattle.store_copies.specs.Listed.{all_listed}
+use Rattle.store_copies.specs.State.{flex_in}
+use Rattle.store_copies.specs.Extent.{Extent}
+use Rattle.store_copies.specs.Flex.{Flex}
 use Rattle.trace_store_text.specs.flex.Changes.{blocks_in_extent, flex_blocks_in}
 use Rattle.trace_store_text.specs.FlexLines.{flex_change_lines, flex_lines, store_line}
 

@@ -6,7 +6,7 @@ use Rattle.address_map.specs.Memory.{bytes_of, regions}
 use Rattle.address_map.specs.Records.{is_heap_kind}
 use Rattle.address_map.specs.declared.map.AddressMap.{AddressMap}
 use Rattle.address_map.specs.declared.region.Region.{Region}
-use Rattle.os_heap.specs.Store.{heaps_in, store_of}
+use Rattle.store_copies.specs.Store.{heaps_in, store_of}
 use Rattle.trace_store_text.specs.HeapLines.{gone_heap_lines, heap_lines, kept_heap_lines, lines_of_heaps, lines_of_region}
 
 lines_in : (lines : ℕ → List ℕ) (b : Bytes) (rs : List Region) → lines_of_heaps lines (heaps_in b rs) ≡ flat_map (lines_of_region lines) rs

@@ -8,7 +8,7 @@ use Rattle.address_map.specs.declared.map.AddressMap.{AddressMap}
 use Rattle.address_map.specs.declared.region.Kind.{Kind}
 use Rattle.address_map.specs.declared.region.Kind.TheVariants.{Heap, Rma, FlexStore, FlexHeader, Anchor, HeadWord, Image, SystemPage}
 use Rattle.address_map.specs.declared.region.Region.{Region}
-use Rattle.os_heap.specs.Store.{is_image, others_in, store_of}
+use Rattle.store_copies.specs.Store.{is_image, others_in, store_of}
 use Rattle.trace_store_text.specs.ImageLines.{image_lines, is_same_image, lone_image_line}
 
 no_image : (k : Kind) → is_heap_kind k ≡ true → is_image k ≡ false

@@ -2,7 +2,7 @@
 use Rattle.std.proofs.Common.{◌≡◌, ℕ, Bool, List, [], ◌++◌, refl, sym, ap, ◌∙◌}
 use Rattle.std.proofs.lemmas.List.{append-nil}
 use Rattle.address_map.specs.Bytes.{Bytes}
-use Rattle.os_heap.specs.Store.{Store}
+use Rattle.store_copies.specs.Store.{Store}
 use Rattle.store_copies.specs.declared.changes.WordChange.{WordChange}
 use Rattle.store_copies.specs.declared.changes.WordChanges.{WordChanges}
 use Rattle.store_copies.specs.Words.{IsSummary, all_changes, is_shown_elsewhere}

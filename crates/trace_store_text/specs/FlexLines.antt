@@ -5,9 +5,9 @@ use Rattle.std.specs.Fmt.{decimal}
 use Rattle.std.specs.List.{flat_map}
 use Rattle.profile.specs.Digits.{hex_word}
 use Rattle.address_map.specs.Bytes.{Bytes}
-use Rattle.flex_store.specs.declared.blocks.FlexBlock.{FlexBlock}
-use Rattle.flex_store.specs.declared.flex.Extent.{Extent}
-use Rattle.flex_store.specs.declared.flex.Flex.{Flex}
+use Rattle.store_copies.specs.FlexBlock.{FlexBlock}
+use Rattle.store_copies.specs.Extent.{Extent}
+use Rattle.store_copies.specs.Flex.{Flex}
 use Rattle.trace_store_text.specs.flex.Changes.{BlockChange, flex_blocks_in, gone_block, kept_block}
 
 -- `flex 0000A000 0000A400 new`: from where to where it lies

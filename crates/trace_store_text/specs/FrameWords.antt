@@ -6,10 +6,10 @@ use Rattle.std.specs.List.{flat_map}
 use Rattle.profile.specs.Digits.{hex_number}
 use Rattle.instances_table.specs.Modules.{Module}
 use Rattle.instances_table.specs.declared.plans.code.CodeKind.TheVariants.{Initialise, Finalise}
-use Rattle.swi_dispatch_answers.specs.frames.Frames.{innermost_frame}
-use Rattle.swi_dispatch_answers.specs.declared.frames.frame.Frame.{Frame}
-use Rattle.swi_dispatch_answers.specs.declared.frames.frame.FrameKind.{FrameKind}
-use Rattle.swi_dispatch_answers.specs.declared.frames.frame.FrameKind.TheVariants.{Swi, Entry}
+use Rattle.store_copies.specs.Frames.{innermost_frame}
+use Rattle.debugger.specs.Frame.{Frame}
+use Rattle.debugger.specs.FrameKind.{FrameKind}
+use Rattle.debugger.specs.FrameKind.TheVariants.{Swi, Entry}
 use Rattle.trace_store_text.specs.modules.Marks.{instance_marks}
 use Rattle.trace_store_text.specs.declared.modules.marks.InstanceMark.{InstanceMark}
 

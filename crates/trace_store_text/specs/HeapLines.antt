@@ -7,8 +7,8 @@ use Rattle.std.specs.List.{flat_map}
 use Rattle.profile.specs.Digits.{hex_word}
 use Rattle.address_map.specs.Records.{is_heap_kind}
 use Rattle.address_map.specs.declared.region.Region.{Region}
-use Rattle.os_heap.specs.Store.{Store}
-use Rattle.os_heap_words.specs.lists.Heap.{HeapList}
+use Rattle.store_copies.specs.Store.{Store}
+use Rattle.store_copies.specs.Heap.{HeapList}
 use Rattle.trace_store_text.specs.heaps.Limits.{limits_in}
 use Rattle.trace_store_text.specs.items.Changes.{item_changes}
 use Rattle.trace_store_text.specs.ItemLines.{item_lines}

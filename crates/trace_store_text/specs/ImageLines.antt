@@ -5,7 +5,7 @@ use Rattle.std.specs.Fmt.{decimal}
 use Rattle.std.specs.List.{flat_map, list_any}
 use Rattle.profile.specs.Digits.{hex_word}
 use Rattle.address_map.specs.declared.region.Region.{Region}
-use Rattle.os_heap.specs.Store.{Store, is_image}
+use Rattle.store_copies.specs.Store.{Store, is_image}
 
 -- `image 01800014 76 new`
 unfoldable pub image_line : List ℕ → Region → List ℕ

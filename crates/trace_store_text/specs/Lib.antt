@@ -1,8 +1,16 @@
 -- The lines below a store call. Begin with StoreLines.
+pub use Rattle.debugger.specs.Errors
+pub use Rattle.debugger.specs.Frame
+pub use Rattle.debugger.specs.GuestState
+pub use Rattle.debugger.specs.MachineState
 pub use Rattle.debugger.specs.Memory
+pub use Rattle.debugger.specs.Printing
 pub use Rattle.debugger.specs.Registers
+pub use Rattle.debugger.specs.Step
 pub use Rattle.debugger.specs.views
+pub use Rattle.store_copies.specs.Area
 pub use Rattle.store_copies.specs.Copies
+pub use Rattle.store_copies.specs.Frames
 pub use Rattle.store_copies.specs.Words
 pub mod FlexLines
 pub mod FrameWords

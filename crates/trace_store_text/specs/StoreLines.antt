@@ -1,7 +1,7 @@
 -- All that a store call changes in the machine's store, a line below the call for each.
 use Rattle.std.specs.Prelude.{ℕ, Bool, List, ◌++◌}
 use Rattle.store_copies.specs.Copies.{KeptStore}
-use Rattle.os_heap.specs.Store.{Store}
+use Rattle.store_copies.specs.Store.{Store}
 use Rattle.store_copies.specs.Words.{all_changes, is_shown_elsewhere}
 use Rattle.trace_store_text.specs.FlexLines.{flex_lines}
 use Rattle.trace_store_text.specs.HeapLines.{heap_lines}

@@ -4,16 +4,16 @@ ghost use Rattle.std.specs.Prelude.{◌≡◌, Some, None};
 ghost use Rattle.std.specs.List.{flat_map};
 ghost use Rattle.address_map.specs.Memory.{bytes_of};
 ghost use Rattle.profile.specs.Output.{Writes};
-ghost use Rattle.flex_store.specs.Listed.{all_listed};
-ghost use Rattle.flex_store.specs.State.{IsFlex, flex_in};
+ghost use Rattle.store_copies.specs.Listed.{all_listed};
+ghost use Rattle.store_copies.specs.State.{IsFlex, flex_in};
 ghost use Rattle.trace_store_text.specs.flex.Changes.{gone_block_by, kept_block_by};
 ghost use Rattle.trace_store_text.specs.FlexLines.{block_change_line, flex_change_lines, flex_lines, gone_block_line, gone_block_lines, kept_block_lines, new_block_line, new_store_line, other_block_line, store_line};
 
 use crate::flex::{find_block, is_same_block};
 use address_map::AddressMap;
-use flex_store::{Flex, FlexBlock};
 use itoa::Buffer;
 use profile::{HexText, Sink, WriteFault, push_parts};
+use store_copies::{Flex, FlexBlock};
 
 /// Writes a line for a flex store that is new, and for each block of it that is gone, new, or not what
 /// it was.

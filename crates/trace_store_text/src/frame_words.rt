@@ -3,7 +3,7 @@
 ghost use Rattle.std.specs.Prelude.{◌≡◌};
 ghost use Rattle.std.specs.List.{flat_map};
 ghost use Rattle.profile.specs.Output.{Writes};
-ghost use Rattle.swi_dispatch_answers.specs.frames.Frames.{innermost_frame};
+ghost use Rattle.store_copies.specs.Frames.{innermost_frame};
 ghost use Rattle.trace_store_text.specs.FrameWords.{entered_word, frame_word, instance_name_text, kind_text, left_word, marked_name, marked_name_if};
 
 use crate::modules::{InstanceMark, marks_of};

@@ -2,7 +2,7 @@
 
 ghost use Rattle.std.specs.Prelude.{◌≡◌};
 ghost use Rattle.std.specs.List.{flat_map};
-ghost use Rattle.os_heap.specs.Store.{IsSound, store_of};
+ghost use Rattle.store_copies.specs.Store.{IsSound, store_of};
 ghost use Rattle.profile.specs.Output.{Writes};
 ghost use Rattle.trace_store_text.specs.HeapLines.{changed_limit_line, gone_heap_line, heap_gone_line, gone_heap_lines, heap_lines, heap_lines_by, kept_heap_lines, limit_line, limit_lines, lines_of_region, made_line};
 ghost use Rattle.trace_store_text.specs.Sound.{AreBothSound};

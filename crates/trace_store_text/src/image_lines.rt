@@ -2,7 +2,7 @@
 
 ghost use Rattle.std.specs.Prelude.{◌≡◌};
 ghost use Rattle.std.specs.List.{flat_map, list_any};
-ghost use Rattle.os_heap.specs.Store.{is_image, store_of};
+ghost use Rattle.store_copies.specs.Store.{is_image, store_of};
 ghost use Rattle.profile.specs.Output.{Writes};
 ghost use Rattle.trace_store_text.specs.ImageLines.{image_line, image_lines, is_lone_image, is_same_image, lone_image_line};
 

@@ -2,7 +2,7 @@
 
 ghost use Rattle.std.specs.Prelude.{◌≡◌};
 ghost use Rattle.std.specs.List.{flat_map};
-ghost use Rattle.os_heap.specs.Store.{store_of};
+ghost use Rattle.store_copies.specs.Store.{store_of};
 ghost use Rattle.profile.specs.Output.{Writes};
 ghost use Rattle.trace_store_text.specs.items.Changes.{item_changes};
 ghost use Rattle.trace_store_text.specs.ItemLines.{item_line, item_lines, item_summary_lines, verb_and_use};

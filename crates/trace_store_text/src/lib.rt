@@ -17,7 +17,7 @@ pub mod store_lines;
 pub mod word_lines;
 
 pub use debugger::views::{push_banked_name, push_quoted};
-pub use debugger::{Frame, Machine, mode_name, without_x_bit};
+pub use debugger::{Frame, Machine, disassemble, mode_name, without_x_bit};
 pub use heaps::heap_pages;
-pub use store_copies::{PageRange, StoreCopy};
+pub use store_copies::{Area, PageRange, StoreCopy};
 pub use store_lines::push_store_lines_in;

@@ -3,7 +3,7 @@ use Rattle.std.proofs.Common.{◌≡◌, ◌∙◌, ◌⊎◌, ℕ, ◌+◌, ◌
 use Rattle.std.proofs.Math.Bool.{and-false}
 use Rattle.std.proofs.lemmas.Bool.{cases_Bool, cases_lt, eq-eqb, false≢true}
 use Rattle.std.proofs.lemmas.Bool.Decides.{nat_tests}
-use Rattle.address_map.specs.Bytes.{Bytes, word_at, word_start}
+use Rattle.trace_effects.specs.Bytes.{Bytes, word_at, word_start}
 use Rattle.trace_store_text.specs.Copies.{KeptStore}
 use Rattle.trace_store_text.specs.Words.{all_pages, has_word_changed, is_shown_elsewhere, word_change_at}
 use Rattle.trace_store_text.specs.declared.heaps.limits.HeapLimits.{HeapLimits}

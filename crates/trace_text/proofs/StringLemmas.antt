@@ -1,7 +1,7 @@
 -- How the characters of a text go on, and where they end.
 use Rattle.std.proofs.Common.{◌≡◌, ℕ, zero, suc, ◌+◌, ◌-◌, ◌<◌, ◌≤◌, List, [], ◌∷◌, ◌++◌, ap, ◌∙◌, sym, arith, refl, append_assoc, Option, Some, None}
 use Rattle.std.proofs.lemmas.List.{append-nil}
-use Rattle.address_map.specs.Bytes.{Bytes, byte_loaded}
+use Rattle.trace_effects.specs.Bytes.{Bytes, byte_loaded}
 use Rattle.profile.specs.Sums.{address_further}
 use Rattle.trace_text.specs.Strings.{character_loaded, character_then, characters_at}
 

@@ -4,7 +4,7 @@ use Rattle.std.specs.Prelude.{ℕ, Bool, ◌*◌, ◌==◌, List, [], ◌∷◌,
 use Rattle.std.specs.Fmt.{decimal}
 use Rattle.std.specs.List.{flat_map, list_any}
 use Rattle.profile.specs.Digits.{hex_word}
-use Rattle.dynamic_areas.specs.declared.area.Area.{Area}
+use Rattle.trace_store_text.specs.Area.{Area}
 use Rattle.trace_text.specs.declared.areas.AreaMark.{AreaMark}
 
 -- what a trace keeps of an area

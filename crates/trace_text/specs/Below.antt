@@ -2,9 +2,9 @@
 -- what was printed, and the frames that were left and entered.
 use Rattle.std.specs.Prelude.{ℕ, Bool, true, false, ◌-◌, ◌==◌, ◌&&◌, List, [], ◌++◌, codes, length, Option, Some, None, if◌then◌else◌}
 use Rattle.profile.specs.declared.stop.Stop.{Stop}
-use Rattle.swi_dispatch_answers.specs.declared.frames.frame.Frame.{Frame}
-use Rattle.swi_dispatch_guest.specs.Errors.{error_number}
-use Rattle.swi_dispatch_guest.specs.MachineState.{MachineState, StepOutcome, stop_of}
+use Rattle.trace_store_text.specs.Frame.{Frame}
+use Rattle.trace_store_text.specs.Errors.{error_number}
+use Rattle.trace_store_text.specs.MachineState.{MachineState, StepOutcome, stop_of}
 use Rattle.trace_store_text.specs.FrameWords.{left_word}
 use Rattle.trace_store_text.specs.Words.{AreListedWithin, all_pages, is_shown_elsewhere}
 use Rattle.trace_store_text.specs.heaps.Limits.{Pages, heap_pages}

@@ -15,7 +15,7 @@ use Rattle.profile.specs.declared.reason.ModuleReason.{ModuleReason}
 use Rattle.profile.specs.declared.reason.ModuleReason.TheVariants as reason
 use Rattle.profile.specs.declared.swi.SwiName.{SwiName}
 use Rattle.profile.specs.declared.swi.SwiName.TheVariants as swi
-use Rattle.address_map.specs.Bytes.{Bytes}
+use Rattle.trace_effects.specs.Bytes.{Bytes}
 use Rattle.arm_core.specs.State.{State, register_of}
 use Rattle.trace_store_text.specs.views.Quoted.{quoted_text}
 use Rattle.trace_text.specs.Strings.{string_word}

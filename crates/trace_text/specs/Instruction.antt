@@ -7,8 +7,8 @@ use Rattle.profile.specs.Sums.{address_further}
 use Rattle.profile.specs.SwiNames.{swi_name, swi_of}
 use Rattle.profile.specs.Word.{bit_of}
 use Rattle.profile.specs.declared.swi.SwiName.{SwiName}
-use Rattle.assembler_text.specs.Printing.{print}
-use Rattle.swi_dispatch_guest.specs.Step.{without_x}
+use Rattle.trace_store_text.specs.Printing.{print}
+use Rattle.trace_store_text.specs.Step.{without_x}
 use Rattle.trace_effects.specs.declared.cause.Cause.{Cause}
 use Rattle.trace_effects.specs.declared.cause.Cause.TheVariants.{Gate, Unmapped, Skipped, Word}
 

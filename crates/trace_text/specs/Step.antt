@@ -4,12 +4,12 @@ use Rattle.std.specs.Prelude.{ℕ, ◌%◌, ◌^◌, ◌==◌, ◌&&◌, Bool, t
 use Rattle.std.specs.Option.{option_map}
 use Rattle.profile.specs.Word.{bit_of}
 use Rattle.profile.specs.declared.stop.Stop.{Stop}
-use Rattle.address_map.specs.Bytes.{Bytes}
+use Rattle.trace_effects.specs.Bytes.{Bytes}
 use Rattle.arm_core.specs.State.{State, register_of}
-use Rattle.swi_dispatch_answers.specs.frames.Frames.{innermost_frame}
-use Rattle.swi_dispatch_answers.specs.declared.frames.frame.Frame.{Frame}
-use Rattle.swi_dispatch_guest.specs.MachineState.{MachineState, StepOutcome, stop_of}
-use Rattle.swi_dispatch_guest.specs.Step.{without_x}
+use Rattle.trace_store_text.specs.Frames.{innermost_frame}
+use Rattle.trace_store_text.specs.Frame.{Frame}
+use Rattle.trace_store_text.specs.MachineState.{MachineState, StepOutcome, stop_of}
+use Rattle.trace_store_text.specs.Step.{without_x}
 use Rattle.trace_effects.specs.changes.Status.{following_word}
 use Rattle.trace_effects.specs.Cause.{cause_of, swi_of_cause}
 use Rattle.trace_effects.specs.Leaving.{call_leaves, stays_in_heap}
@@ -22,7 +22,7 @@ use Rattle.trace_store_text.specs.FrameWords.{entered_word}
 use Rattle.trace_store_text.specs.StoreLines.{store_lines}
 use Rattle.trace_store_text.specs.Copies.{KeptStore, kept_of}
 use Rattle.trace_text.specs.declared.areas.AreaMark.{AreaMark}
-use Rattle.dynamic_areas.specs.declared.area.Area.{Area}
+use Rattle.trace_store_text.specs.Area.{Area}
 use Rattle.trace_text.specs.Areas.{area_lines, area_marks}
 use Rattle.trace_text.specs.Below.{AreListedInside, error_words, frames_kept, has_error, left_word_kept, pages_kept, prints_word}
 use Rattle.trace_store_text.specs.heaps.Limits.{Pages}

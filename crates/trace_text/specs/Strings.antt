@@ -2,7 +2,7 @@
 -- a control character or isn't mapped, at most 40 of them, and then `..`.
 use Rattle.std.specs.Prelude.{ℕ, zero, suc, ◌==◌, nat_lt, List, [], ◌∷◌, ◌++◌, codes, length, Option, Some, None, Result, Ok, Err, if◌then◌else◌}
 use Rattle.profile.specs.declared.fault.Fault.{Fault}
-use Rattle.address_map.specs.Bytes.{Bytes, byte_loaded}
+use Rattle.trace_effects.specs.Bytes.{Bytes, byte_loaded}
 use Rattle.profile.specs.Sums.{address_further}
 use Rattle.trace_store_text.specs.views.Quoted.{quoted_text}
 

@@ -5,11 +5,11 @@ ghost use Rattle.std.specs.List.{flat_map};
 ghost use Rattle.profile.specs.Output.{Writes};
 ghost use Rattle.trace_text.specs.Areas.{area_line, area_line_by, area_lines, area_marks, gone_area_line, has_area, new_area_line, pages_marked, sized_area_line};
 
-use dynamic_areas::Area;
 use itoa::Buffer;
 use profile::memory_map::PAGE_SIZE;
 use profile::{HexText, Sink, WriteFault, push_parts};
 use std::alloc::{AllocError, Global};
+use trace_store_text::Area;
 
 /// What a trace keeps of an area: its number, and how many pages it has.
 #[derive(Clone, Copy, Debug, Default, PartialEq, Eq)]

@@ -3,7 +3,7 @@
 ghost use Rattle.std.specs.Prelude.{◌≡◌, OnOk};
 ghost use Rattle.std.specs.Io.KnownBytes.{Appends};
 ghost use Rattle.profile.specs.Output.{Writes};
-ghost use Rattle.swi_dispatch_guest.specs.GuestState.{state_of};
+ghost use Rattle.trace_store_text.specs.GuestState.{state_of};
 ghost use Rattle.trace_effects.specs.Columns.{below_text};
 ghost use Rattle.trace_store_text.specs.FrameWords.{entered_word};
 ghost use Rattle.trace_text.specs.Below.{left_word_kept, prints_word};

@@ -2,18 +2,18 @@
 
 ghost use Rattle.std.specs.Prelude.{◌≤◌, codes, if◌then◌else◌};
 ghost use Rattle.std.specs.List.{All};
-ghost use Rattle.address_map.specs.Memory.{bytes_of};
+ghost use Rattle.trace_effects.specs.Memory.{bytes_of};
 ghost use Rattle.profile.specs.Output.{Writes};
 ghost use Rattle.profile.specs.SwiNames.{swi_of};
 ghost use Rattle.trace_text.specs.Calls.{area_words, argument_word, argument_words, call_words, heap_words, module_words, named_words, read_words, reason_word, reason_words, text_argument, text_reason_words};
 
 use crate::strings::push_string;
-use address_map::AddressMap;
 use arm_core::Cpu;
 use itoa::Buffer;
 use profile::{
     AreaReason, HeapReason, HexText, ModuleReason, Sink, SwiName, WriteFault, push_all, push_parts,
 };
+use trace_effects::AddressMap;
 use trace_store_text::push_quoted;
 
 /// Writes a call's words, the first of them its name: ` XOS_Heap 2 Get R1=00009000 R3=00000014`. The

@@ -3,8 +3,8 @@
 ghost use Rattle.std.specs.Prelude.{◌≡◌, OnOk};
 ghost use Rattle.std.specs.Io.KnownBytes.{Appends};
 ghost use Rattle.profile.specs.Output.{Writes};
-ghost use Rattle.swi_dispatch_guest.specs.MachineState.{outcome_with};
-ghost use Rattle.swi_dispatch_guest.specs.GuestState.{state_of};
+ghost use Rattle.trace_store_text.specs.MachineState.{outcome_with};
+ghost use Rattle.trace_store_text.specs.GuestState.{state_of};
 ghost use Rattle.trace_text.specs.Below.{AreListedInside, error_words, frames_kept, has_error};
 ghost use Rattle.trace_effects.specs.Columns.{below_text};
 ghost use Rattle.trace_text.specs.Start.{store_kept};

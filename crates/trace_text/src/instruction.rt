@@ -5,10 +5,9 @@ ghost use Rattle.std.specs.Prelude.{◌≡◌, [], IfOk, option_map};
 ghost use Rattle.profile.specs.Output.{Writes};
 ghost use Rattle.profile.specs.SwiNames.{swi_of};
 ghost use Rattle.profile.specs.text_sink.TextSink.{sink_text_of};
-ghost use Rattle.swi_dispatch_guest.specs.Step.{without_x};
+ghost use Rattle.trace_store_text.specs.Step.{without_x};
 ghost use Rattle.trace_text.specs.Instruction.{branch_destination, front_text, named_text, swi_standing, swi_of_word, destination_of_word, what_text, with_call, by_name, word_column};
 
-use assembler_text::disassemble;
 use profile::text_lines::cut;
 use profile::text_sink::TextSink;
 use profile::word::is_bit_set;
@@ -16,7 +15,7 @@ use profile::{Sink, SwiName, WriteFault, push_all, push_parts};
 use std::alloc::Global;
 use trace_effects::Cause;
 use trace_effects::columns::{LineRooms, line_sink, push_word};
-use trace_store_text::without_x_bit;
+use trace_store_text::{disassemble, without_x_bit};
 
 /// Writes the columns before an instruction's text: the address and the word that stand there.
 ///

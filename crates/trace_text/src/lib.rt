@@ -16,5 +16,11 @@ pub mod strings;
 
 pub use below::push_prints_line;
 pub use start::StepStart;
-pub use trace_effects::columns::LineRooms;
-pub use trace_store_text::StoreCopy;
+pub use trace_effects::changes::following_word;
+pub use trace_effects::columns::{LineRooms, push_line};
+pub use trace_effects::word_text::{old_words, push_stored_below, push_stored_here};
+pub use trace_effects::{Cause, StoredWords};
+pub use trace_store_text::heaps::HeapLimits;
+pub use trace_store_text::items::ItemChange;
+pub use trace_store_text::modules::InstanceMark;
+pub use trace_store_text::{Machine, StoreCopy, without_x_bit};

@@ -2,10 +2,10 @@
 
 ghost use Rattle.std.specs.Prelude.{◌≡◌, ◌≤◌, length, option_map, true, Some, IfOk, OnOk};
 ghost use Rattle.std.specs.Io.KnownBytes.{Appends};
-ghost use Rattle.address_map.specs.Memory.{bytes_of};
+ghost use Rattle.trace_effects.specs.Memory.{bytes_of};
 ghost use Rattle.arm_core.specs.State.{register_of};
-ghost use Rattle.swi_dispatch_answers.specs.frames.Frames.{innermost_frame};
-ghost use Rattle.swi_dispatch_guest.specs.GuestState.{state_of};
+ghost use Rattle.trace_store_text.specs.Frames.{innermost_frame};
+ghost use Rattle.trace_store_text.specs.GuestState.{state_of};
 ghost use Rattle.trace_effects.specs.Cause.{cause_of, swi_of_cause};
 ghost use Rattle.trace_text.specs.Start.{store_kept};
 ghost use Rattle.trace_text.specs.Step.{areas_before, is_skipped, start_text, store_before, taking_of, taking_swi, taking_text};
@@ -15,7 +15,6 @@ ghost use Rattle.trace_store_text.specs.Copies.{kept_in, kept_of};
 use crate::areas::{AreaMark, area_marks};
 use crate::calls::push_call;
 use crate::instruction::{named_text, push_front};
-use address_map::AddressMap;
 use arm_core::Cpu;
 use arrayvec::ArrayVec;
 use profile::text_sink::TextSink;
@@ -26,7 +25,7 @@ use trace_effects::changes::following_word;
 use trace_effects::columns::{LineRooms, line_sink, push_behind};
 use trace_effects::outside::{calling_text, loading_text, push_outside};
 use trace_effects::word_text::{MOST_STORED, old_words};
-use trace_effects::{Cause, Effects, StoredWords, call_leaves, effects_of};
+use trace_effects::{AddressMap, Cause, Effects, StoredWords, call_leaves, effects_of};
 use trace_store_text::frame_words::innermost;
 use trace_store_text::{Frame, Machine, StoreCopy, without_x_bit};
 

@@ -1,14 +1,14 @@
 //! The text that a register points to.
 
 ghost use Rattle.std.specs.Prelude.{◌≡◌, ◌==◌, [], codes, if◌then◌else◌};
-ghost use Rattle.address_map.specs.Bytes.{byte_loaded};
-ghost use Rattle.address_map.specs.Memory.{bytes_of};
+ghost use Rattle.trace_effects.specs.Bytes.{byte_loaded};
+ghost use Rattle.trace_effects.specs.Memory.{bytes_of};
 ghost use Rattle.profile.specs.Output.{Writes};
 ghost use Rattle.trace_text.specs.Strings.{character_loaded, characters_at, cut_text, string_word};
 
-use address_map::AddressMap;
 use arrayvec::ArrayVec;
 use profile::{Sink, WriteFault, push_all};
+use trace_effects::AddressMap;
 use trace_store_text::push_quoted;
 
 /// How many characters of a text are shown.

@@ -2,7 +2,7 @@
 
 ghost use Rattle.std.specs.Prelude.{◌≡◌, ◌==◌, ◌↔◌, ◌<◌, ℕ, [], List, IsTrue};
 ghost use Rattle.std.specs.List.{position};
-ghost use Rattle.profile.specs.Outcome.{Leaves};
+ghost use Rattle.arm_decode.specs.Outcome.{Leaves};
 ghost use Rattle.arm_core.specs.breaks.Breaks.{mark_place_of};
 
 use arrayvec::ArrayVec;

@@ -6,14 +6,14 @@ use Rattle.std.proofs.lemmas.List.{map-append}
 use Rattle.profile.specs.Outcome.{bind}
 use Rattle.profile.specs.Word.{bit_of, field}
 use Rattle.profile.specs.declared.fault.Fault.{Fault}
-use Rattle.address_map.specs.Bytes.{Bytes, word_start}
-use Rattle.arm_decode.specs.Fields.{block_transfer_in}
-use Rattle.arm_decode.specs.Names.{block_mode_of}
-use Rattle.arm_decode.specs.declared.action.Action.TheVariants as action
-use Rattle.arm_decode.specs.declared.action.BlockTransfer.{BlockTransfer}
-use Rattle.arm_decode.specs.declared.address.BlockMode.{BlockMode}
-use Rattle.arm_decode.specs.declared.address.BlockMode.TheVariants.{DecrementAfter, IncrementAfter, DecrementBefore, IncrementBefore}
-use Rattle.arm_decode.specs.declared.condition.Condition.TheVariants as condition
+use Rattle.arm_step.specs.Bytes.{Bytes, word_start}
+use Rattle.arm_core.specs.Fields.{block_transfer_in}
+use Rattle.arm_core.specs.Names.{block_mode_of}
+use Rattle.arm_core.specs.Action.TheVariants as action
+use Rattle.arm_core.specs.BlockTransfer.{BlockTransfer}
+use Rattle.arm_core.specs.BlockMode.{BlockMode}
+use Rattle.arm_core.specs.BlockMode.TheVariants.{DecrementAfter, IncrementAfter, DecrementBefore, IncrementBefore}
+use Rattle.arm_core.specs.Condition.TheVariants as condition
 use Rattle.arm_core.specs.Effect.{status_operand, with_next_pc, with_result}
 use Rattle.arm_core.specs.Listed.{listed_below, registers_of_list}
 use Rattle.arm_core.specs.State.{IsCore, State, register_in, slot_of}

@@ -1,12 +1,12 @@
 -- Data processing, products, branches and SWIs.
 use Rattle.std.proofs.Common.{◌≡◌, ◌+◌, ◌*◌, ◌/◌, ◌%◌, ◌^◌, ℕ, Bool, true, false, not, nat_eq, Result, Ok, refl, ◌∙◌, ap, arith, if◌then◌else◌}
-use Rattle.arm_decode.specs.Shifted.{rotated_right}
+use Rattle.arm_core.specs.Shifted.{rotated_right}
 use Rattle.profile.specs.Word.{bit_of, field}
-use Rattle.arm_decode.specs.declared.shifted.Shifted.{Shifted}
-use Rattle.address_map.specs.Bytes.{Bytes}
-use Rattle.arm_decode.specs.declared.action.Action.TheVariants as action
-use Rattle.arm_decode.specs.declared.condition.Condition.{Condition}
-use Rattle.arm_decode.specs.declared.condition.Condition.TheVariants as condition
+use Rattle.arm_step.specs.Shifted.{Shifted}
+use Rattle.arm_step.specs.Bytes.{Bytes}
+use Rattle.arm_core.specs.Action.TheVariants as action
+use Rattle.arm_core.specs.Condition.{Condition}
+use Rattle.arm_core.specs.Condition.TheVariants as condition
 use Rattle.arm_core.specs.Conditions.{condition_holds}
 use Rattle.arm_core.specs.Effect.{with_status}
 use Rattle.arm_core.specs.Operand.{rotated_immediate}

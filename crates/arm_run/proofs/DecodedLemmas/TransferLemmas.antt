@@ -3,19 +3,19 @@ use Rattle.std.proofs.Common.{◌≡◌, ◌<◌, ◌+◌, ◌*◌, ◌%◌, ◌
 use Rattle.profile.specs.Outcome.{bind}
 use Rattle.profile.specs.Word.{bit_of, field}
 use Rattle.profile.specs.declared.fault.Fault.{Fault}
-use Rattle.address_map.specs.Bytes.{Bytes}
-use Rattle.arm_decode.specs.Fields.{address_in, shifted_in, transfer_in}
-use Rattle.arm_decode.specs.Names.{direction_of, shift_of}
-use Rattle.arm_decode.specs.Refusals.{writes_base}
-use Rattle.arm_decode.specs.declared.action.Action.TheVariants as action
-use Rattle.arm_decode.specs.declared.action.Transfer.{Transfer}
-use Rattle.arm_decode.specs.declared.address.Address.{Address}
-use Rattle.arm_decode.specs.declared.address.Indexing.{Indexing}
-use Rattle.arm_decode.specs.declared.address.Offset.{Offset}
-use Rattle.arm_decode.specs.declared.address.Offset.TheVariants as offset
-use Rattle.arm_decode.specs.declared.condition.Condition.TheVariants as condition
-use Rattle.arm_decode.specs.declared.shift.Shift.{Shift}
-use Rattle.arm_decode.specs.declared.shift.Shift.TheVariants as shift
+use Rattle.arm_step.specs.Bytes.{Bytes}
+use Rattle.arm_core.specs.Fields.{address_in, shifted_in, transfer_in}
+use Rattle.arm_core.specs.Names.{direction_of, shift_of}
+use Rattle.arm_core.specs.Refusals.{writes_base}
+use Rattle.arm_core.specs.Action.TheVariants as action
+use Rattle.arm_core.specs.Transfer.{Transfer}
+use Rattle.arm_step.specs.Address.{Address}
+use Rattle.arm_core.specs.Indexing.{Indexing}
+use Rattle.arm_core.specs.Offset.{Offset}
+use Rattle.arm_core.specs.Offset.TheVariants as offset
+use Rattle.arm_core.specs.Condition.TheVariants as condition
+use Rattle.arm_core.specs.Shift.{Shift}
+use Rattle.arm_core.specs.Shift.TheVariants as shift
 use Rattle.arm_core.specs.Effect.{plain_operand, status_operand, with_next_pc, with_result}
 use Rattle.arm_core.specs.Operand.{shifted_by_number}
 use Rattle.arm_core.specs.State.{State, register_in, with_register}

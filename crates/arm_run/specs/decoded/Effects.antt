@@ -4,12 +4,12 @@
 use Rattle.std.specs.Prelude.{◌≡◌, ◌+◌, ◌*◌, ◌/◌, ◌%◌, ◌^◌, if◌then◌else◌, ℕ, Bool, true, false, length, map, Result, Ok, Err}
 use Rattle.profile.specs.Outcome.{bind}
 use Rattle.profile.specs.Word.{bit_of, field}
-use Rattle.arm_decode.specs.declared.shifted.Shifted.{Shifted}
-use Rattle.address_map.specs.Bytes.{Bytes}
-use Rattle.arm_decode.specs.declared.address.Indexing.{Indexing}
-use Rattle.arm_decode.specs.declared.condition.Condition.{Condition}
-use Rattle.arm_decode.specs.declared.operation.Operation.{Operation}
-use Rattle.arm_decode.specs.declared.shift.Shift.TheVariants as shift
+use Rattle.arm_step.specs.Shifted.{Shifted}
+use Rattle.arm_step.specs.Bytes.{Bytes}
+use Rattle.arm_core.specs.Indexing.{Indexing}
+use Rattle.arm_core.specs.Condition.{Condition}
+use Rattle.arm_core.specs.Operation.{Operation}
+use Rattle.arm_core.specs.Shift.TheVariants as shift
 use Rattle.arm_core.specs.Conditions.{condition_holds}
 use Rattle.arm_core.specs.Effect.{with_status}
 use Rattle.arm_core.specs.Listed.{registers_of_list}

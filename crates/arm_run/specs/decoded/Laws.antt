@@ -1,12 +1,12 @@
 -- Predecoded words do what their words do by the table of instructions: a statement for each group
 -- of kinds. Which kinds a group has is shown by `KindMeans`, a line for each.
 use Rattle.std.specs.Prelude.{◌≡◌, ◌+◌, ℕ, Bool, true, false, Ok}
-use Rattle.address_map.specs.Bytes.{Bytes}
-use Rattle.arm_decode.specs.Fields.{condition_in}
-use Rattle.arm_decode.specs.declared.address.Indexing.{Indexing}
-use Rattle.arm_decode.specs.declared.condition.Condition.{Condition}
-use Rattle.arm_decode.specs.declared.condition.Condition.TheVariants as condition
-use Rattle.arm_decode.specs.declared.operation.Operation.{Operation}
+use Rattle.arm_step.specs.Bytes.{Bytes}
+use Rattle.arm_core.specs.Fields.{condition_in}
+use Rattle.arm_core.specs.Indexing.{Indexing}
+use Rattle.arm_core.specs.Condition.{Condition}
+use Rattle.arm_core.specs.Condition.TheVariants as condition
+use Rattle.arm_core.specs.Operation.{Operation}
 use Rattle.arm_core.specs.Conditions.{condition_holds}
 use Rattle.arm_core.specs.State.{State}
 use Rattle.arm_step.specs.Step.{result_of_word}

@@ -1,8 +1,8 @@
 -- A count that is at least the text's length is never used up.
 use Rattle.std.proofs.Common.{◌≡◌, ◌≤◌, ℕ, zero, suc, Bool, List, [], ◌∷◌, length, Option, Some, None, refl, sym, ◌∙◌, arith}
-use Rattle.assembler_text.specs.naming.Expressions.{Lookup, Value, sum_or_difference, more_terms, next_term, sign, term}
-use Rattle.assembler_text.specs.naming.Names.{register, register_named}
-use Rattle.assembler_text.specs.naming.Words.{after_spaces, byte, comma, word, ◌>>=◌}
+use Rattle.assembler_reading.specs.Expressions.{Lookup, Value, sum_or_difference, more_terms, next_term, sign, term}
+use Rattle.assembler_reading.specs.Names.{register, register_named}
+use Rattle.assembler_reading.specs.Words.{after_spaces, byte, comma, word, ◌>>=◌}
 use Rattle.assembler_reading.specs.RegisterLists.{more_registers, next_registers, register_range, with_range}
 use Rattle.assembler.specs.Directives.{with_item_read, more_items, next_item}
 use Rattle.assembler.specs.Written.{Written}

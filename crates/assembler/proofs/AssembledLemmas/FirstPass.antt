@@ -1,10 +1,10 @@
 -- The first pass over lines that are laid out.
 use Rattle.std.proofs.Common.{◌≡◌, ℕ, ◌+◌, true, false, List, [], ◌∷◌, ◌++◌, length, Option, Some, None, Result, Ok, Err, refl, ap, sym, subst, ◌∙◌, length-append}
 use Rattle.std.proofs.lemmas.List.{append-nil, append_assoc}
-use Rattle.assembler_text.specs.naming.Expressions.{Lookup}
-use Rattle.assembler_text.specs.naming.Labels.{Entries, address_of}
-use Rattle.assembler_text.specs.declared.naming.reason.Reason.{Reason}
-use Rattle.assembler_text.specs.declared.naming.reason.Reason.TheVariants.{LabelTwice, Syntax, TooLong}
+use Rattle.assembler_reading.specs.Expressions.{Lookup}
+use Rattle.assembler_reading.specs.Labels.{Entries, address_of}
+use Rattle.assembler_reading.specs.Reason.{Reason}
+use Rattle.assembler_reading.specs.Reason.TheVariants.{LabelTwice, Syntax, TooLong}
 use Rattle.assembler.specs.Line.{line}
 use Rattle.assembler.specs.Passes.{Measured, first_pass, is_program_too_long, is_twice, measured_with_line, error_with_line, with_label}
 use Rattle.assembler.specs.assembled.Pieces.{AreInPlace, HaveOwnLabels, IsPiece, Piece, bytes_of_pieces, line_of_piece}

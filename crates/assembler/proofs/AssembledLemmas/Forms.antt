@@ -2,9 +2,9 @@
 use Rattle.std.proofs.Common.{◌≡◌, ℕ, zero, suc, ◌+◌, Bool, true, false, List, [], ◌∷◌, ◌++◌, length, take, drop, Option, Some, None, Ok, Err, refl, ap, sym, ◌∙◌, length-append}
 use Rattle.std.specs.Prelude.{nat_le, if◌then◌else◌}
 use Rattle.std.specs.List.{prefix_len}
-use Rattle.assembler_text.specs.naming.Expressions.{Lookup, Value, expression}
-use Rattle.assembler_text.specs.naming.Words.{after_word, byte, comma, is_end_of_line, spaces, word, ◌>>=◌}
-use Rattle.assembler_text.specs.declared.naming.reason.Reason.TheVariants.{BadImmediate}
+use Rattle.assembler_reading.specs.Expressions.{Lookup, Value, expression}
+use Rattle.assembler_reading.specs.Words.{after_word, byte, comma, is_end_of_line, spaces, word, ◌>>=◌}
+use Rattle.assembler_reading.specs.Reason.TheVariants.{BadImmediate}
 use Rattle.assembler_reading.specs.Instructions.{instruction}
 use Rattle.assembler_reading.specs.Operands.{ReadOutcome}
 use Rattle.assembler.specs.Directives.{directive_named, is_text_byte, with_item_read, items, more_items, next_item, text_or_byte}

@@ -1,10 +1,10 @@
 -- What follows after an instruction is the same under all labels, and so is whether there is one.
 use Rattle.std.proofs.Common.{◌≡◌, ℕ, List, Option, Some, None, refl}
-use Rattle.assembler_text.specs.naming.Expressions.{Lookup}
-use Rattle.assembler_text.specs.naming.Mnemonics.{mnemonic_named}
-use Rattle.assembler_text.specs.naming.Words.{after_word, byte, spaces, word}
-use Rattle.assembler_text.specs.declared.naming.mnemonics.Command.{Command}
-use Rattle.assembler_text.specs.declared.naming.mnemonics.Command.TheVariants as command
+use Rattle.assembler_reading.specs.Expressions.{Lookup}
+use Rattle.assembler_reading.specs.Mnemonics.{mnemonic_named}
+use Rattle.assembler_reading.specs.Words.{after_word, byte, spaces, word}
+use Rattle.assembler_reading.specs.Command.{Command}
+use Rattle.assembler_reading.specs.Command.TheVariants as command
 use Rattle.assembler_reading.specs.Instructions.{action_at, branch_to, call_or_number, instruction, plain_call, swi_at, swi_number}
 use Rattle.assembler.proofs.AssembledLemmas.OperandRests.{operate_rests, rests_behind, transfer_rests}
 use Rattle.assembler.proofs.AssembledLemmas.Rests.{expression_rests, made_rests, rest_of, rests_then}

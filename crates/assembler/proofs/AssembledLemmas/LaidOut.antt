@@ -4,8 +4,8 @@ use Rattle.std.proofs.lemmas.Bool.Decides.{nat_tests}
 use Rattle.std.proofs.lemmas.List.{append-nil, append_assoc, append_cancel_left, length-replicate, map-append}
 use Rattle.std.proofs.lemmas.Grind.{flat_map-append}
 use Rattle.std.specs.Prelude.{◌||◌, nat_lt, replicate, ◌^◌}
-use Rattle.assembler_text.specs.naming.Expressions.{Lookup}
-use Rattle.assembler_text.specs.naming.Words.{after_word, ◌>>=◌}
+use Rattle.assembler_reading.specs.Expressions.{Lookup}
+use Rattle.assembler_reading.specs.Words.{after_word, ◌>>=◌}
 use Rattle.assembler.specs.Line.{Line, Statement, label_of, line}
 use Rattle.assembler.specs.Passes.{is_program_too_long}
 use Rattle.assembler.specs.assembled.Pieces.{AreInPlace, HaveOwnLabels, IsPiece, Piece, bytes_of_pieces, line_of_piece}

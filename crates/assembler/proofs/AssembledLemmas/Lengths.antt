@@ -3,9 +3,9 @@ use Rattle.std.proofs.Common.{◌≤◌, ℕ, zero, suc, Bool, true, false, List
 use Rattle.std.specs.Prelude.{◌==◌, ◌&&◌, nat_le, if◌then◌else◌}
 use Rattle.std.specs.Int.{is_in_range}
 use Rattle.std.specs.List.{prefix_len}
-use Rattle.assembler_text.specs.naming.Expressions.{Lookup, Value, expression, hexadecimal, more_terms, named_term, next_term, numeral, quoted_byte, sign, term, word_value}
-use Rattle.assembler_text.specs.naming.Names.{register, register_named}
-use Rattle.assembler_text.specs.naming.Words.{after_spaces, after_word, byte, comma, is_space, is_word_byte, word, ◌>>=◌}
+use Rattle.assembler_reading.specs.Expressions.{Lookup, Value, expression, hexadecimal, more_terms, named_term, next_term, numeral, quoted_byte, sign, term, word_value}
+use Rattle.assembler_reading.specs.Names.{register, register_named}
+use Rattle.assembler_reading.specs.Words.{after_spaces, after_word, byte, comma, is_space, is_word_byte, word, ◌>>=◌}
 use Rattle.assembler_reading.specs.RegisterLists.{last_register, register_range}
 use Rattle.assembler.specs.Directives.{is_text_byte, with_item_read, text_or_byte}
 use Rattle.assembler.specs.Written.{Written}

@@ -6,10 +6,10 @@ use Rattle.std.proofs.lemmas.List.Elements.{All-cons, All-nil}
 use Rattle.std.specs.List.{All}
 use Rattle.std.specs.Str.Lines.{lines}
 use Rattle.profile.specs.Outcome.{bind}
-use Rattle.assembler_text.specs.naming.Expressions.{Lookup}
-use Rattle.assembler_text.specs.naming.Labels.{Entries, address_of}
-use Rattle.assembler_text.specs.declared.naming.reason.Reason.{Reason}
-use Rattle.assembler_text.specs.declared.naming.reason.Reason.TheVariants.{LabelTwice, Syntax, TooLong}
+use Rattle.assembler_reading.specs.Expressions.{Lookup}
+use Rattle.assembler_reading.specs.Labels.{Entries, address_of}
+use Rattle.assembler_reading.specs.Reason.{Reason}
+use Rattle.assembler_reading.specs.Reason.TheVariants.{LabelTwice, Syntax, TooLong}
 use Rattle.assembler.specs.Passes.{first_pass, means, means_lines, second_pass}
 use Rattle.assembler.specs.declared.error.AsmError.{AsmError}
 use Rattle.assembler.specs.assembled.Laws.{LinesArePieces, LinesAreRefused, ProgramsArePieces, RefusalsAreFirst}

@@ -9,10 +9,10 @@ use Rattle.arm_decode.specs.declared.operand.Operand.{Operand}
 use Rattle.arm_decode.specs.declared.operand.Operand.TheVariants as operand
 use Rattle.arm_decode.specs.declared.operation.Operation.{Operation}
 use Rattle.arm_decode.specs.declared.shift.Shift.{Shift}
-use Rattle.assembler_text.specs.naming.Expressions.{Lookup, Value, expression}
-use Rattle.assembler_text.specs.naming.Names.{register, shift_named}
-use Rattle.assembler_text.specs.naming.Words.{after_mark, after_word, byte, comma, is_marked, is_same_name, spaces, word, ◌>>=◌}
-use Rattle.assembler_text.specs.declared.naming.reason.Reason.TheVariants.{BadImmediate}
+use Rattle.assembler_reading.specs.Expressions.{Lookup, Value, expression}
+use Rattle.assembler_reading.specs.Names.{register, shift_named}
+use Rattle.assembler_reading.specs.Words.{after_mark, after_word, byte, comma, is_marked, is_same_name, spaces, word, ◌>>=◌}
+use Rattle.assembler_reading.specs.Reason.TheVariants.{BadImmediate}
 use Rattle.assembler_reading.specs.Addresses.{address_at, as_offset, address_in_brackets, before_bracket, address_after_bracket, address_after_base, address_of_offset, address_at_label, offset_at, offset_in, offset_of_value, reached_from, signed_direction, transfer_text_at, unless_translated}
 use Rattle.assembler_reading.specs.Operands.{ReadOutcome, amount_at, immediate_operand, most_places, operand_at, places_of, rotated_of, rotation_at, second_operand, shift_at, shifted_operand, register_shifted_by}
 use Rattle.assembler_reading.specs.Operating.{operate_at, operate_behind, operate_on, operate_with}

@@ -3,9 +3,9 @@ use Rattle.std.proofs.Common.{◌≡◌, ℕ, zero, suc, ◌+◌, ◌-◌, ◌%�
 use Rattle.std.proofs.lemmas.List.{append-nil}
 use Rattle.std.specs.Prelude.{replicate, if◌then◌else◌}
 use Rattle.std.specs.List.{prefix_len}
-use Rattle.assembler_text.specs.naming.Expressions.{Lookup, expression}
-use Rattle.assembler_text.specs.naming.Words.{after_word, byte, comma, is_end_of_line, spaces, word, ◌>>=◌}
-use Rattle.assembler_text.specs.declared.naming.reason.Reason.{Reason}
+use Rattle.assembler_reading.specs.Expressions.{Lookup, expression}
+use Rattle.assembler_reading.specs.Words.{after_word, byte, comma, is_end_of_line, spaces, word, ◌>>=◌}
+use Rattle.assembler_reading.specs.Reason.{Reason}
 use Rattle.assembler_reading.specs.Instructions.{instruction}
 use Rattle.assembler_reading.specs.Operands.{ReadOutcome}
 use Rattle.assembler.specs.Directives.{directive_named, is_text_byte, with_item_read, items, more_items, next_item, size, text_or_byte}

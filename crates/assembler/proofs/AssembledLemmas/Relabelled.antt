@@ -1,8 +1,8 @@
 -- The same lines under other labels: pieces of the same forms.
 use Rattle.std.proofs.Common.{◌≡◌, ◌≤◌, ℕ, ◌+◌, ◌^◌, List, [], ◌∷◌, ◌++◌, length, map, Option, Some, None, refl, ap, sym, subst, ◌∙◌, length-append}
 use Rattle.std.proofs.lemmas.List.{append-nil, map-append}
-use Rattle.assembler_text.specs.naming.Expressions.{Lookup}
-use Rattle.assembler_text.specs.naming.Labels.{Entries}
+use Rattle.assembler_reading.specs.Expressions.{Lookup}
+use Rattle.assembler_reading.specs.Labels.{Entries}
 use Rattle.assembler.specs.assembled.Laws.{LabelsMoveNothing}
 use Rattle.assembler.specs.assembled.Pieces.{AreInPlace, HaveOwnLabels, IsPiece, Piece, bytes_of_pieces}
 use Rattle.assembler.specs.assembled.Programs.{AreLaidOut}

@@ -1,9 +1,9 @@
 -- What follows after a reading is the same under all labels: readers of numbers and operands.
 use Rattle.std.proofs.Common.{◌≡◌, ℕ, zero, suc, Bool, true, false, List, [], ◌∷◌, Option, Some, None, refl, ap, ◌∙◌}
 use Rattle.std.specs.Prelude.{◌==◌, length, option_map, if◌then◌else◌}
-use Rattle.assembler_text.specs.naming.Expressions.{Lookup, Value, expression, more_terms, named_term, next_term, numeral, sign, term}
-use Rattle.assembler_text.specs.naming.Labels.{begins_with_digit, is_label}
-use Rattle.assembler_text.specs.naming.Words.{after_word, word, ◌>>=◌}
+use Rattle.assembler_reading.specs.Expressions.{Lookup, Value, expression, more_terms, named_term, next_term, numeral, sign, term}
+use Rattle.assembler_reading.specs.Labels.{begins_with_digit, is_label}
+use Rattle.assembler_reading.specs.Words.{after_word, word, ◌>>=◌}
 
 -- what follows what was read
 abbrev pub rest_of : {A : Type 0} → Option (A × List ℕ) → Option (List ℕ)

@@ -3,8 +3,8 @@ use Rattle.std.proofs.Common.{◌≡◌, ℕ, ◌+◌, false, List, [], ◌∷�
 use Rattle.std.proofs.lemmas.List.{append-nil}
 use Rattle.std.proofs.lemmas.List.Elements.{All-head, All-tail}
 use Rattle.std.specs.List.{All}
-use Rattle.assembler_text.specs.naming.Expressions.{Lookup}
-use Rattle.assembler_text.specs.declared.naming.reason.Reason.{Reason}
+use Rattle.assembler_reading.specs.Expressions.{Lookup}
+use Rattle.assembler_reading.specs.Reason.{Reason}
 use Rattle.assembler.specs.Line.{line}
 use Rattle.assembler.specs.Passes.{bytes_of_line, is_program_too_long, error_with_line, second_pass, ok_unless_reason}
 use Rattle.assembler.specs.assembled.Pieces.{AreInPlace, IsPiece, Piece, bytes_of_pieces, line_of_piece}

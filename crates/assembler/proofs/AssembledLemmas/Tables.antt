@@ -5,8 +5,8 @@ use Rattle.std.proofs.lemmas.List.{append-nil, append_assoc}
 use Rattle.std.proofs.lemmas.Slice.Eq.{bytes_eq-Decides}
 use Rattle.std.specs.Prelude.{bytes_eq, if◌then◌else◌, is_some}
 use Rattle.std.specs.Map.{lookup}
-use Rattle.assembler_text.specs.naming.Expressions.{Lookup}
-use Rattle.assembler_text.specs.naming.Labels.{Entries, address_of}
+use Rattle.assembler_reading.specs.Expressions.{Lookup}
+use Rattle.assembler_reading.specs.Labels.{Entries, address_of}
 use Rattle.assembler.specs.Passes.{is_twice, with_label}
 use Rattle.assembler.specs.assembled.Pieces.{HasLabel, HaveOwnLabels, Piece}
 use Rattle.assembler.specs.assembled.Programs.{IsLabelTable}

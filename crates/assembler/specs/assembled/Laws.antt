@@ -2,7 +2,7 @@
 -- address below 2^26, or 2^26 itself.
 use Rattle.std.specs.Prelude.{ℕ, ◌≡◌, ◌≤◌, ◌^◌, ◌↔◌, List, length, Ok, Err}
 use Rattle.std.specs.Str.Lines.{lines}
-use Rattle.assembler_text.specs.naming.Expressions.{Lookup}
+use Rattle.assembler_reading.specs.Expressions.{Lookup}
 use Rattle.assembler.specs.Passes.{means, means_lines}
 use Rattle.assembler.specs.declared.error.AsmError.{AsmError}
 use Rattle.assembler.specs.assembled.Pieces.{IsPiece, Piece}

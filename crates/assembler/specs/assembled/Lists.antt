@@ -2,8 +2,8 @@
 -- DCB, and the registers of LDM and STM, in the definitions of the assembler; what is said here is
 -- that each goes on for as long as its sign or comma stands there, whatever the count.
 use Rattle.std.specs.Prelude.{ℕ, ◌≡◌, List, length, Option}
-use Rattle.assembler_text.specs.naming.Expressions.{Lookup, Value, more_terms, next_term, sign}
-use Rattle.assembler_text.specs.naming.Words.{comma, ◌>>=◌}
+use Rattle.assembler_reading.specs.Expressions.{Lookup, Value, more_terms, next_term, sign}
+use Rattle.assembler_reading.specs.Words.{comma, ◌>>=◌}
 use Rattle.assembler_reading.specs.RegisterLists.{more_registers, next_registers, register_range, with_range}
 use Rattle.assembler.specs.Directives.{more_items, next_item}
 use Rattle.assembler.specs.Written.{Written}

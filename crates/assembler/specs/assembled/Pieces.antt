@@ -2,8 +2,8 @@
 -- place where it begins and the addresses of labels.
 use Rattle.std.specs.Prelude.{ℕ, ◌≡◌, ◌≢◌, List, [], ◌∷◌, ◌++◌, length, Option, Some}
 use Rattle.std.specs.List.{flat_map}
-use Rattle.assembler_text.specs.naming.Expressions.{Lookup}
-use Rattle.assembler_text.specs.declared.naming.reason.Reason.{Reason}
+use Rattle.assembler_reading.specs.Expressions.{Lookup}
+use Rattle.assembler_reading.specs.Reason.{Reason}
 use Rattle.assembler.specs.Line.{Line, line}
 
 -- a line's text; its label, where [] is none, and the address where that stands; the bytes, and

@@ -1,7 +1,7 @@
 -- The program of a source without passes.
 use Rattle.std.specs.Prelude.{ℕ, ◌≡◌, ◌≤◌, ◌+◌, ◌^◌, ◌↔◌, List, length, map, Some, None}
 use Rattle.std.specs.List.{All}
-use Rattle.assembler_text.specs.naming.Expressions.{Lookup}
+use Rattle.assembler_reading.specs.Expressions.{Lookup}
 use Rattle.assembler.specs.assembled.Pieces.{AreInPlace, HasLabel, HaveOwnLabels, Piece, bytes_of_pieces}
 
 -- at most 1,048,576 bytes, and none past the 26-bit addresses

@@ -2,9 +2,9 @@
 -- before values.
 use Rattle.std.specs.Prelude.{ℕ, ◌≡◌, ◌+◌, ◌⊎◌, List, ◌∷◌, ◌++◌, length, map, Some, None}
 use Rattle.std.specs.List.{All}
-use Rattle.assembler_text.specs.naming.Expressions.{Lookup}
-use Rattle.assembler_text.specs.declared.naming.reason.Reason.{Reason}
-use Rattle.assembler_text.specs.declared.naming.reason.Reason.TheVariants.{Syntax, LabelTwice, TooLong}
+use Rattle.assembler_reading.specs.Expressions.{Lookup}
+use Rattle.assembler_reading.specs.Reason.{Reason}
+use Rattle.assembler_reading.specs.Reason.TheVariants.{Syntax, LabelTwice, TooLong}
 use Rattle.assembler.specs.declared.error.AsmError.{AsmError}
 use Rattle.assembler.specs.assembled.Pieces.{HasLabel, IsPiece, Piece, bytes_of_pieces}
 use Rattle.assembler.specs.assembled.Programs.{AreLaidOut, FitsMemory, IsLabelTable, IsUnrefused}

@@ -4,8 +4,8 @@ use Rattle.std.specs.List.{flat_map}
 use Rattle.profile.proofs.OutputLemmas.{AddsAllBut-start, AddsAllBut-more, AddsAllBut-same, Appends-from_all_but}
 use Rattle.debug_labels.specs.Words.{Naming}
 use Rattle.debugger.specs.Modules.{one_text}
-use Rattle.instances_table.specs.Lookup.{instance_count}
-use Rattle.instances_table.specs.Modules.{Module}
+use Rattle.debugger.specs.Lookup.{instance_count}
+use Rattle.debugger.specs.InstancesTableModules.{Module}
 use Rattle.debugger.proofs.ModuleLemmas.{all_shown, next_shown}
 use Rattle.debug_labels.specs.place_views.Frames.{frame_lines, frame_text, full_name_at, full_name_if, full_name_within}
 use Rattle.debugger.specs.MachineState.{MachineState}

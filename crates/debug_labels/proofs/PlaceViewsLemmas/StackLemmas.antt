@@ -5,7 +5,7 @@ use Rattle.std.specs.Io.KnownBytes.{Appends}
 use Rattle.profile.specs.Output.{AddsAllBut}
 use Rattle.profile.proofs.OutputLemmas.{AddsAllBut-start, AddsAllBut-more, AddsAllBut-same, Appends-from_all_but}
 use Rattle.profile.specs.declared.fault.Fault.{Fault}
-use Rattle.address_map.specs.Bytes.{Bytes, word_loaded}
+use Rattle.debugger.specs.Bytes.{Bytes, word_loaded}
 use Rattle.debug_labels.specs.Words.{Naming}
 use Rattle.profile.specs.Sums.{address_further}
 use Rattle.debug_labels.specs.place_views.Stack.{stack_end_text, stack_words_text_at, stacked_word_text, word_and_more}

@@ -9,20 +9,20 @@ use Rattle.profile.specs.SwiNames.{swi_of}
 use Rattle.profile.specs.declared.fault.Fault.{Fault}
 use Rattle.profile.specs.declared.swi.SwiName.{SwiName}
 use Rattle.profile.specs.declared.swi.SwiName.TheVariants as swi
-use Rattle.address_map.specs.Bytes.{Bytes, word_loaded}
+use Rattle.debugger.specs.Bytes.{Bytes, word_loaded}
 use Rattle.profile.specs.Sums.{address_further}
 use Rattle.debugger.specs.Modules.{one_text}
 use Rattle.debugger.specs.Registers.{mode_text}
-use Rattle.instances_table.specs.Modules.{Instance, Module}
+use Rattle.debugger.specs.InstancesTableModules.{Instance, Module}
 use Rattle.debug_labels.specs.Labels.{ImageLabels}
 use Rattle.debug_labels.specs.Places.{place_of}
 use Rattle.debug_labels.specs.Views.{spaced_place_text}
 use Rattle.debug_labels.specs.Words.{Naming}
 use Rattle.debug_labels.specs.place_views.Places.{naming_on, where_text}
-use Rattle.instances_table.specs.declared.plans.code.CodeKind.TheVariants.{Initialise, Finalise}
-use Rattle.swi_dispatch_answers.specs.declared.frames.frame.Frame.{Frame}
-use Rattle.swi_dispatch_answers.specs.declared.frames.frame.FrameKind.{FrameKind}
-use Rattle.swi_dispatch_answers.specs.declared.frames.frame.FrameKind.TheVariants.{Swi, Entry}
+use Rattle.debugger.specs.CodeKind.TheVariants.{Initialise, Finalise}
+use Rattle.debugger.specs.Frame.{Frame}
+use Rattle.debugger.specs.FrameKind.{FrameKind}
+use Rattle.debugger.specs.FrameKind.TheVariants.{Swi, Entry}
 use Rattle.debugger.specs.MachineState.{MachineState}
 use Rattle.debugger.specs.Step.{without_x}
 

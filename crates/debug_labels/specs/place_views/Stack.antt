@@ -6,8 +6,8 @@ use Rattle.std.specs.Prelude.{ℕ, zero, suc, ◌*◌, ◌/◌, ◌%◌, ◌^◌
 use Rattle.profile.specs.Digits.{hex_word}
 use Rattle.profile.specs.MemoryMap.{return_gate}
 use Rattle.profile.specs.declared.fault.Fault.{Fault}
-use Rattle.address_map.specs.Bytes.{Bytes, word_loaded, word_start}
-use Rattle.arm_core.specs.State.{State, register_of}
+use Rattle.debugger.specs.Bytes.{Bytes, word_loaded, word_start}
+use Rattle.debugger.specs.State.{State, register_of}
 use Rattle.debug_labels.specs.Places.{place_of}
 use Rattle.debug_labels.specs.Views.{spaced_place_text}
 use Rattle.debug_labels.specs.Words.{Naming}

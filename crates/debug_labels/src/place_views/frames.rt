@@ -1,7 +1,7 @@
 //! The view FRAMES: the frames of module code that are open.
 
 ghost use Rattle.std.specs.Prelude.{◌≡◌, length, slice_get};
-ghost use Rattle.address_map.specs.Memory.{bytes_of};
+ghost use Rattle.debugger.specs.AddressMapMemory.{bytes_of};
 ghost use Rattle.profile.specs.Output.{Writes};
 ghost use Rattle.debugger.specs.Modules.{one_text};
 ghost use Rattle.debug_labels.specs.place_views.Frames.{named_address_text, called_at_text, caller_address, caller_text, calls_entered, entry_text, frame_kind_text, frame_line, frame_lines, frame_number_text, open_frame_numbered, frame_text, frames_text, full_name_at, full_name_of_slot, full_name_text, full_name_within, is_call_entered, is_called_by_instruction};
@@ -11,8 +11,7 @@ ghost use Rattle.debugger.specs.GuestState.{state_of};
 use crate::place_views::names::names_on;
 use crate::place_views::standing::show_where;
 use crate::{InstanceInfo, Instances, LabelTable, ModuleInfo, PlaceNames};
-use address_map::AddressMap;
-use debugger::{CodeKind, Frame, FrameKind, Machine, mode_name, without_x_bit};
+use debugger::{AddressMap, CodeKind, Frame, FrameKind, Machine, mode_name, without_x_bit};
 use itoa::Buffer;
 use profile::{Fault, HexText, Sink, SwiName, WriteFault, push_all, push_parts};
 

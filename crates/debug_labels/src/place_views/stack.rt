@@ -1,7 +1,7 @@
 //! The view STACK: the words from the stack pointer of the present mode on.
 
 ghost use Rattle.std.specs.Prelude.{◌≡◌};
-ghost use Rattle.address_map.specs.Memory.{bytes_of};
+ghost use Rattle.debugger.specs.AddressMapMemory.{bytes_of};
 ghost use Rattle.profile.specs.Output.{Writes};
 ghost use Rattle.debug_labels.specs.place_views.Places.{naming_on};
 ghost use Rattle.debug_labels.specs.place_views.Stack.{stacked_address, stacked_place_text, stack_end_text, stack_words_text, stack_words_text_at, stacked_word_text};
@@ -9,8 +9,7 @@ ghost use Rattle.debugger.specs.GuestState.{state_of};
 
 use crate::place_views::names::names_on;
 use crate::{LabelTable, PlaceNames};
-use address_map::AddressMap;
-use debugger::Machine;
+use debugger::{AddressMap, Machine};
 use profile::memory_map::{ADDRESS_LIMIT, RETURN_GATE};
 use profile::{HexText, Sink, WriteFault, push_all, push_parts};
 

@@ -11,14 +11,14 @@ use Rattle.arm_core.specs.State.{State, register_in, register_of}
 use Rattle.arm_core.specs.declared.psr.Mode.{Mode}
 use Rattle.arm_core.specs.declared.psr.Mode.TheVariants.{User, FastInterrupt, Interrupt, Supervisor}
 use Rattle.arm_core.specs.declared.psr.Psr.{Psr}
-use Rattle.debugger.specs.Memory.{hex_byte}
-use Rattle.debugger.specs.Registers.{flags_and_mode_text}
+use Rattle.debug_labels.specs.Memory.{hex_byte}
+use Rattle.debug_labels.specs.Registers.{flags_and_mode_text}
 use Rattle.debug_lines.specs.Expectations.{ExpectRequest, Register, Pc, Banked, Flags, Word, Byte, Answer, Line, Error, Output, Steps, StepsAtMost}
-use Rattle.command_shell_lines.specs.debug_words.Spelling.{is_spelling_of}
+use Rattle.debug_lines.specs.Spelling.{is_spelling_of}
 use Rattle.debug_lines.specs.Tidy.{tidied_line}
 use Rattle.debug_lines.specs.declared.status.StatusPattern.{StatusPattern}
-use Rattle.debugger.specs.views.Banks.{banked_name}
-use Rattle.debugger.specs.views.Quoted.{quoted_text}
+use Rattle.debug_labels.specs.Banks.{banked_name}
+use Rattle.debug_labels.specs.Quoted.{quoted_text}
 
 -- What an expectation is about: the core and the memory, the last answer without what the guest
 -- printed, what it printed in the last line that takes steps, and how many steps that took.

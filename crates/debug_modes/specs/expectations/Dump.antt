@@ -6,7 +6,7 @@ use Rattle.std.specs.Int.{is_in_range}
 use Rattle.profile.specs.Digits.{hex_word}
 use Rattle.profile.specs.declared.fault.Fault.{Fault}
 use Rattle.address_map.specs.Bytes.{Bytes, byte_loaded}
-use Rattle.debugger.specs.Memory.{bytes_text}
+use Rattle.debug_labels.specs.Memory.{bytes_text}
 use Rattle.profile.specs.Sums.{address_further}
 
 -- from a space (32) to `~` (126), else `.` (46)

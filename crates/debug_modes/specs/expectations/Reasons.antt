@@ -1,8 +1,8 @@
 -- Why what should be so isn't, as the code holds it.
 use Rattle.std.specs.Prelude.{ℕ, List, codes, ◌++◌, Option, Some, None}
 use Rattle.profile.specs.Digits.{hex_word}
-use Rattle.debugger.specs.Memory.{hex_byte}
-use Rattle.debugger.specs.views.Banks.{banked_name}
+use Rattle.debug_labels.specs.Memory.{hex_byte}
+use Rattle.debug_labels.specs.Banks.{banked_name}
 use Rattle.debug_modes.specs.expectations.Checks.{Seen, no_line_reason, output_reason, place_reason, register_name, status_reason, steps_reason, value_reason}
 use Rattle.debug_modes.specs.declared.expectations.checks.Mismatch.{Mismatch}
 use Rattle.debug_modes.specs.declared.expectations.checks.Mismatch.TheVariants as reason

@@ -11,10 +11,8 @@ use crate::expectations::answers::{
 };
 use crate::expectations::status::has_status;
 use arm_core::{Mode, Psr};
-use command_shell_lines::debug_words::is_spelt;
-use command_shell_lines::{RegisterNumber, WordAddress};
-use debug_lines::{Expectation, StatusPattern};
-use debugger::Machine;
+use command_shell::{Machine, RegisterNumber};
+use debug_lines::{Expectation, StatusPattern, WordAddress, is_spelt};
 use std::alloc::{AllocError, Global};
 
 /// What an expectation is about: a machine, the last answer without what the guest printed, what it

@@ -4,12 +4,13 @@ ghost use Rattle.std.specs.Prelude.{◌≡◌};
 ghost use Rattle.address_map.specs.Bytes.{byte_loaded};
 ghost use Rattle.address_map.specs.Memory.{bytes_of};
 ghost use Rattle.profile.specs.Output.{Writes};
-ghost use Rattle.debugger.specs.Memory.{byte_text, bytes_text};
-ghost use Rattle.debugger.specs.GuestState.{state_of};
+ghost use Rattle.debug_labels.specs.Memory.{byte_text, bytes_text};
+ghost use Rattle.debug_tables.specs.GuestState.{state_of};
 ghost use Rattle.debug_modes.specs.expectations.Dump.{character_of, characters_text, dump_line, dump_text, loaded_character};
 
 use address_map::AddressMap;
-use debugger::{Machine, hex_byte};
+use command_shell::Machine;
+use debug_labels::hex_byte;
 use profile::{HexText, Sink, WriteFault, push_all, push_parts};
 
 /// How many bytes stand on a line.

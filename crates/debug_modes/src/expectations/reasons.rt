@@ -3,12 +3,11 @@
 ghost use Rattle.profile.specs.Output.{Writes};
 ghost use Rattle.debug_modes.specs.expectations.Checks.{output_reason, place_reason, register_name, status_reason, steps_reason, value_reason};
 ghost use Rattle.debug_modes.specs.expectations.Reasons.{reason_text};
-ghost use Rattle.debugger.specs.views.Banks.{banked_name};
+ghost use Rattle.debug_labels.specs.Banks.{banked_name};
 
 use crate::expectations::checks::Mismatch;
 use arm_core::{Mode, Psr};
-use debugger::hex_byte;
-use debugger::views::{push_banked_name, push_flags, push_quoted};
+use debug_labels::{hex_byte, push_banked_name, push_flags, push_quoted};
 use itoa::Buffer;
 use profile::{HexText, Sink, WriteFault, push_all, push_parts};
 

@@ -4,7 +4,7 @@ ghost use Rattle.std.specs.Prelude.{◌≡◌};
 ghost use Rattle.address_map.specs.Bytes.{byte_loaded};
 ghost use Rattle.address_map.specs.Memory.{bytes_of};
 ghost use Rattle.profile.specs.Output.{Writes};
-ghost use Rattle.debugger.specs.GuestState.{state_of};
+ghost use Rattle.debug_tables.specs.GuestState.{state_of};
 ghost use Rattle.debug_modes.specs.expectations.Why.{error_line, loaded_or_zero, message_text, why_below, why_text};
 ghost use Rattle.debug_modes.specs.expectations.reports.Reports.{answer_in};
 
@@ -12,7 +12,7 @@ use crate::expectations::dump::character_of;
 use crate::expectations::reports::ReportForm;
 use crate::modes::DebugModes;
 use address_map::AddressMap;
-use debugger::Machine;
+use command_shell::Machine;
 use itoa::Buffer;
 use profile::{HexText, Sink, WriteFault, push_all, push_parts};
 

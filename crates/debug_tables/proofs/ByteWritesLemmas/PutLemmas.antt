@@ -7,7 +7,7 @@ use Rattle.profile.specs.declared.fault.Fault.{Fault}
 use Rattle.address_map.specs.Bytes.{Bytes, ok_unless_fault, store_fault, with_bytes_at, with_word_at, word_start, word_stored}
 use Rattle.command_shell.specs.Memory.{script_after_poke}
 use Rattle.command_shell.specs.State.{ScriptState}
-use Rattle.os_heap.specs.Store.{Store, owned_in}
+use Rattle.command_shell.specs.Store.{Store, owned_in}
 use Rattle.command_shell.specs.MachineState.{with_memory}
 use Rattle.command_shell.specs.Writes.{machine_after_poke}
 use Rattle.debug_tables.specs.byte_writes.Put.{IsWordOf, first_fault, put_fault, script_after_put, script_with_bytes, words_fault}

@@ -6,7 +6,7 @@ use Rattle.profile.specs.declared.fault.Fault.{Fault}
 use Rattle.address_map.specs.Bytes.{Bytes, ok_unless_fault, store_fault, with_bytes, word_start}
 use Rattle.command_shell.specs.Memory.{script_with_machine}
 use Rattle.command_shell.specs.State.{ScriptState}
-use Rattle.os_heap.specs.Store.{Store, owned_in}
+use Rattle.command_shell.specs.Store.{Store, owned_in}
 use Rattle.command_shell.specs.MachineState.{with_memory}
 
 abbrev pub first_fault : Option Fault → Option Fault → Option Fault

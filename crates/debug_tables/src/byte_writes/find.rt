@@ -6,13 +6,12 @@ ghost use Rattle.std.specs.List.{flat_map};
 ghost use Rattle.address_map.specs.Bytes.{byte_loaded};
 ghost use Rattle.address_map.specs.Memory.{bytes_of};
 ghost use Rattle.profile.specs.Output.{Writes};
-ghost use Rattle.command_shell_lines.specs.debug_words.NamedBytes.{named_bytes, or_no_bytes};
+ghost use Rattle.command_shell.specs.NamedBytes.{named_bytes, or_no_bytes};
 ghost use Rattle.command_shell.specs.GuestState.{state_of};
 ghost use Rattle.debug_tables.specs.byte_writes.Find.{find_text, is_byte, more_places_text, place_text, byte_places, shown_place, stand_at};
 
 use address_map::AddressMap;
-use command_shell::Machine;
-use command_shell_lines::debug_words::bytes_named;
+use command_shell::{Machine, bytes_named};
 use itoa::Buffer;
 use profile::text_sink::TextSink;
 use profile::{HexText, Sink, WriteFault, push_all, push_parts};

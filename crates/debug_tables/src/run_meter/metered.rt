@@ -8,13 +8,12 @@ ghost use Rattle.command_shell.specs.Script.{request_answer, takes_memory};
 ghost use Rattle.command_shell.specs.Session.{script_state};
 ghost use Rattle.command_shell.specs.State.{IsAnswered};
 ghost use Rattle.command_shell.specs.Stepping.{IsAfterRun, run_answer, script_run, step_answer};
-ghost use Rattle.command_shell_lines.specs.Blocks.{block_lines, lines_after, lines_taken};
-ghost use Rattle.command_shell_lines.specs.Requests.{opens_block, request_of_command};
+ghost use Rattle.command_shell.specs.CommandShellLinesBlocks.{block_lines, lines_after, lines_taken};
+ghost use Rattle.command_shell.specs.Requests.{opens_block, request_of_command};
 ghost use Rattle.profile.specs.images.Entries.{Entry};
 
 use crate::run_meter::meter::RunMeter;
-use command_shell::{RunError, Session, print_stepped, print_stop};
-use command_shell_lines::ScriptCommand;
+use command_shell::{RunError, ScriptCommand, Session, print_stepped, print_stop};
 use profile::images::Images;
 use profile::text_lines::Lines;
 use profile::{Sink, Stop, WriteFault};

@@ -4,9 +4,9 @@
 use Rattle.std.specs.Prelude.{ℕ, ◌++◌, List, codes}
 use Rattle.std.specs.Fmt.{decimal}
 use Rattle.profile.specs.Digits.{hex_word}
-use Rattle.arm_step.specs.ArmCoreMode.{Mode}
-use Rattle.arm_step.specs.ArmCoreMode.TheVariants.{User, FastInterrupt, Interrupt, Supervisor}
-use Rattle.arm_step.specs.State.{State, register_in}
+use Rattle.swi_dispatch_guest.specs.ArmCoreMode.{Mode}
+use Rattle.swi_dispatch_guest.specs.ArmCoreMode.TheVariants.{User, FastInterrupt, Interrupt, Supervisor}
+use Rattle.swi_dispatch_guest.specs.ArmCoreState.{State, register_in}
 use Rattle.debugger.specs.Registers.{mode_text}
 
 abbrev pub mode_suffix : Mode → List ℕ

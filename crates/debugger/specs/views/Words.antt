@@ -4,7 +4,7 @@
 use Rattle.std.specs.Prelude.{ℕ, zero, suc, ◌+◌, ◌-◌, ◌/◌, ◌++◌, min, List, [], codes, Result, Ok, Err}
 use Rattle.profile.specs.Digits.{hex_word}
 use Rattle.profile.specs.declared.fault.Fault.{Fault}
-use Rattle.address_map.specs.Bytes.{Bytes, word_loaded, word_start}
+use Rattle.swi_dispatch_guest.specs.Bytes.{Bytes, word_loaded, word_start}
 use Rattle.profile.specs.Sums.{address_further}
 
 abbrev pub word_or_dashes : Result ℕ Fault → List ℕ

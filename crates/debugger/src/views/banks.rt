@@ -6,10 +6,9 @@ ghost use Rattle.debugger.specs.views.Banks.{bank_line_from_8, bank_line_from_13
 ghost use Rattle.swi_dispatch_guest.specs.GuestState.{state_of};
 
 use crate::mode_name;
-use arm_step::{Cpu, Mode};
 use itoa::Buffer;
 use profile::{HexText, Sink, WriteFault, push_all, push_parts};
-use swi_dispatch_guest::Machine;
+use swi_dispatch_guest::{Cpu, Machine, Mode};
 
 /// Writes the registers that each mode has of its own, whatever the present one: R8 to R14 of USR,
 /// which other modes hide, and of FIQ, and R13 and R14 of IRQ and SVC. R8 to R12 stand on a line,

@@ -2,7 +2,7 @@
 use Rattle.std.proofs.Common.{◌≡◌, ◌<◌, ◌≤◌, ◌+◌, ◌-◌, ℕ, zero, suc, Bool, true, false, List, [], ◌∷◌, length, get_or, drop, refl, ap, sym, ◌∙◌, arith}
 use Rattle.std.specs.Prelude.{if◌then◌else◌}
 use Rattle.std.proofs.lemmas.List.{drop_all, drop_more}
-use Rattle.command_shell.specs.State.{ScriptState}
+use Rattle.debug_session.specs.State.{ScriptState}
 use Rattle.debug_session.specs.PastActs.{steps_of_acts}
 use Rattle.debug_session.specs.Past.{PastState}
 use Rattle.gdb_machine.specs.BackEnds.{search_begin}

@@ -2,13 +2,13 @@
 use Rattle.std.proofs.Common.{◌≡◌, ℕ, Bool, true, Bor, List, [], length, refl, ap, sym, ◌∙◌, arith}
 use Rattle.std.specs.Prelude.{Option, Result, Ok, Err, IfOk, ◌==◌, codes, option_map, if◌then◌else◌}
 use Rattle.std.proofs.lemmas.Bool.Decides.{nat_tests}
-use Rattle.command_shell.specs.declared.error.RunError.{RunError}
+use Rattle.debug_session.specs.CommandShellRunError.{RunError}
 use Rattle.gdb_packets.specs.Requests.{gdb_request}
 use Rattle.gdb_packets.specs.declared.requests.ByteRange.{ByteRange}
 use Rattle.gdb_packets.specs.declared.requests.PlaceRange.{PlaceRange}
 use Rattle.gdb_packets.specs.declared.requests.Request.{Request}
 use Rattle.gdb_packets.specs.declared.requests.Request.TheVariants as asked
-use Rattle.command_shell.specs.State.{ScriptState}
+use Rattle.debug_session.specs.State.{ScriptState}
 use Rattle.debug_session.specs.Past.{PastState}
 use Rattle.debug_session.specs.Put.{script_after_put}
 use Rattle.profile.specs.Outcome.{Leaves}

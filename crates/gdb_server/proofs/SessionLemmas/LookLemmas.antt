@@ -2,8 +2,8 @@
 use Rattle.std.proofs.Common.{◌≡◌, false, [], refl, ap, ◌∙◌}
 use Rattle.std.specs.Prelude.{ℕ, List, Option, Some}
 use Rattle.command_shell_lines.specs.Requests.{request_of}
-use Rattle.debug_lines.specs.DebugRequests.{DebugRequest, Expect, View, is_script_request}
-use Rattle.debug_lines.specs.Tidy.{tidied_line}
+use Rattle.debug_session.specs.DebugRequests.{DebugRequest, Expect, View, is_script_request}
+use Rattle.debug_session.specs.Tidy.{tidied_line}
 use Rattle.debug_session.specs.DebugScript.{debug_line_answer, simple_request_answer, tidy_line_answer, tidy_line_answer_by}
 use Rattle.debug_session.specs.DebugState.{DebugAnswered}
 use Rattle.debug_session.proofs.AsBeforeLemmas.{looking_leaves_the_machine}

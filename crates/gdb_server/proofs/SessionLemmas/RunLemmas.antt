@@ -2,11 +2,11 @@
 use Rattle.std.proofs.Common.{◌≡◌, ℕ, Bool, true, false, ◌&&◌, List, [], refl, ap, subst, sym, ◌∙◌}
 use Rattle.std.specs.Prelude.{Option, Some, None, Result, IfOk, codes, nat_lt, option_map, if◌then◌else◌}
 use Rattle.std.specs.Str.Lines.{lines}
-use Rattle.command_shell.specs.declared.error.RunError.{RunError}
+use Rattle.debug_session.specs.CommandShellRunError.{RunError}
 use Rattle.profile.specs.declared.fault.Fault.{Fault}
 use Rattle.profile.specs.declared.stop.Stop.{Stop}
 use Rattle.profile.specs.declared.stop.Stop.TheVariants as stop
-use Rattle.command_shell.specs.MachineState.{stop_of}
+use Rattle.gdb_machine.specs.MachineState.{stop_of}
 use Rattle.debug_session.specs.DebugScript.{debug_line_answer, debug_lines_answer}
 use Rattle.debug_session.specs.DebugState.{DebugAnswered, DebugState, IsDebugged}
 use Rattle.debug_session.specs.declared.session.DebugSettings.{DebugSettings}

@@ -2,7 +2,7 @@
 use Rattle.std.proofs.Common.{◌≡◌, ◌+◌, ℕ, zero, suc, Bool, true, false, ◌&&◌, List, append_assoc, refl, ap, sym, ◌∙◌, arith}
 use Rattle.std.specs.Prelude.{Option, Some, None, if◌then◌else◌}
 use Rattle.std.proofs.lemmas.Bool.{both_ways}
-use Rattle.command_shell.specs.State.{ScriptState}
+use Rattle.debug_session.specs.State.{ScriptState}
 use Rattle.gdb_machine.specs.StepEnds.{steps_further, struck_after}
 use Rattle.gdb_machine.specs.Watches.{first_changed}
 use Rattle.gdb_machine.specs.declared.stops.GdbStop.{GdbStop}

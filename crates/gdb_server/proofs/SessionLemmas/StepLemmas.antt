@@ -3,8 +3,8 @@ use Rattle.std.proofs.Common.{◌≡◌, ◌<◌, ◌-◌, ℕ, suc, Bool, true,
 use Rattle.std.specs.Prelude.{Option, Some, None, min, nat_lt, if◌then◌else◌}
 use Rattle.std.proofs.lemmas.List.{append-nil}
 use Rattle.std.proofs.lemmas.Bool.Decides.{nat_tests}
-use Rattle.command_shell.specs.State.{ScriptState}
-use Rattle.command_shell.specs.Stepping.{IsAfterRun}
+use Rattle.debug_session.specs.State.{ScriptState}
+use Rattle.debug_session.specs.Stepping.{IsAfterRun}
 use Rattle.gdb_machine.specs.StepEnds.{steps_further, struck_after}
 use Rattle.gdb_machine.specs.Watches.{first_changed}
 use Rattle.gdb_machine.specs.declared.stops.GdbStop.{GdbStop}

@@ -12,8 +12,8 @@ use Rattle.profile.specs.declared.fault.Fault.TheVariants as fault
 use Rattle.address_map.specs.Bytes.{ok_unless_fault, with_bytes_at}
 use Rattle.arm_core.specs.State.{IsCore, State}
 use Rattle.debug_session.specs.Put.{put_fault, script_after_put, script_with_bytes}
-use Rattle.command_shell.specs.State.{ScriptState}
-use Rattle.command_shell.specs.Writes.{machine_with_register}
+use Rattle.debug_session.specs.State.{ScriptState}
+use Rattle.debug_session.specs.Writes.{machine_with_register}
 use Rattle.gdb_machine.specs.Changes.{core_with_change, register_write}
 use Rattle.gdb_machine.specs.Registers.{register_shown}
 use Rattle.gdb_machine.specs.declared.changes.RegisterWrite.{RegisterWrite}

@@ -1,8 +1,8 @@
 -- Requests that change what stands, without a step: a register, bytes, breaks and watches, and the end.
 use Rattle.std.specs.Prelude.{ℕ, true, ◌==◌, List, codes, Option, Some, None, Result, Ok, Err, if◌then◌else◌}
 use Rattle.hex.specs.Hex.{decode_of, decode_sized}
-use Rattle.command_shell.specs.Memory.{script_at, script_unhalted, script_with_bank_register, script_with_register, script_with_status}
-use Rattle.command_shell.specs.State.{ScriptState}
+use Rattle.debug_session.specs.Memory.{script_at, script_unhalted, script_with_bank_register, script_with_register, script_with_status}
+use Rattle.debug_session.specs.State.{ScriptState}
 use Rattle.profile.specs.declared.stop.Stop.TheVariants as stop
 use Rattle.debug_session.specs.PastNoted.{past_with_deed}
 use Rattle.debug_session.specs.Past.{PastState}

@@ -2,7 +2,7 @@
 use Rattle.std.specs.Int.{from_le_bytes, w32}
 use Rattle.std.specs.Prelude.{◌≡◌, ◌+◌, ◌<◌, ℕ, zero, suc, false, List, length, codes, Some, None, Ok}
 use Rattle.profile.specs.declared.stop.Stop.TheVariants as stop
-use Rattle.command_shell.specs.State.{ScriptState}
+use Rattle.debug_session.specs.State.{ScriptState}
 use Rattle.gdb_machine.specs.declared.stops.GdbStop.TheVariants as reason
 use Rattle.gdb_machine.specs.Registers.{register_shown}
 use Rattle.gdb_packets.specs.Requests.{ContinueBack, GdbRequest, HostAnswer, SetRegister, StoreBytes, StorePairs}
@@ -20,9 +20,9 @@ use Rattle.gdb_server.specs.session.Steps.{StepLooks, is_other_list, looked_step
 use Rattle.gdb_server.specs.session.State.{GdbAnswered, GdbState, packet_reply}
 use Rattle.command_shell_lines.specs.Requests.{request_of}
 use Rattle.debug_session.specs.Naming.{meant_request, naming_of, repeated_now}
-use Rattle.debug_lines.specs.DebugRequests.{DebugRequest, Expect, View, ViewRequest, is_script_request}
-use Rattle.debug_lines.specs.Expectations.{ExpectRequest}
-use Rattle.debug_lines.specs.Tidy.{tidied_line}
+use Rattle.debug_session.specs.DebugRequests.{DebugRequest, Expect, View, ViewRequest, is_script_request}
+use Rattle.debug_session.specs.Expectations.{ExpectRequest}
+use Rattle.debug_session.specs.Tidy.{tidied_line}
 
 -- Looking changes nothing.
 abbrev pub GdbLookingChangesNothing : Type 0

@@ -4,9 +4,9 @@ use Rattle.std.specs.Prelude.{ℕ, ◌==◌, ◌&&◌, ◌||◌, nat_lt, option_
 use Rattle.profile.specs.declared.fault.Fault.{Fault}
 use Rattle.profile.specs.declared.stop.Stop.{Stop}
 use Rattle.profile.specs.declared.stop.Stop.TheVariants as stop
-use Rattle.command_shell.specs.Answers.{stop_text}
-use Rattle.command_shell.specs.Memory.{script_started_anew, script_with_budget}
-use Rattle.command_shell.specs.MachineState.{stop_of}
+use Rattle.debug_session.specs.Answers.{stop_text}
+use Rattle.debug_session.specs.Memory.{script_started_anew, script_with_budget}
+use Rattle.gdb_machine.specs.MachineState.{stop_of}
 use Rattle.debug_session.specs.Past.{past_from_start}
 use Rattle.debug_session.specs.DebugScript.{debug_line_answer, debug_lines_answer}
 use Rattle.debug_session.specs.DebugState.{DebugAnswered, DebugState}

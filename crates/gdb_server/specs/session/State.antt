@@ -1,7 +1,7 @@
 -- What a session with GDB works on, and what a request is answered with.
 use Rattle.std.specs.Prelude.{ℕ, ◌-◌, Bool, false, true, List, [], Option, Some, None}
 use Rattle.profile.specs.images.Entries.{Entry}
-use Rattle.command_shell.specs.State.{ScriptState}
+use Rattle.debug_session.specs.State.{ScriptState}
 use Rattle.debug_session.specs.PastNoted.{is_faulted, past_with_steps}
 use Rattle.debug_session.specs.Past.{PastState}
 use Rattle.debug_session.specs.DebugState.{DebugState, debug_start_state}

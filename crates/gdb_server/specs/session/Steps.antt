@@ -3,9 +3,9 @@
 use Rattle.std.specs.Prelude.{ℕ, zero, suc, ◌==◌, not, ◌||◌, ◌&&◌, nat_le, nat_lt, min, Bool, true, false, List, [], ◌++◌, Option, Some, None, if◌then◌else◌}
 use Rattle.std.specs.Str.{bytes_eq}
 use Rattle.profile.specs.declared.stop.Stop.TheVariants as stop
-use Rattle.command_shell.specs.Run.{Run}
-use Rattle.command_shell.specs.State.{ScriptState}
-use Rattle.command_shell.specs.Stepping.{script_run, script_after_run}
+use Rattle.gdb_machine.specs.Run.{Run}
+use Rattle.debug_session.specs.State.{ScriptState}
+use Rattle.debug_session.specs.Stepping.{script_run, script_after_run}
 use Rattle.gdb_machine.specs.StepEnds.{is_exit_ahead, may_change_list, steps_further, struck_after}
 use Rattle.gdb_machine.specs.Watches.{first_changed, struck_place, watched_bytes}
 use Rattle.gdb_machine.specs.declared.stops.GdbStop.{GdbStop}

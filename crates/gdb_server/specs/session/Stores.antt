@@ -7,7 +7,7 @@ use Rattle.debug_session.specs.Past.{PastState}
 use Rattle.debug_session.specs.PastDeed.TheVariants as deed
 use Rattle.debug_session.specs.PastNoted.{past_with_deed}
 use Rattle.debug_session.specs.Put.{script_after_put}
-use Rattle.command_shell.specs.State.{ScriptState}
+use Rattle.debug_session.specs.State.{ScriptState}
 use Rattle.gdb_packets.specs.declared.requests.ByteRange.{ByteRange}
 use Rattle.gdb_server.specs.session.State.{GdbState, GdbAnswered, gdb_line, packet_reply, with_past, with_script}
 

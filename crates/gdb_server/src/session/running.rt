@@ -2,14 +2,14 @@
 //! wants the program to stop, by a call of GDB's that any GDB answers at once.
 
 ghost use Rattle.std.specs.Prelude.{◌≡◌, ◌++◌, List, IfErr, IfOk, codes};
-ghost use Rattle.command_shell.specs.Answers.{stop_text};
-ghost use Rattle.command_shell.specs.Error.{IsLineError};
+ghost use Rattle.debug_session.specs.Answers.{stop_text};
+ghost use Rattle.debug_session.specs.CommandShellError.{IsLineError};
 ghost use Rattle.profile.specs.Output.{Writes};
 ghost use Rattle.profile.specs.text_sink.TextSink.{sink_text_of};
 ghost use Rattle.gdb_server.specs.session.Runs.{user_text};
 
 use crate::session::session::{GdbAnswer, GdbSession};
-use command_shell::{RunError, print_stop};
+use debug_session::{CommandShellRunError as RunError, print_stop};
 use gdb_machine::{GdbStop, UnderWay, library_lines, may_go_on, stepped, stop_packet, was_library};
 use gdb_packets::Going;
 use profile::images::Images;

@@ -1,11 +1,12 @@
 //! A session with GDB, and how one of its requests is answered.
 
 ghost use Rattle.std.specs.Prelude.{◌≡◌, [], None, Some, List, IfOk, IfErr, is_some};
-ghost use Rattle.command_shell.specs.Error.{IsLineError};
+ghost use Rattle.debug_session.specs.CommandShellError.{IsLineError};
 ghost use Rattle.gdb_server.specs.session.State.{debug_settings, gdb_start};
 
-use command_shell::RunError;
-use debug_session::{DebugSession, DebugSettings, ReportForm, RunMeter};
+use debug_session::{
+    CommandShellRunError as RunError, DebugSession, DebugSettings, ReportForm, RunMeter,
+};
 use gdb_machine::{GdbBreaks, GdbStop, UnderWay, Watches};
 use gdb_packets::Request;
 use profile::images::Images;

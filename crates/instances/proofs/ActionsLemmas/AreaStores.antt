@@ -1,13 +1,13 @@
 -- The area store after a record of an image went, and what calls keep that leave what is mapped.
 use Rattle.std.proofs.Common.{◌≡◌, ℕ, sym, ap, subst, ◌∙◌}
 use Rattle.std.specs.Prelude.{is_some}
-use Rattle.address_map.specs.declared.map.AddressMap.{AddressMap}
-use Rattle.address_map.specs.Memory.{Mapping, free_pages, mapping}
-use Rattle.address_map.specs.Records.{without_region}
-use Rattle.address_map.specs.declared.region.Kind.TheVariants as kind
-use Rattle.dynamic_areas.specs.Store.{IsSound, Store, store_of}
-use Rattle.dynamic_areas.specs.Areas.{AreaTable}
-use Rattle.dynamic_areas.specs.Ground.{IsRecorded, area_store_of, system_pages_range}
+use Rattle.rma.specs.AddressMap.{AddressMap}
+use Rattle.rma.specs.Memory.{Mapping, free_pages, mapping}
+use Rattle.rma.specs.Records.{without_region}
+use Rattle.rma.specs.Kind.TheVariants as kind
+use Rattle.rma.specs.Store.{IsSound, Store, store_of}
+use Rattle.rma.specs.Areas.{AreaTable}
+use Rattle.rma.specs.Ground.{IsRecorded, area_store_of, system_pages_range}
 use Rattle.rma.specs.Calls.{with_store}
 use Rattle.rma.specs.Images.{image_dropped}
 use Rattle.instances.specs.module_state.Sound.{HasSystemPages}

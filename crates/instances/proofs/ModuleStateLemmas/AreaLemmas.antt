@@ -5,21 +5,21 @@ use Rattle.std.proofs.Common.{◌≡◌, ◌⊎◌, ◌<◌, ◌≤◌, ◌+◌,
 use Rattle.std.specs.Prelude.{Option, is_some}
 use Rattle.std.proofs.lemmas.Bool.{both_ways, cases_Bool, false≢true, false_from_ne_true, ltb-false, ltb-true}
 use Rattle.std.proofs.Math.Dec.{ltb}
-use Rattle.address_map.proofs.InRange.{range_inside}
-use Rattle.address_map.specs.Bytes.{AreMapped, Bytes, in_range}
-use Rattle.address_map.specs.declared.region.Region.{Region}
+use Rattle.rma.proofs.InRange.{range_inside}
+use Rattle.rma.specs.Bytes.{AreMapped, Bytes, in_range}
+use Rattle.rma.specs.Region.{Region}
 use Rattle.rma.specs.lists.Heap.{HeapList}
-use Rattle.dynamic_areas.specs.Store.{AreHeapsIn, IsClearOfHeaps, IsImageBlock, IsImageIn, StandAreas, find_heap}
-use Rattle.dynamic_areas.proofs.Apart.{block_inside}
-use Rattle.dynamic_areas.proofs.Found.{found_start}
-use Rattle.dynamic_areas.proofs.Stores.{AreOthers, are_others, clear_of-found}
-use Rattle.dynamic_areas.specs.Areas.{find_area}
-use Rattle.dynamic_areas.specs.Ground.{AreaStore, IsAreaStore}
-use Rattle.dynamic_areas.specs.declared.area.Area.{Area}
-use Rattle.dynamic_areas.proofs.GroundLemmas.{unmapped_above}
-use Rattle.dynamic_areas.proofs.ModuleArea.{IsModuleArea, module_area_known}
-use Rattle.dynamic_areas.proofs.RoomLemmas.{found_room}
-use Rattle.dynamic_areas.proofs.RangeTests.{range_high, range_low}
+use Rattle.rma.specs.Store.{AreHeapsIn, IsClearOfHeaps, IsImageBlock, IsImageIn, StandAreas, find_heap}
+use Rattle.rma.proofs.Apart.{block_inside}
+use Rattle.rma.proofs.Found.{found_start}
+use Rattle.rma.proofs.Stores.{AreOthers, are_others, clear_of-found}
+use Rattle.rma.specs.Areas.{find_area}
+use Rattle.rma.specs.Ground.{AreaStore, IsAreaStore}
+use Rattle.rma.specs.Area.{Area}
+use Rattle.rma.proofs.GroundLemmas.{unmapped_above}
+use Rattle.rma.proofs.ModuleArea.{IsModuleArea, module_area_known}
+use Rattle.rma.proofs.RoomLemmas.{found_room}
+use Rattle.rma.proofs.RangeTests.{range_high, range_low}
 use Rattle.instances_table.specs.ModuleArea.{is_in_module_area}
 
 -- an image in a heap is a block of the module area's

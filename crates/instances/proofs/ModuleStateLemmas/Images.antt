@@ -3,13 +3,13 @@
 use Rattle.std.proofs.Common.{◌≡◌, ℕ, Bool, true, false, inl, inr, suc, ◌+◌, ◌%◌, ◌<◌, ◌==◌, List, [], ◌∷◌, ◌++◌, length, refl, ap, arith}
 use Rattle.std.specs.List.{list_any}
 use Rattle.std.proofs.lemmas.Bool.{cases_Bool, eqb-true, false_from_ne_true, both_ways}
-use Rattle.address_map.proofs.InRange.{range_inside}
-use Rattle.address_map.specs.Bytes.{in_range}
-use Rattle.address_map.specs.Records.{is_record, without_region}
-use Rattle.address_map.specs.declared.region.Kind.TheVariants as kind
-use Rattle.address_map.specs.declared.region.Region.{Region}
-use Rattle.dynamic_areas.specs.Store.{AreRangesApart, IsClearOfRanges, is_image}
-use Rattle.dynamic_areas.specs.Ground.{IsRecorded, system_pages_range}
+use Rattle.rma.proofs.InRange.{range_inside}
+use Rattle.rma.specs.Bytes.{in_range}
+use Rattle.rma.specs.Records.{is_record, without_region}
+use Rattle.rma.specs.Kind.TheVariants as kind
+use Rattle.rma.specs.Region.{Region}
+use Rattle.rma.specs.Store.{AreRangesApart, IsClearOfRanges, is_image}
+use Rattle.rma.specs.Ground.{IsRecorded, system_pages_range}
 use Rattle.instances_table.specs.Changes.{without_first_passing}
 use Rattle.instances.specs.module_state.Sound.{AreSolid, count_beside, image_ranges}
 

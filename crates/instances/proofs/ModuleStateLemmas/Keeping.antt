@@ -1,7 +1,7 @@
 -- What is kept where nothing happens, and where a call goes on after a write in the system pages.
 use Rattle.std.proofs.Common.{refl, ◌∙◌}
-use Rattle.address_map.specs.declared.map.AddressMap.{AddressMap}
-use Rattle.dynamic_areas.specs.Store.{store_of}
+use Rattle.rma.specs.AddressMap.{AddressMap}
+use Rattle.rma.specs.Store.{store_of}
 use Rattle.rma.proofs.FlexFrameLemmas.Keeping.{keeps_same, keeps_then}
 use Rattle.instances.specs.module_state.Kept.{DropsRecords, IsSystemMap, KeepsPages, StaysSound}
 use Rattle.instances.specs.module_state.Sound.{HasSystemPages}

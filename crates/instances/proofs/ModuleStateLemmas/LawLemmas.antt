@@ -2,14 +2,14 @@
 use Rattle.std.proofs.Common.{◌≡◌, ◌≤◌, ◌%◌, ℕ, Bool, false, List, [], ◌∷◌, ◌++◌, map, refl, subst, inl, inr, arith}
 use Rattle.std.specs.List.{AllByRecursion}
 use Rattle.std.proofs.lemmas.Bool.{cases_Bool}
-use Rattle.address_map.specs.Bytes.{AreMapped}
-use Rattle.address_map.specs.declared.region.Region.{Region}
+use Rattle.rma.specs.Bytes.{AreMapped}
+use Rattle.rma.specs.Region.{Region}
 use Rattle.rma.specs.lists.Heap.{HeapList}
-use Rattle.dynamic_areas.specs.Forgetting.{holds_heap}
-use Rattle.dynamic_areas.specs.Store.{AreRangesApart, ArePlaced, IsClearOfRanges, IsPlacedIn, is_image}
-use Rattle.dynamic_areas.proofs.ImageBlocks.{image_unheaped}
-use Rattle.dynamic_areas.proofs.Stores.{placed_either}
-use Rattle.dynamic_areas.specs.Ground.{AreRangesMapped, AreaStore, IsGround, IsRecorded}
+use Rattle.rma.specs.Forgetting.{holds_heap}
+use Rattle.rma.specs.Store.{AreRangesApart, ArePlaced, IsClearOfRanges, IsPlacedIn, is_image}
+use Rattle.rma.proofs.ImageBlocks.{image_unheaped}
+use Rattle.rma.proofs.Stores.{placed_either}
+use Rattle.rma.specs.Ground.{AreRangesMapped, AreaStore, IsGround, IsRecorded}
 use Rattle.instances_table.specs.declared.parts.Image.{Image}
 use Rattle.instances_table.specs.ModuleArea.{is_in_module_area}
 use Rattle.instances.specs.module_state.Laws.{ImagesAreApart, ImagesAreHeld, IsImageHeld}

@@ -1,16 +1,16 @@
 -- Records that are lost, one after another, by filters and by single removals.
 use Rattle.std.proofs.Common.{◌≡◌, ◌≢◌, ◌∙◌, ℕ, Bool, true, false, inl, inr, List, [], ◌∷◌, cond, refl, sym, subst}
 use Rattle.std.specs.List.{filter}
-use Rattle.address_map.specs.declared.region.Kind.{Kind}
-use Rattle.address_map.specs.declared.region.Region.{Region}
-use Rattle.address_map.specs.declared.map.AddressMap.{AddressMap}
-use Rattle.address_map.specs.Memory.{layout, regions}
-use Rattle.address_map.specs.Records.{is_record, without_region}
-use Rattle.dynamic_areas.specs.Order.{LosesHeaps, stays}
-use Rattle.dynamic_areas.specs.Store.{store_of}
-use Rattle.dynamic_areas.proofs.Frame.{layout-regions}
+use Rattle.rma.specs.Kind.{Kind}
+use Rattle.rma.specs.Region.{Region}
+use Rattle.rma.specs.AddressMap.{AddressMap}
+use Rattle.rma.specs.Memory.{layout, regions}
+use Rattle.rma.specs.Records.{is_record, without_region}
+use Rattle.rma.specs.Order.{LosesHeaps, stays}
+use Rattle.rma.specs.Store.{store_of}
+use Rattle.rma.proofs.Frame.{layout-regions}
 -- what calls that write to memory leave of what is mapped
-pub use Rattle.address_map.proofs.Stores.{layout-mapping}
+pub use Rattle.rma.proofs.AddressMapStores.{layout-mapping}
 use Rattle.instances_table.specs.declared.plans.action.PlanAction.{PlanAction}
 use Rattle.instances_table.specs.declared.plans.action.PlanAction.TheVariants.{Finalise, Remove, FreePrivate, Insert, Instantiate, GiveUp, Slide, Initialise}
 use Rattle.instances_table.specs.plans.Plans.{all_but_first, first_action}

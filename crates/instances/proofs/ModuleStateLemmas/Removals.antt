@@ -8,16 +8,16 @@ use Rattle.std.proofs.lemmas.Bool.{both_ways, cases_Bool, eq-eqb, eqb-true, fals
 use Rattle.profile.specs.Outcome.{bind}
 use Rattle.profile.specs.declared.error.ErrorNumber.{ErrorNumber}
 use Rattle.profile.specs.declared.error.ErrorNumber.TheVariants.{HeapBadDesc, HeapHoldsAnchor, HeapNotABlock}
-use Rattle.address_map.specs.Records.{without_region}
-use Rattle.address_map.specs.declared.item.Item.{Item}
-use Rattle.address_map.specs.declared.region.Kind.TheVariants as kind
-use Rattle.address_map.specs.declared.region.Region.{Region}
+use Rattle.rma.specs.Records.{without_region}
+use Rattle.rma.specs.Item.{Item}
+use Rattle.rma.specs.Kind.TheVariants as kind
+use Rattle.rma.specs.Region.{Region}
 use Rattle.rma.specs.lists.Heap.{HeapList}
 use Rattle.rma.specs.lists.Lists.{live_total, items_after_release}
-use Rattle.dynamic_areas.specs.Calls.{gave_back, store_holding, holds_anchor, total_or_0, unless_image}
-use Rattle.dynamic_areas.specs.Forgetting.{store_after_forget}
-use Rattle.dynamic_areas.specs.Store.{Store, find_heap, has_image}
-use Rattle.dynamic_areas.specs.Ground.{AreaStore, IsAreaStore, IsRecorded, system_pages_range}
+use Rattle.rma.specs.OsHeapCalls.{gave_back, store_holding, holds_anchor, total_or_0, unless_image}
+use Rattle.rma.specs.Forgetting.{store_after_forget}
+use Rattle.rma.specs.Store.{Store, find_heap, has_image}
+use Rattle.rma.specs.Ground.{AreaStore, IsAreaStore, IsRecorded, system_pages_range}
 use Rattle.rma.specs.Calls.{in_area, rma_freed}
 use Rattle.rma.specs.Images.{image_dropped, image_freed, or_kept}
 use Rattle.instances_table.specs.declared.parts.Image.{Image}

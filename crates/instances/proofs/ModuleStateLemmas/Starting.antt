@@ -3,14 +3,14 @@ use Rattle.std.proofs.Common.{◌≡◌, [], ◌∷◌, refl, ap, arith, inl, Re
 use Rattle.std.proofs.lemmas.Bool.{false≢true}
 use Rattle.std.specs.Prelude.{IfOk}
 use Rattle.profile.specs.Sizes.{Sizes}
-use Rattle.address_map.specs.declared.map.AddressMap.{AddressMap}
-use Rattle.address_map.specs.Memory.{free_pages}
-use Rattle.dynamic_areas.specs.Store.{Store, store_of}
-use Rattle.dynamic_areas.specs.Ground.{IsAreaStore, system_pages_range, AreAreas}
+use Rattle.rma.specs.AddressMap.{AddressMap}
+use Rattle.rma.specs.Memory.{free_pages}
+use Rattle.rma.specs.Store.{Store, store_of}
+use Rattle.rma.specs.Ground.{IsAreaStore, system_pages_range, AreAreas}
 use Rattle.instances.specs.module_state.Sound.{IsModuleState, HasSystemPages}
 use Rattle.instances.specs.module_state.ModuleState.{ModuleState, module_state_of}
-use Rattle.dynamic_areas.specs.Areas.{start_area_table}
-use Rattle.dynamic_areas.specs.Start.{start_store}
+use Rattle.rma.specs.Areas.{start_area_table}
+use Rattle.rma.specs.Start.{start_store}
 use Rattle.instances.proofs.ModuleStateLemmas.Writes.{has_system}
 
 pub start_module_state : (w : ModuleState) → IsAreaStore w.area_store → w.area_store.store.others ≡ system_pages_range ∷ [] → w.modules ≡ [] → IsModuleState w []

@@ -2,19 +2,19 @@
 use Rattle.profile.specs.MemoryMap.{environment_text_start, system_start}
 use Rattle.std.proofs.Common.{◌≡◌, ℕ, ◌+◌, ◌%◌, ◌≤◌, ◌<◌, Ok, true, false, List, [], ◌∷◌, ◌++◌, length, is_some, refl, subst, sym, ap, ◌∙◌, arith, length-append}
 use Rattle.std.proofs.lemmas.Bool.Decides.{nat_tests}
-use Rattle.address_map.specs.declared.map.AddressMap.{AddressMap}
-use Rattle.address_map.specs.Bytes.{Bytes, AreMapped, in_range, with_bytes_at, with_word_at, word_at, word_loaded}
-use Rattle.address_map.specs.Memory.{Layout, byte_at, bytes_of, class_of, free_pages, is_mapped, layout}
-use Rattle.address_map.proofs.Equations.{same_bytes}
-use Rattle.address_map.proofs.InRange.{range_inside}
-use Rattle.address_map.proofs.Stores.{two_writes}
-use Rattle.dynamic_areas.specs.Store.{Store, store_of}
-use Rattle.dynamic_areas.proofs.Frame.{IsKept}
+use Rattle.rma.specs.AddressMap.{AddressMap}
+use Rattle.rma.specs.Bytes.{Bytes, AreMapped, in_range, with_bytes_at, with_word_at, word_at, word_loaded}
+use Rattle.rma.specs.Memory.{Layout, byte_at, bytes_of, class_of, free_pages, is_mapped, layout}
+use Rattle.rma.proofs.Equations.{same_bytes}
+use Rattle.rma.proofs.InRange.{range_inside}
+use Rattle.rma.proofs.AddressMapStores.{two_writes}
+use Rattle.rma.specs.Store.{Store, store_of}
+use Rattle.rma.proofs.Frame.{IsKept}
 use Rattle.rma.proofs.Writing.{word_mapped}
-use Rattle.dynamic_areas.specs.Areas.{AreaTable}
-use Rattle.dynamic_areas.specs.Ground.{IsAreaStore, IsRecorded, area_store_of, system_pages_range}
-use Rattle.dynamic_areas.proofs.HeapCalls.{areas_written, system_mapped}
-use Rattle.dynamic_areas.proofs.SystemWrites.{system_kept}
+use Rattle.rma.specs.Areas.{AreaTable}
+use Rattle.rma.specs.Ground.{IsAreaStore, IsRecorded, area_store_of, system_pages_range}
+use Rattle.rma.proofs.HeapCalls.{areas_written, system_mapped}
+use Rattle.rma.proofs.SystemWrites.{system_kept}
 use Rattle.rma.specs.flex_frame.Keeping.{KeepsFlex}
 use Rattle.rma.proofs.FlexFrameLemmas.Writes.{system_keeps}
 use Rattle.instances_table.specs.plans.Code.{private_of}

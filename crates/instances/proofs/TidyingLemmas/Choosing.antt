@@ -4,10 +4,10 @@ use Rattle.std.proofs.Common.{◌≡◌, ◌≤◌, ◌<◌, ◌+◌, ◌-◌, �
 use Rattle.std.specs.List.{count_by, list_any}
 use Rattle.std.proofs.lemmas.Bool.{and_parts, cases_Bool, eq-eqb, eqb-true, false≢true, leb-true, le-leb, ne_eqb}
 use Rattle.std.proofs.lemmas.List.Recursion.{is_count_by}
-use Rattle.address_map.specs.Bytes.{in_range}
-use Rattle.address_map.specs.Records.{anchor_among}
-use Rattle.address_map.specs.declared.item.Item.{Item}
-use Rattle.address_map.specs.declared.item.Item.TheVariants.{Free, Live}
+use Rattle.rma.specs.Bytes.{in_range}
+use Rattle.rma.specs.Records.{anchor_among}
+use Rattle.rma.specs.Item.{Item}
+use Rattle.rma.specs.Item.TheVariants.{Free, Live}
 use Rattle.rma.proofs.Reading.{total_facts}
 use Rattle.rma.specs.lists.Heap.{AreTotals}
 use Rattle.rma.specs.lists.Lists.{live_total}

@@ -2,20 +2,20 @@
 use Rattle.std.specs.Prelude.{if◌then◌else◌}
 use Rattle.std.proofs.Common.{◌≡◌, ◌<◌, ℕ, Bool, true, ◌+◌, ◌-◌, ◌%◌, ◌∙◌, ◌⊎◌, List, [], ◌∷◌, ◌++◌, map, refl, sym, ap, subst, Some, inl, inr, arith}
 use Rattle.std.proofs.lemmas.Bool.{cases_Bool, cases_eq, le-leb, lt-ltb}
-use Rattle.address_map.specs.Bytes.{AreMapped, Bytes, in_range}
-use Rattle.address_map.specs.Items.{size_of}
-use Rattle.address_map.specs.Moves.{moved_place, moved_region, moved_regions, moved_to}
-use Rattle.address_map.specs.declared.follow.BlockMove.{BlockMove}
-use Rattle.address_map.specs.declared.region.Kind.TheVariants as kind
-use Rattle.address_map.specs.declared.region.Region.{Region}
+use Rattle.rma.specs.Bytes.{AreMapped, Bytes, in_range}
+use Rattle.rma.specs.Items.{size_of}
+use Rattle.rma.specs.Moves.{moved_place, moved_region, moved_regions, moved_to}
+use Rattle.rma.specs.BlockMove.{BlockMove}
+use Rattle.rma.specs.Kind.TheVariants as kind
+use Rattle.rma.specs.Region.{Region}
 use Rattle.rma.proofs.LiveBlocks.{LiveBytes, law_live_bytes}
 use Rattle.rma.specs.lists.Heap.{HeapList}
 use Rattle.rma.specs.lists.Lists.{total_for}
-use Rattle.dynamic_areas.proofs.Stores.{placed_by}
-use Rattle.dynamic_areas.specs.Store.{AreClear, ArePlaced, find_heap, is_image, IsImageBlock}
+use Rattle.rma.proofs.Stores.{placed_by}
+use Rattle.rma.specs.Store.{AreClear, ArePlaced, find_heap, is_image, IsImageBlock}
 use Rattle.rma.proofs.HeapSlideLemmas.Records as records
 use Rattle.rma.proofs.HeapSlideLemmas.Records.{IsSlide, moves_in, out_still, slid_in, still_place}
-use Rattle.dynamic_areas.specs.Ground.{AreRangesMapped, IsRecorded, system_pages_range}
+use Rattle.rma.specs.Ground.{AreRangesMapped, IsRecorded, system_pages_range}
 use Rattle.instances_table.specs.ModuleArea.{is_in_module_area}
 use Rattle.instances_table.specs.Modules.{Module}
 use Rattle.instances.specs.module_state.Sound.{AreSolid, IsSolid, count_beside, image_ranges, images_of, range_of}

@@ -2,16 +2,16 @@
 use Rattle.profile.specs.MemoryMap.{module_area_start}
 use Rattle.std.proofs.Common.{◌≡◌, ◌≤◌, ◌+◌, ◌-◌, ◌^◌, ◌∙◌, ℕ, List, [], length, ap, subst, refl, Option, Some, None, arith}
 use Rattle.std.specs.Option.{option_map}
-use Rattle.address_map.proofs.Spans.{mapped_below}
-use Rattle.address_map.specs.Items.{size_of}
-use Rattle.address_map.specs.Memory.{anchor_of, bytes_of}
-use Rattle.address_map.specs.declared.item.Item.{Item}
-use Rattle.address_map.specs.declared.map.AddressMap.{AddressMap}
+use Rattle.rma.proofs.Spans.{mapped_below}
+use Rattle.rma.specs.Items.{size_of}
+use Rattle.rma.specs.Memory.{anchor_of, bytes_of}
+use Rattle.rma.specs.Item.{Item}
+use Rattle.rma.specs.AddressMap.{AddressMap}
 use Rattle.rma.specs.lists.Heap.{AreTotals, HeapList, IsHeapIn}
-use Rattle.dynamic_areas.proofs.Found.{found_heap, found_start}
-use Rattle.dynamic_areas.specs.Calls.{items_of}
-use Rattle.dynamic_areas.specs.Forgetting.{holds_heap}
-use Rattle.dynamic_areas.specs.Store.{find_heap, IsSound, store_of}
+use Rattle.rma.proofs.Found.{found_heap, found_start}
+use Rattle.rma.specs.OsHeapCalls.{items_of}
+use Rattle.rma.specs.Forgetting.{holds_heap}
+use Rattle.rma.specs.Store.{find_heap, IsSound, store_of}
 use Rattle.instances_table.specs.Modules.{Module}
 use Rattle.instances.proofs.TidyingLemmas.Choosing.{few_blocks}
 use Rattle.instances.specs.tidying.Movable.{blocks_that, can_move, movable_in}

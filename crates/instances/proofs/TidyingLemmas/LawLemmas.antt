@@ -3,29 +3,29 @@ use Rattle.profile.specs.MemoryMap.{module_area_start, system_start}
 use Rattle.std.proofs.Common.{◌≡◌, ℕ, ◌+◌, ◌-◌, ◌*◌, ◌%◌, ◌<◌, ◌≤◌, ◌∙◌, true, false, List, [], ◌∷◌, refl, sym, ap, subst, Option, Some, None, Ok, arith}
 use Rattle.std.specs.Prelude.{is_some}
 use Rattle.std.proofs.lemmas.Bool.Decides.{nat_tests}
-use Rattle.address_map.specs.Bytes.{with_word_at}
-use Rattle.address_map.specs.Items.{size_of}
-use Rattle.address_map.specs.Moves.{moved_to}
-use Rattle.address_map.specs.declared.follow.BlockMove.{BlockMove}
+use Rattle.rma.specs.Bytes.{with_word_at}
+use Rattle.rma.specs.Items.{size_of}
+use Rattle.rma.specs.Moves.{moved_to}
+use Rattle.rma.specs.BlockMove.{BlockMove}
 use Rattle.rma.proofs.LiveBlocks.{LiveBytes, law_live_bytes}
 use Rattle.rma.specs.lists.Counts.{free_count}
 use Rattle.rma.specs.lists.Heap.{AreTotals, HeapList, IsHeapIn}
 use Rattle.rma.specs.lists.Lists.{live_total}
-use Rattle.dynamic_areas.proofs.Found.{found_heap, found_start}
-use Rattle.dynamic_areas.proofs.Moving.{found_held}
-use Rattle.dynamic_areas.specs.Calls.{OfHeap, heap_description}
-use Rattle.dynamic_areas.specs.Store.{Store, find_heap}
+use Rattle.rma.proofs.Found.{found_heap, found_start}
+use Rattle.rma.proofs.Moving.{found_held}
+use Rattle.rma.specs.OsHeapCalls.{OfHeap, heap_description}
+use Rattle.rma.specs.Store.{Store, find_heap}
 use Rattle.rma.proofs.HeapSlideLemmas.KeptBlocks.{slide_keeps_blocks}
 use Rattle.rma.proofs.HeapSlideLemmas.LawLemmas.{slid_totals, slide_clears, slide_describes, slide_fits}
 use Rattle.rma.proofs.HeapSlideLemmas.Records.{slid_in}
 use Rattle.rma.specs.heap_slide.Laws.{AreMovable}
 use Rattle.rma.specs.heap_slide.Slide.{is_listed, with_slid}
-use Rattle.dynamic_areas.proofs.ModuleArea.{IsModuleArea, module_area_known}
-use Rattle.dynamic_areas.proofs.RoomLemmas.{found_room}
-use Rattle.dynamic_areas.specs.Areas.{find_area}
-use Rattle.dynamic_areas.specs.Ground.{AreaStore, IsAreaStore}
-use Rattle.dynamic_areas.specs.Rooms.{IsAreaRoom}
-use Rattle.dynamic_areas.specs.declared.area.Area.{Area}
+use Rattle.rma.proofs.ModuleArea.{IsModuleArea, module_area_known}
+use Rattle.rma.proofs.RoomLemmas.{found_room}
+use Rattle.rma.specs.Areas.{find_area}
+use Rattle.rma.specs.Ground.{AreaStore, IsAreaStore}
+use Rattle.rma.specs.Rooms.{IsAreaRoom}
+use Rattle.rma.specs.Area.{Area}
 use Rattle.rma.specs.Calls.{or_nothing, rma_described, with_store}
 use Rattle.instances_table.specs.plans.Code.{private_of}
 use Rattle.instances_table.specs.Modules.{slots_of}

@@ -2,10 +2,10 @@
 use Rattle.std.proofs.Common.{◌≡◌, ℕ, ◌+◌, ◌<◌, ◌≤◌, ◌∙◌, List, [], ◌∷◌, ◌++◌, length, map, take, drop, get_or, zero, suc, refl, sym, ap, Option, Some, None, arith}
 use Rattle.std.specs.Prelude.{option_map, slice_get}
 use Rattle.std.proofs.lemmas.List.{drop_more, length-map, length-take, map-append, take_more}
-use Rattle.address_map.specs.Bytes.{word_at}
-use Rattle.address_map.specs.Moves.{moved_to}
-use Rattle.address_map.specs.declared.follow.BlockMove.{BlockMove}
-use Rattle.dynamic_areas.specs.Ground.{AreaStore}
+use Rattle.rma.specs.Bytes.{word_at}
+use Rattle.rma.specs.Moves.{moved_to}
+use Rattle.rma.specs.BlockMove.{BlockMove}
+use Rattle.rma.specs.Ground.{AreaStore}
 use Rattle.instances_table.specs.plans.Code.{private_of}
 use Rattle.instances_table.specs.Changes.{with_image_at}
 use Rattle.instances_table.specs.Lookup.{shown_of_module}

@@ -2,24 +2,24 @@
 use Rattle.profile.specs.MemoryMap.{heap_name, module_area_start, system_start}
 use Rattle.std.proofs.Common.{◌≡◌, ◌≢◌, ℕ, ◌+◌, ◌-◌, ◌%◌, ◌^◌, ◌==◌, ◌<◌, ◌≤◌, ◌⊎◌, ◌∙◌, Bool, true, List, [], ◌∷◌, refl, ap, subst, Option, Some, None, inl, inr, arith}
 use Rattle.std.proofs.lemmas.Bool.{both_ways, cases_Bool, cases_lt, eq-eqb, eqb-true, false_from_ne_true}
-use Rattle.address_map.specs.Bytes.{in_range, with_moved_at, with_word_at, word_at, word_start}
-use Rattle.address_map.specs.Items.{is_heap_word, size_of}
-use Rattle.address_map.specs.Moves.{AreDown, moved_to}
-use Rattle.address_map.specs.declared.follow.BlockMove.{BlockMove}
-use Rattle.address_map.specs.declared.item.Item.{Item}
-use Rattle.address_map.specs.declared.item.Item.TheVariants.{Free, Live}
+use Rattle.rma.specs.Bytes.{in_range, with_moved_at, with_word_at, word_at, word_start}
+use Rattle.rma.specs.Items.{is_heap_word, size_of}
+use Rattle.rma.specs.Moves.{AreDown, moved_to}
+use Rattle.rma.specs.BlockMove.{BlockMove}
+use Rattle.rma.specs.Item.{Item}
+use Rattle.rma.specs.Item.TheVariants.{Free, Live}
 use Rattle.rma.proofs.Payloads.{heap_beside, spelled_inside}
 use Rattle.rma.proofs.Words.{written}
 use Rattle.rma.specs.lists.Heap.{AreTotals, HeapList, IsHeapIn, next_free, with_heads, with_heap}
 use Rattle.rma.specs.lists.Words.{IsWordWritten}
-use Rattle.dynamic_areas.proofs.Apart.{range_parts}
-use Rattle.dynamic_areas.proofs.Found.{found_heap, found_start}
-use Rattle.dynamic_areas.specs.Store.{Store, find_heap}
+use Rattle.rma.proofs.Apart.{range_parts}
+use Rattle.rma.proofs.Found.{found_heap, found_start}
+use Rattle.rma.specs.Store.{Store, find_heap}
 use Rattle.rma.proofs.HeapSlideLemmas.LawLemmas.{slid_totals, slide_fits}
 use Rattle.rma.proofs.HeapSlideLemmas.Places.{bytes_low, bytes_past, moves_down}
 use Rattle.rma.proofs.HeapSlideLemmas.Records.{slid_in}
 use Rattle.rma.specs.heap_slide.Slide.{is_listed, item_place_after, slid_bytes, with_slid}
-use Rattle.dynamic_areas.specs.Ground.{AreaStore}
+use Rattle.rma.specs.Ground.{AreaStore}
 use Rattle.rma.specs.Calls.{with_store}
 use Rattle.instances_table.specs.plans.Code.{private_of}
 use Rattle.instances_table.proofs.RoomLemmas.{slots_once}

@@ -3,17 +3,17 @@
 use Rattle.profile.specs.MemoryMap.{module_area_start, system_start}
 use Rattle.std.proofs.Common.{◌≡◌, ℕ, Bool, true, ◌+◌, ◌≤◌, ◌<◌, ◌==◌, ◌∙◌, List, [], ◌∷◌, refl, sym, Option, Some, None, inl, inr, arith}
 use Rattle.std.proofs.lemmas.Bool.{cases_Bool, eq-eqb, eqb-true}
-use Rattle.address_map.proofs.InRange.{range_inside}
-use Rattle.address_map.specs.Items.{size_of}
-use Rattle.address_map.specs.Moves.{moved_to}
-use Rattle.address_map.specs.declared.item.Item.{Item}
-use Rattle.address_map.specs.declared.item.Item.TheVariants.{Free, Live}
+use Rattle.rma.proofs.InRange.{range_inside}
+use Rattle.rma.specs.Items.{size_of}
+use Rattle.rma.specs.Moves.{moved_to}
+use Rattle.rma.specs.Item.{Item}
+use Rattle.rma.specs.Item.TheVariants.{Free, Live}
 use Rattle.rma.proofs.Reading.{total_facts}
 use Rattle.rma.specs.lists.Heap.{AreTotals, HeapList, IsHeapIn}
-use Rattle.dynamic_areas.proofs.Found.{found_heap, found_start}
-use Rattle.dynamic_areas.specs.Store.{find_heap}
+use Rattle.rma.proofs.Found.{found_heap, found_start}
+use Rattle.rma.specs.Store.{find_heap}
 use Rattle.rma.specs.heap_slide.Slide.{is_listed, moves_of}
-use Rattle.dynamic_areas.specs.Ground.{AreaStore, IsAreaStore}
+use Rattle.rma.specs.Ground.{AreaStore, IsAreaStore}
 use Rattle.instances_table.specs.ModuleArea.{is_in_module_area}
 use Rattle.instances.proofs.TidyingLemmas.LawLemmas.{is_low}
 use Rattle.instances.specs.tidying.Laws.{TidyKeepsSides, tidy_moves_in}

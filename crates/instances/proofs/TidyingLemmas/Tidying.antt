@@ -2,28 +2,28 @@
 use Rattle.profile.specs.MemoryMap.{module_area_start}
 use Rattle.std.proofs.Common.{◌≡◌, ℕ, Bool, true, false, not, ◌+◌, ◌-◌, ◌≤◌, ◌∙◌, ◌&&◌, ◌||◌, List, [], ◌∷◌, length, map, arith, refl, sym, ap, subst, Option, Some, None}
 use Rattle.std.proofs.lemmas.Bool.{and_parts, both_ways, false_from_ne_true, not-true, or_from, or_parts}
-use Rattle.address_map.specs.Bytes.{in_range}
-use Rattle.address_map.specs.Memory.{Mapping, byte_at, free_pages, mapping}
-use Rattle.address_map.specs.Records.{anchor_among}
-use Rattle.address_map.specs.declared.follow.BlockMove.{BlockMove}
-use Rattle.address_map.specs.declared.map.AddressMap.{AddressMap}
+use Rattle.rma.specs.Bytes.{in_range}
+use Rattle.rma.specs.Memory.{Mapping, byte_at, free_pages, mapping}
+use Rattle.rma.specs.Records.{anchor_among}
+use Rattle.rma.specs.BlockMove.{BlockMove}
+use Rattle.rma.specs.AddressMap.{AddressMap}
 use Rattle.rma.specs.lists.Heap.{HeapList, IsHeapIn}
-use Rattle.dynamic_areas.proofs.Forgetting.{StartsIn, so_starts, starts_so}
-use Rattle.dynamic_areas.proofs.Found.{found_heap, found_start}
-use Rattle.dynamic_areas.proofs.Moving.{found_held}
-use Rattle.dynamic_areas.specs.Calls.{OfHeap}
-use Rattle.dynamic_areas.specs.Forgetting.{holds_heap, starts_in}
-use Rattle.dynamic_areas.specs.Store.{IsSound, Store, find_heap, store_of}
+use Rattle.rma.proofs.Forgetting.{StartsIn, so_starts, starts_so}
+use Rattle.rma.proofs.Found.{found_heap, found_start}
+use Rattle.rma.proofs.Moving.{found_held}
+use Rattle.rma.specs.OsHeapCalls.{OfHeap}
+use Rattle.rma.specs.Forgetting.{holds_heap, starts_in}
+use Rattle.rma.specs.Store.{IsSound, Store, find_heap, store_of}
 use Rattle.rma.proofs.HeapSlideLemmas.Records.{IsSlide, slid_in}
 use Rattle.rma.specs.heap_slide.Slide.{AreBlocks, HoldNoAnchor, HoldNoHeap, IsHeapSlid, MaySlide, with_slid}
-use Rattle.dynamic_areas.specs.Areas.{AreaTable, find_area}
-use Rattle.dynamic_areas.specs.Ground.{EndsWithArea, AreaStore, IsAreaStore, IsGround, area_store_of}
+use Rattle.rma.specs.Areas.{AreaTable, find_area}
+use Rattle.rma.specs.Ground.{EndsWithArea, AreaStore, IsAreaStore, IsGround, area_store_of}
 use Rattle.rma.specs.Calls.{with_store}
 use Rattle.instances_table.specs.Lookup.{has_image_at}
 use Rattle.instances_table.specs.Modules.{Module, slots_of}
 use Rattle.instances.specs.module_state.Sound.{IsModuleState}
 use Rattle.instances.specs.module_state.ModuleState.{ModuleState, module_state_of}
-use Rattle.dynamic_areas.proofs.HeapCalls.{same_end}
+use Rattle.rma.proofs.HeapCalls.{same_end}
 use Rattle.instances.proofs.TidyingLemmas.Choosing.{IsChosen, are_blocks, chosen, few_blocks}
 use Rattle.instances.proofs.TidyingLemmas.Following.{beside_moved, images_follow, ranges_mapped, solid_moved, system_moved}
 use Rattle.instances.proofs.TidyingLemmas.Sides.{sides_kept}

@@ -1,13 +1,13 @@
 -- What module calls ask of a map, and what they keep of it: the module state that it stands for is
 -- sound, and the words that it spells are marked.
 use Rattle.std.specs.Prelude.{◌≡◌, List, []}
-use Rattle.address_map.specs.Memory.{layout, mapping, regions}
-use Rattle.address_map.specs.declared.map.AddressMap.{AddressMap}
-use Rattle.address_map.specs.declared.region.Region.{Region}
-use Rattle.dynamic_areas.specs.Areas.{AreaTable}
-use Rattle.dynamic_areas.specs.Ground.{IsAreaStore, area_store_of}
-use Rattle.dynamic_areas.specs.Order.{LosesHeaps}
-use Rattle.dynamic_areas.specs.Store.{AreClasses, store_of}
+use Rattle.rma.specs.Memory.{layout, mapping, regions}
+use Rattle.rma.specs.AddressMap.{AddressMap}
+use Rattle.rma.specs.Region.{Region}
+use Rattle.rma.specs.Areas.{AreaTable}
+use Rattle.rma.specs.Ground.{IsAreaStore, area_store_of}
+use Rattle.rma.specs.Order.{LosesHeaps}
+use Rattle.rma.specs.Store.{AreClasses, store_of}
 use Rattle.rma.specs.flex_frame.Keeping.{KeepsFlex}
 use Rattle.instances_table.specs.declared.parts.Image.{Image}
 use Rattle.instances_table.specs.Modules.{Module}

@@ -1,9 +1,9 @@
 -- What a module state says of the images of modules, and of those that are pending.
 use Rattle.std.specs.Prelude.{◌≡◌, ◌≤◌, ◌%◌, true, false, List, ◌++◌, map}
 use Rattle.std.specs.List.{AllByRecursion}
-use Rattle.dynamic_areas.specs.Forgetting.{holds_heap}
-use Rattle.dynamic_areas.specs.Store.{AreRangesApart, IsClearOfHeaps, IsImageIn}
-use Rattle.dynamic_areas.specs.Ground.{IsRecorded}
+use Rattle.rma.specs.Forgetting.{holds_heap}
+use Rattle.rma.specs.Store.{AreRangesApart, IsClearOfHeaps, IsImageIn}
+use Rattle.rma.specs.Ground.{IsRecorded}
 use Rattle.instances_table.specs.declared.parts.Image.{Image}
 use Rattle.instances_table.specs.ModuleArea.{is_in_module_area}
 use Rattle.instances.specs.module_state.Sound.{IsModuleState, images_of, range_of, recorded_len}

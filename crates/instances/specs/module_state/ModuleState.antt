@@ -4,10 +4,10 @@
 use Rattle.profile.specs.MemoryMap.{environment_text_start}
 use Rattle.std.specs.Prelude.{ℕ, List, [], ◌∷◌, ◌++◌, Result, Ok, Err, if◌then◌else◌}
 use Rattle.profile.specs.declared.error.ErrorNumber.{ErrorNumber}
-use Rattle.address_map.specs.declared.map.AddressMap.{AddressMap}
-use Rattle.address_map.specs.Bytes.{word_at, with_word_at, with_bytes_at}
-use Rattle.dynamic_areas.specs.Areas.{AreaTable}
-use Rattle.dynamic_areas.specs.Ground.{AreaStore, area_store_of}
+use Rattle.rma.specs.AddressMap.{AddressMap}
+use Rattle.rma.specs.Bytes.{word_at, with_word_at, with_bytes_at}
+use Rattle.rma.specs.Areas.{AreaTable}
+use Rattle.rma.specs.Ground.{AreaStore, area_store_of}
 use Rattle.rma.specs.Calls.{rma_freed, with_store}
 use Rattle.rma.specs.Images.{image_dropped, image_freed}
 use Rattle.instances_table.specs.plans.Code.{private_of}

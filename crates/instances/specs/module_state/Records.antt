@@ -2,9 +2,9 @@
 -- module state has the heaps and the other ranges as two lists; this says how they stand among each other
 -- (this project's own).
 use Rattle.std.specs.Prelude.{◌≡◌, ◌⊎◌, Option, Some, None, List, [], ◌∷◌}
-use Rattle.address_map.specs.declared.follow.BlockMove.{BlockMove}
-use Rattle.address_map.specs.declared.region.Region.{Region}
-use Rattle.address_map.specs.Moves.{moved_regions}
+use Rattle.rma.specs.BlockMove.{BlockMove}
+use Rattle.rma.specs.Region.{Region}
+use Rattle.rma.specs.Moves.{moved_regions}
 use Rattle.instances_table.specs.declared.plans.action.PlanAction.{PlanAction}
 use Rattle.instances_table.specs.declared.plans.action.PlanAction.TheVariants.{Slide}
 

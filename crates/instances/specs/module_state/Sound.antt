@@ -3,14 +3,14 @@
 -- the modules.
 use Rattle.profile.specs.MemoryMap.{system_start}
 use Rattle.std.specs.Prelude.{ℕ, ◌≡◌, ◌≤◌, ◌<◌, ◌-◌, ◌%◌, true, suc, List, [], ◌∷◌, ◌++◌, map, if◌then◌else◌}
-use Rattle.address_map.specs.declared.map.AddressMap.{AddressMap}
-use Rattle.address_map.specs.declared.region.Kind.TheVariants as kind
-use Rattle.address_map.specs.declared.region.Region.{Region}
-use Rattle.address_map.specs.Bytes.{AreMapped}
-use Rattle.address_map.specs.Memory.{is_mapped}
+use Rattle.rma.specs.AddressMap.{AddressMap}
+use Rattle.rma.specs.Kind.TheVariants as kind
+use Rattle.rma.specs.Region.{Region}
+use Rattle.rma.specs.Bytes.{AreMapped}
+use Rattle.rma.specs.Memory.{is_mapped}
 use Rattle.rma.specs.lists.Lists.{total_for}
-use Rattle.dynamic_areas.specs.Store.{IsSound, is_image, store_of}
-use Rattle.dynamic_areas.specs.Ground.{IsAreaStore, IsRecorded, system_pages_range}
+use Rattle.rma.specs.Store.{IsSound, is_image, store_of}
+use Rattle.rma.specs.Ground.{IsAreaStore, IsRecorded, system_pages_range}
 use Rattle.instances_table.specs.declared.parts.Image.{Image}
 use Rattle.instances_table.specs.ModuleArea.{is_in_module_area}
 use Rattle.instances_table.specs.Modules.{Module}

@@ -1,14 +1,14 @@
 -- Laws of every tidied module area, said in other words than its definition.
 use Rattle.profile.specs.MemoryMap.{module_area_start}
 use Rattle.std.specs.Prelude.{ℕ, ◌≡◌, ◌<◌, ◌+◌, ◌-◌, true, List, [], Option, Some, None}
-use Rattle.address_map.specs.Items.{size_of}
-use Rattle.address_map.specs.Moves.{moved_to}
-use Rattle.address_map.specs.declared.follow.BlockMove.{BlockMove}
+use Rattle.rma.specs.Items.{size_of}
+use Rattle.rma.specs.Moves.{moved_to}
+use Rattle.rma.specs.BlockMove.{BlockMove}
 use Rattle.rma.specs.lists.Counts.{free_count}
 use Rattle.rma.specs.lists.Heap.{HeapList}
 use Rattle.rma.specs.lists.Lists.{live_total}
-use Rattle.dynamic_areas.specs.Calls.{OfHeap}
-use Rattle.dynamic_areas.specs.Store.{Store, find_heap}
+use Rattle.rma.specs.OsHeapCalls.{OfHeap}
+use Rattle.rma.specs.Store.{Store, find_heap}
 use Rattle.rma.specs.heap_slide.Laws.{AreMovable}
 use Rattle.rma.specs.heap_slide.Slide.{is_listed}
 use Rattle.rma.specs.Calls.{rma_described}

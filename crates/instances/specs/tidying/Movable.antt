@@ -4,13 +4,13 @@
 -- Manual, "OS_Module", reason 8; which blocks can be moved is this project's own).
 use Rattle.std.specs.Prelude.{ℕ, Bool, not, ◌+◌, ◌==◌, ◌&&◌, ◌||◌, List, [], ◌∷◌, Option, Some, None, if◌then◌else◌}
 use Rattle.std.specs.List.{count_by}
-use Rattle.address_map.specs.Bytes.{in_range}
-use Rattle.address_map.specs.Records.{anchor_among}
-use Rattle.address_map.specs.declared.item.Item.{Item}
-use Rattle.address_map.specs.declared.item.Item.TheVariants.{Free, Live}
+use Rattle.rma.specs.Bytes.{in_range}
+use Rattle.rma.specs.Records.{anchor_among}
+use Rattle.rma.specs.Item.{Item}
+use Rattle.rma.specs.Item.TheVariants.{Free, Live}
 use Rattle.rma.specs.lists.Heap.{HeapList}
-use Rattle.dynamic_areas.specs.Forgetting.{holds_heap}
-use Rattle.dynamic_areas.specs.Store.{Store}
+use Rattle.rma.specs.Forgetting.{holds_heap}
+use Rattle.rma.specs.Store.{Store}
 use Rattle.instances_table.specs.Lookup.{has_image_at}
 use Rattle.instances_table.specs.Modules.{Module}
 

@@ -3,13 +3,13 @@
 -- "OS_Module", reason 8).
 use Rattle.profile.specs.MemoryMap.{module_area_start}
 use Rattle.std.specs.Prelude.{ℕ, ◌+◌, List, [], ◌∷◌, map, Option, Some, None}
-use Rattle.address_map.specs.Bytes.{word_at}
-use Rattle.address_map.specs.Moves.{moved_to}
-use Rattle.address_map.specs.declared.follow.BlockMove.{BlockMove}
+use Rattle.rma.specs.Bytes.{word_at}
+use Rattle.rma.specs.Moves.{moved_to}
+use Rattle.rma.specs.BlockMove.{BlockMove}
 use Rattle.rma.specs.lists.Heap.{HeapList}
-use Rattle.dynamic_areas.specs.Store.{find_heap}
+use Rattle.rma.specs.Store.{find_heap}
 use Rattle.rma.specs.heap_slide.Slide.{is_listed, moves_of, with_slid}
-use Rattle.dynamic_areas.specs.Ground.{AreaStore}
+use Rattle.rma.specs.Ground.{AreaStore}
 use Rattle.rma.specs.Calls.{with_store}
 use Rattle.instances_table.specs.plans.Code.{private_of}
 use Rattle.instances_table.specs.Changes.{with_image_at}

@@ -1,7 +1,7 @@
 //! One action of a plan.
 
 ghost use Rattle.std.specs.Prelude.{ℕ, List, ◌≡◌, [], ◌∷◌, true, false};
-ghost use Rattle.dynamic_areas.specs.Areas.{AreaTable};
+ghost use Rattle.rma.specs.Areas.{AreaTable};
 ghost use Rattle.instances_table.specs.declared.parts.Image.{Image};
 ghost use Rattle.instances.specs.module_state.Sound.{IsModuleState};
 ghost use Rattle.instances.specs.module_state.ModuleState.{ModuleState, module_state_of};
@@ -13,9 +13,9 @@ ghost use Rattle.instances.specs.module_state.Kept.{IsSystemMap, DropsRecords};
 use crate::actions::adding::{give_up, insert, instantiate};
 use crate::actions::removal::{free_private, remove};
 use crate::module_state::put_text;
-use address_map::AddressMap;
 use instances_table::InstanceTable;
 use instances_table::plans::{Given, PlanAction};
+use rma::AddressMap;
 
 /// Does an action's own part, before its code runs; a slide is done elsewhere. The image of a new
 /// module is pending until an insertion adds it, or it is given up.

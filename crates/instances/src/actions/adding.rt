@@ -1,8 +1,8 @@
 //! What adds a module or an instance, or gives a new module's image up.
 
 ghost use Rattle.std.specs.Prelude.{List, ◌≡◌, [], ◌∷◌, true};
-ghost use Rattle.dynamic_areas.specs.Areas.{AreaTable};
-ghost use Rattle.dynamic_areas.specs.Ground.{area_store_of};
+ghost use Rattle.rma.specs.Areas.{AreaTable};
+ghost use Rattle.rma.specs.Ground.{area_store_of};
 ghost use Rattle.instances_table.specs.Changes.{is_new};
 ghost use Rattle.instances_table.specs.Modules.{Module};
 ghost use Rattle.instances.specs.module_state.Sound.{HasSystemPages, IsModuleState};
@@ -13,10 +13,10 @@ ghost use Rattle.instances.specs.module_state.Kept.{IsSystemMap, StaysSoundWith,
 
 use crate::actions::removal::drop_image;
 use crate::module_state::put_private;
-use address_map::AddressMap;
 use arrayvec::ArrayVec;
 use instances_table::plans::{Given, Header};
 use instances_table::{Image, InstanceTable};
+use rma::AddressMap;
 
 /// Adds the new module, the youngest, with its first instance in a slot, whose private word is 0.
 ///

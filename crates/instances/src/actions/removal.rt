@@ -1,15 +1,14 @@
 //! What takes instances away, and what they held.
 
 ghost use Rattle.std.specs.Prelude.{◌≡◌, ◌<◌};
-ghost use Rattle.dynamic_areas.specs.Areas.{AreaTable};
-ghost use Rattle.dynamic_areas.specs.Ground.{IsAreaStore, area_store_of};
+ghost use Rattle.rma.specs.Areas.{AreaTable};
+ghost use Rattle.rma.specs.Ground.{IsAreaStore, area_store_of};
 ghost use Rattle.instances.specs.module_state.ModuleState.{image_gone, private_freed, module_state_after_remove, module_state_of};
 ghost use Rattle.instances.specs.module_state.Kept.{IsSystemMap, StaysSoundWith, DropsRecords, DropsHeaps};
 
 use crate::module_state::{private_value, put_private};
-use address_map::AddressMap;
 use instances_table::{Image, InstanceTable, is_in_module_area};
-use rma::Rma;
+use rma::{AddressMap, Rma};
 
 /// Removes the instance of a slot: the block that its private word names is given back, the word is
 /// 0 then, and the instance is gone; with the last one of a module its image goes.

@@ -1,18 +1,18 @@
 //! What instances have in the system pages: their private words, and the environment text.
 
 ghost use Rattle.std.specs.Prelude.{◌≡◌, ◌≤◌, ◌<◌, length};
-ghost use Rattle.address_map.specs.Bytes.{AreMapped, word_at};
-ghost use Rattle.address_map.specs.Memory.{byte_at, is_mapped};
-ghost use Rattle.dynamic_areas.specs.Areas.{AreaTable};
-ghost use Rattle.dynamic_areas.specs.Ground.{area_store_of};
+ghost use Rattle.rma.specs.Bytes.{AreMapped, word_at};
+ghost use Rattle.rma.specs.Memory.{byte_at, is_mapped};
+ghost use Rattle.rma.specs.Areas.{AreaTable};
+ghost use Rattle.rma.specs.Ground.{area_store_of};
 ghost use Rattle.instances_table.specs.plans.Code.{private_of};
 ghost use Rattle.instances.specs.module_state.Sound.{HasSystemPages};
 ghost use Rattle.instances.specs.module_state.ModuleState.{private_word, with_private, with_text};
 ghost use Rattle.instances.specs.module_state.Kept.{StaysSound, KeepsPages};
 
-use address_map::AddressMap;
 use instances_table::plans::private_word;
 use profile::memory_map::ENVIRONMENT_TEXT;
+use rma::AddressMap;
 
 /// The value of the private word of a slot.
 pub fn private_value(map: &AddressMap, slot: u32) -> u32

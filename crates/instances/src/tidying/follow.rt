@@ -1,18 +1,18 @@
 //! Private words and images follow the blocks that moved.
 ghost use Rattle.std.specs.Prelude.{◌≡◌, ◌≤◌, ◌<◌, length, map, slice_index, EachIndex};
-ghost use Rattle.address_map.specs.Bytes.{AreMapped};
-ghost use Rattle.address_map.specs.Memory.{byte_at, is_mapped};
-ghost use Rattle.dynamic_areas.specs.Areas.{AreaTable};
-ghost use Rattle.dynamic_areas.specs.Ground.{area_store_of};
+ghost use Rattle.rma.specs.Bytes.{AreMapped};
+ghost use Rattle.rma.specs.Memory.{byte_at, is_mapped};
+ghost use Rattle.rma.specs.Areas.{AreaTable};
+ghost use Rattle.rma.specs.Ground.{area_store_of};
 ghost use Rattle.instances.specs.module_state.Sound.{HasSystemPages};
 ghost use Rattle.instances.specs.tidying.Slid.{image_moved, private_words_at, words_moved};
 ghost use Rattle.instances.specs.module_state.Kept.{StaysSound, KeepsPages};
 
 use crate::module_state::{private_value, put_private};
-use address_map::{AddressMap, BlockMove};
 use arrayvec::ArrayVec;
 use instances_table::InstanceTable;
 use rma::heap_slide::moved_to;
+use rma::{AddressMap, BlockMove};
 
 /// The most private words that instances have.
 pub(crate) const MOST_WORDS: usize = 64;

@@ -1,18 +1,17 @@
 //! Which blocks of the module area can be moved.
 ghost use Rattle.profile.specs.MemoryMap.{module_area_start};
 ghost use Rattle.std.specs.Prelude.{◌≡◌, ◌≤◌, ◌<◌, ◌+◌, ◌^◌, [], length, Option, Some, None};
-ghost use Rattle.address_map.specs.Items.{size_of};
-ghost use Rattle.address_map.specs.Memory.{anchor_of};
-ghost use Rattle.dynamic_areas.specs.Forgetting.{holds_heap};
-ghost use Rattle.dynamic_areas.specs.Store.{find_heap, store_of, IsSound};
+ghost use Rattle.rma.specs.Items.{size_of};
+ghost use Rattle.rma.specs.Memory.{anchor_of};
+ghost use Rattle.rma.specs.Forgetting.{holds_heap};
+ghost use Rattle.rma.specs.Store.{find_heap, store_of, IsSound};
 ghost use Rattle.instances.specs.tidying.Movable.{blocks_that, can_move, is_named_once, movable_in};
 
-use address_map::{AddressMap, Item};
 use arrayvec::ArrayVec;
-use dynamic_areas::{Blocks, Heaps};
 use instances_table::InstanceTable;
 use profile::memory_map::{HEAP_DESCRIPTOR, RMA_START};
 use rma::heap_slide::moves::MOST_MOVES;
+use rma::{AddressMap, Blocks, Heaps, Item};
 
 /// The addresses of blocks that can be moved, in order.
 pub(crate) type Movable = ArrayVec<u32, MOST_MOVES>;

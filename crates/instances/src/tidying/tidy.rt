@@ -8,10 +8,8 @@ ghost use Rattle.instances.specs.module_state.Kept.{IsModuleMap, KeepsState};
 
 use crate::tidying::follow::{move_images, move_words, private_words};
 use crate::tidying::movable::movable_blocks;
-use address_map::AddressMap;
-use dynamic_areas::Areas;
 use instances_table::InstanceTable;
-use rma::Rma;
+use rma::{AddressMap, Areas, Rma};
 
 /// Tidies the module area: slides its movable blocks together, so that the free room between them
 /// becomes one. Movable are the images of modules, and each block that exactly one private word of

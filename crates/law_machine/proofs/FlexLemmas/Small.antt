@@ -3,7 +3,7 @@ use Rattle.std.proofs.Common.{ℕ, ◌≡◌, ◌<◌, ◌+◌, ◌-◌, ◌==�
 use Rattle.std.proofs.lemmas.Bool.{cases_Bool}
 use Rattle.address_map.proofs.Stores.{in_range-cases}
 use Rattle.address_map.specs.Bytes.{with_bytes_at, with_word_at}
-use Rattle.raw_store.specs.Region.{word_bytes}
+use Rattle.address_map.specs.RawStoreRegion.{word_bytes}
 use Rattle.flex_store.specs.Blocks.{Block, contents, whole_words_of_bytes, bytes_with_size, bytes_after_splice, bytes_taken_by, whole_words}
 use Rattle.flex_store.specs.Memory.{Holds, laid_out, blocks_text_of, with_anchors}
 use Rattle.flex_store.specs.Shifts.{following, Shifts}

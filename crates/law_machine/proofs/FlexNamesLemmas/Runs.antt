@@ -2,7 +2,7 @@
 use Rattle.std.proofs.Common.{◌≡◌, ℕ, Bool, ◌+◌, ◌-◌, ◌^◌, ◌<◌, ◌≤◌, true, nat_eq, List, [], ◌∷◌, Option, Some, arith, refl, sym, ◌∙◌, ap, inl, inr, subst}
 use Rattle.std.proofs.lemmas.Bool.{eq-eqb, or_left, or_right}
 use Rattle.address_map.proofs.InRange.{range_inside}
-use Rattle.raw_store.specs.Region.{word_bytes}
+use Rattle.address_map.specs.RawStoreRegion.{word_bytes}
 use Rattle.address_map.specs.Bytes.{in_range, word_start}
 use Rattle.os_heap.specs.Store.{Store}
 use Rattle.flex_store.specs.Blocks.{Block, FlexStore, has_anchor, bytes_taken_by}

@@ -6,8 +6,8 @@ use Rattle.arm_core.specs.State.{State, register_of}
 use Rattle.os_heap.specs.Store.{Store}
 use Rattle.dynamic_areas.specs.Ground.{AreaStore}
 use Rattle.instances.specs.module_state.ModuleState.{ModuleState}
-use Rattle.swi_dispatch_answers.specs.declared.refusal.Refusal.{Refusal}
-use Rattle.swi_dispatch_plans.specs.flex.Calls.{FlexMemory}
+use Rattle.swi_dispatch_guest.specs.Refusal.{Refusal}
+use Rattle.swi_dispatch_guest.specs.SwiDispatchFlexCalls.{FlexMemory}
 use Rattle.swi_dispatch_guest.specs.Answers.{went_on}
 use Rattle.swi_dispatch_guest.specs.Calls.{call_answer, on_area_store, on_flex, on_store, on_module_state, wrote_text_after, wrote_text_at}
 use Rattle.swi_dispatch_guest.specs.MachineState.{MachineState, StepOutcome}

@@ -16,11 +16,11 @@ use Rattle.instances_table.specs.plans.Plans.{Plan}
 use Rattle.dynamic_areas.specs.Ground.{AreaStore}
 use Rattle.dynamic_areas.specs.Areas.{find_area}
 use Rattle.dynamic_areas.specs.declared.area.Area.{Area}
-use Rattle.swi_dispatch_answers.specs.Words.{host_string}
-use Rattle.swi_dispatch_answers.specs.declared.refusal.Refusal.TheVariants as refusal
-use Rattle.swi_dispatch_plans.specs.ImagePlans.{instantiation_planned}
-use Rattle.swi_dispatch_plans.specs.ModulePlans.{clear_planned, delete_planned, reinit_planned, tidy_planned}
-use Rattle.swi_dispatch_plans.specs.store.Areas.{area_changed, change_asked, change_left}
+use Rattle.swi_dispatch_guest.specs.SwiDispatchAnswersWords.{host_string}
+use Rattle.swi_dispatch_guest.specs.Refusal.TheVariants as refusal
+use Rattle.swi_dispatch_guest.specs.ImagePlans.{instantiation_planned}
+use Rattle.swi_dispatch_guest.specs.ModulePlans.{clear_planned, delete_planned, reinit_planned, tidy_planned}
+use Rattle.swi_dispatch_guest.specs.Areas.{area_changed, change_asked, change_left}
 use Rattle.swi_dispatch_guest.specs.declared.halt.Halt.{Halt}
 use Rattle.swi_dispatch_guest.specs.Additions.{Planned, copy_planned, insertion_planned, load_planned, named_load_planned}
 use Rattle.swi_dispatch_guest.specs.Calls.{area_changing, call_answer, with_guest}

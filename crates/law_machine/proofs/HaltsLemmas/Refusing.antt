@@ -29,15 +29,15 @@ use Rattle.os_heap.specs.Store.{Store}
 use Rattle.flex_store.proofs.Holding.{bytes_beside, word_beside}
 use Rattle.dynamic_areas.specs.Ground.{AreaStore}
 use Rattle.instances.specs.module_state.ModuleState.{ModuleState}
-use Rattle.swi_dispatch_answers.specs.Errors.{memory_with_error}
-use Rattle.swi_dispatch_answers.specs.Returns.{return_word, state_after_return}
-use Rattle.swi_dispatch_answers.specs.declared.refusal.Refusal.{Refusal}
-use Rattle.swi_dispatch_answers.specs.declared.refusal.Refusal.TheVariants as refusal
-use Rattle.swi_dispatch_plans.specs.flex.Calls.{FlexMemory}
-use Rattle.swi_dispatch_answers.specs.frames.Entering.{swi_entered}
-use Rattle.swi_dispatch_plans.specs.Openings.{opening_asked}
-use Rattle.swi_dispatch_plans.specs.declared.openings.Opening.{Opening}
-use Rattle.swi_dispatch_plans.proofs.ModuleCode.{first_slot}
+use Rattle.swi_dispatch_guest.specs.SwiDispatchAnswersErrors.{memory_with_error}
+use Rattle.swi_dispatch_guest.specs.SwiDispatchAnswersReturns.{return_word, state_after_return}
+use Rattle.swi_dispatch_guest.specs.Refusal.{Refusal}
+use Rattle.swi_dispatch_guest.specs.Refusal.TheVariants as refusal
+use Rattle.swi_dispatch_guest.specs.SwiDispatchFlexCalls.{FlexMemory}
+use Rattle.swi_dispatch_guest.specs.Entering.{swi_entered}
+use Rattle.swi_dispatch_guest.specs.Openings.{opening_asked}
+use Rattle.swi_dispatch_guest.specs.Opening.{Opening}
+use Rattle.swi_dispatch_guest.proofs.ModuleCode.{first_slot}
 use Rattle.swi_dispatch_guest.proofs.Kept.{short_name}
 use Rattle.swi_dispatch_guest.proofs.NextTurn.{unhalted_step, outside_call}
 use Rattle.swi_dispatch_guest.specs.Answers.{Answer, refusal_answer, went_on}

@@ -24,12 +24,12 @@ use Rattle.law_machine.proofs.HeapCallsLemmas.WholeHeaps.{others_whole}
 use Rattle.law_machine.specs.heap_calls.Laws.{HeapHasNoAnchor, IsLeftWhole, KeepsHeap}
 use Rattle.law_machine.specs.heap_calls.Lists.{is_call_to}
 use Rattle.law_machine.specs.heap_calls.Turns.{call_on}
-use Rattle.swi_dispatch_answers.specs.Refusals.{or_error}
-use Rattle.swi_dispatch_answers.specs.declared.refusal.Refusal.{Refusal}
-use Rattle.swi_dispatch_answers.specs.declared.refusal.Refusal.TheVariants as refusal
+use Rattle.swi_dispatch_guest.specs.Refusals.{or_error}
+use Rattle.swi_dispatch_guest.specs.Refusal.{Refusal}
+use Rattle.swi_dispatch_guest.specs.Refusal.TheVariants as refusal
 use Rattle.swi_dispatch_guest.specs.SwiDispatchFlexCalls.{flex_called, state_in}
-use Rattle.swi_dispatch_plans.specs.store.Areas.{area_called, area_changed, area_read, change_asked, with_extent}
-use Rattle.swi_dispatch_plans.specs.store.Heaps.{heap_called, heap_called_for}
+use Rattle.swi_dispatch_guest.specs.Areas.{area_called, area_changed, area_read, change_asked, with_extent}
+use Rattle.swi_dispatch_guest.specs.Heaps.{heap_called, heap_called_for}
 use Rattle.swi_dispatch_guest.specs.declared.halt.Halt.TheVariants as halt
 use Rattle.swi_dispatch_guest.specs.Answers.{Answer, refusal_answer, went_on}
 use Rattle.swi_dispatch_guest.specs.Calls.{call_answer, machine_flex, on_area_store, on_flex, on_store, printable_at, with_guest, wrote_text_after, wrote_text_at}

@@ -18,7 +18,7 @@ use Rattle.arm_core.specs.declared.turn.StepEnd.{StepEnd}
 use Rattle.arm_core.specs.declared.turn.StepEnd.TheVariants as turn
 use Rattle.dynamic_areas.specs.Areas.{extent_asked}
 use Rattle.dynamic_areas.specs.declared.area.Extent.{Extent}
-use Rattle.swi_dispatch_plans.specs.flex_frame.Ground.{with_flex_record}
+use Rattle.swi_dispatch_guest.specs.Ground.{with_flex_record}
 use Rattle.flex_store.specs.Calls.{FlexState, flex_after_alloc, flex_after_init, flex_after_extend, mid_extended, flex_after_release, flex_block_size}
 use Rattle.profile.specs.images.Entries.{Entry}
 use Rattle.instances_table.specs.Lookup.{handler_of}
@@ -31,12 +31,12 @@ use Rattle.law_machine.proofs.HeapCallsLemmas.Forgotten.{calls_forget, forgotten
 use Rattle.law_machine.specs.heap_calls.Laws.{IsNotForgotten, KeepsHeap, LiesInBlock}
 use Rattle.law_machine.specs.heap_calls.Turns.{call_on}
 use Rattle.law_machine.specs.heap_frame.Fits.{LiesInArea}
-use Rattle.swi_dispatch_answers.specs.Refusals.{or_error}
-use Rattle.swi_dispatch_answers.specs.declared.refusal.Refusal.{Refusal}
-use Rattle.swi_dispatch_answers.specs.declared.refusal.Refusal.TheVariants as refusal
+use Rattle.swi_dispatch_guest.specs.Refusals.{or_error}
+use Rattle.swi_dispatch_guest.specs.Refusal.{Refusal}
+use Rattle.swi_dispatch_guest.specs.Refusal.TheVariants as refusal
 use Rattle.swi_dispatch_guest.specs.SwiDispatchFlexCalls.{fit_shown, flex_called, memory_after_flex, state_in}
-use Rattle.swi_dispatch_plans.specs.store.Areas.{area_called, area_changed, area_read, with_extent}
-use Rattle.swi_dispatch_plans.specs.store.Heaps.{heap_called, heap_called_for}
+use Rattle.swi_dispatch_guest.specs.Areas.{area_called, area_changed, area_read, with_extent}
+use Rattle.swi_dispatch_guest.specs.Heaps.{heap_called, heap_called_for}
 use Rattle.swi_dispatch_guest.specs.declared.halt.Halt.TheVariants as halt
 use Rattle.swi_dispatch_guest.proofs.NextTurn.{unhalted_step, outside_call}
 use Rattle.swi_dispatch_guest.specs.Answers.{Answer, refusal_answer, went_on}

@@ -13,10 +13,10 @@ use Rattle.instances_table.specs.declared.plans.code.Outcome.{Outcome as CodeOut
 use Rattle.instances_table.specs.declared.plans.code.Outcome.TheVariants.{Refused, Well}
 use Rattle.instances_table.specs.declared.plans.given.Given.{Given}
 use Rattle.instances_table.specs.plans.Plans.{Plan, first_action, plan_after_code, settled_by}
-use Rattle.swi_dispatch_answers.specs.declared.frames.frame.Frame.{Frame}
-use Rattle.swi_dispatch_answers.specs.declared.frames.frame.FrameKind.{FrameKind}
-use Rattle.swi_dispatch_answers.specs.declared.frames.frame.FrameKind.TheVariants as frame_kind
-use Rattle.swi_dispatch_answers.specs.frames.Frames.{innermost_frame}
+use Rattle.swi_dispatch_guest.specs.SwiDispatchAnswersFrame.{Frame}
+use Rattle.swi_dispatch_guest.specs.FrameKind.{FrameKind}
+use Rattle.swi_dispatch_guest.specs.FrameKind.TheVariants as frame_kind
+use Rattle.swi_dispatch_guest.specs.Frames.{innermost_frame}
 use Rattle.swi_dispatch_guest.specs.declared.halt.Halt.TheVariants as halt
 use Rattle.swi_dispatch_guest.specs.Gates.{carried_on, come_back, entry_left, fault_ahead, frame_closed, frame_left, outcome_of_gate, gated_by, outcome_left, plan_left, unless_fault}
 use Rattle.swi_dispatch_guest.specs.MachineState.{MachineState, machine_module_state, silent}

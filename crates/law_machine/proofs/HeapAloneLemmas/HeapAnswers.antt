@@ -12,11 +12,11 @@ use Rattle.std.proofs.lemmas.List.{length-set}
 use Rattle.arm_core.specs.State.{State, register_of, slot_of, with_register}
 use Rattle.os_heap.specs.Calls.{store_after_init, block_sized, store_after_change, heap_description, gave_back, store_after_get, store_after_resize}
 use Rattle.os_heap.specs.Store.{Store}
-use Rattle.swi_dispatch_answers.specs.Refusals.{or_error}
-use Rattle.swi_dispatch_answers.specs.Returns.{return_word, state_after_return}
-use Rattle.swi_dispatch_answers.specs.declared.refusal.Refusal.{Refusal}
-use Rattle.swi_dispatch_answers.specs.declared.refusal.Refusal.TheVariants as refusal
-use Rattle.swi_dispatch_plans.specs.store.Heaps.{heap_called_for}
+use Rattle.swi_dispatch_guest.specs.Refusals.{or_error}
+use Rattle.swi_dispatch_guest.specs.SwiDispatchAnswersReturns.{return_word, state_after_return}
+use Rattle.swi_dispatch_guest.specs.Refusal.{Refusal}
+use Rattle.swi_dispatch_guest.specs.Refusal.TheVariants as refusal
+use Rattle.swi_dispatch_guest.specs.Heaps.{heap_called_for}
 use Rattle.law_machine.specs.heap_calls.Turns.{call_on}
 
 -- R2 and R3 are the same registers in all modes, and so are those of a call that goes back

@@ -13,9 +13,9 @@ use Rattle.dynamic_areas.proofs.SystemWrites.{system_clear}
 use Rattle.law_machine.proofs.HeapCallsLemmas.Likeness.{bytes_like}
 use Rattle.law_machine.specs.heap_calls.Alone.{Alone, alone_in}
 use Rattle.law_machine.specs.heap_calls.Laws.{IsLeftWhole, KeepsHeap}
-use Rattle.swi_dispatch_answers.specs.Errors.{memory_with_error}
-use Rattle.swi_dispatch_answers.specs.declared.refusal.Refusal.{Refusal}
-use Rattle.swi_dispatch_answers.specs.declared.refusal.Refusal.TheVariants as refusal
+use Rattle.swi_dispatch_guest.specs.SwiDispatchAnswersErrors.{memory_with_error}
+use Rattle.swi_dispatch_guest.specs.Refusal.{Refusal}
+use Rattle.swi_dispatch_guest.specs.Refusal.TheVariants as refusal
 use Rattle.swi_dispatch_guest.proofs.Kept.{outside_bytes, outside_word, short_name}
 use Rattle.swi_dispatch_guest.specs.Answers.{Answer}
 use Rattle.swi_dispatch_guest.specs.Errors.{with_error}

@@ -13,7 +13,7 @@ use Rattle.profile.specs.declared.reason.HeapReason.TheVariants as reason
 use Rattle.profile.specs.declared.swi.SwiName.{SwiName}
 use Rattle.profile.specs.declared.swi.SwiName.TheVariants as swi
 use Rattle.address_map.specs.Bytes.{Bytes, in_range}
-use Rattle.arm_step.proofs.Framing.{step_keeps}
+use Rattle.swi_dispatch_guest.proofs.Framing.{step_keeps}
 use Rattle.arm_core.specs.State.{State, register_of}
 use Rattle.arm_core.specs.declared.turn.StepEnd.{StepEnd}
 use Rattle.arm_core.specs.declared.turn.StepEnd.TheVariants as turn
@@ -33,8 +33,8 @@ use Rattle.law_machine.proofs.HeapCallsLemmas.KeptHeaps.{others_recorded}
 use Rattle.law_machine.specs.heap_calls.Laws.{IsNotForgotten, KeepsHeap, starts_inside}
 use Rattle.law_machine.specs.heap_calls.Lists.{is_call_to, is_on_heap}
 use Rattle.law_machine.specs.heap_calls.Turns.{call_on}
-use Rattle.swi_dispatch_answers.specs.declared.refusal.Refusal.{Refusal}
-use Rattle.swi_dispatch_plans.specs.store.Heaps.{heap_called, heap_called_for}
+use Rattle.swi_dispatch_guest.specs.Refusal.{Refusal}
+use Rattle.swi_dispatch_guest.specs.Heaps.{heap_called, heap_called_for}
 use Rattle.swi_dispatch_guest.proofs.Kept.{by_words}
 use Rattle.swi_dispatch_guest.proofs.NextTurn.{unhalted_step, outside_call}
 use Rattle.swi_dispatch_guest.specs.declared.halt.Halt.TheVariants as halt

@@ -21,17 +21,17 @@ use Rattle.instances_table.specs.plans.Plans.{Plan}
 use Rattle.instances_table.specs.Changes.{preferring, modules_after_rename}
 use Rattle.instances_table.specs.Modules.{Module}
 use Rattle.instances_table.specs.declared.parts.Handler.{Handler}
-use Rattle.swi_dispatch_answers.specs.Refusals.{or_error}
-use Rattle.swi_dispatch_answers.specs.Strings.{string_in}
-use Rattle.swi_dispatch_answers.specs.Words.{host_string}
-use Rattle.swi_dispatch_answers.specs.declared.refusal.Refusal.{Refusal}
-use Rattle.swi_dispatch_answers.specs.declared.refusal.Refusal.TheVariants as refusal
-use Rattle.swi_dispatch_plans.specs.modules.Calls.{result_of_module_call as area_called, module_called_for as area_called_for}
-use Rattle.swi_dispatch_plans.specs.modules.Naming.{instance_found, instance_preferred, instance_renamed, place_asked, with_shown}
-use Rattle.swi_dispatch_plans.specs.Openings.{opening_asked}
-use Rattle.swi_dispatch_plans.specs.declared.openings.Opening.{Opening}
-use Rattle.swi_dispatch_plans.specs.ImagePlans.{instantiation_planned}
-use Rattle.swi_dispatch_plans.specs.ModulePlans.{clear_planned, delete_planned, reinit_planned, tidy_planned}
+use Rattle.swi_dispatch_guest.specs.Refusals.{or_error}
+use Rattle.swi_dispatch_guest.specs.Strings.{string_in}
+use Rattle.swi_dispatch_guest.specs.SwiDispatchAnswersWords.{host_string}
+use Rattle.swi_dispatch_guest.specs.Refusal.{Refusal}
+use Rattle.swi_dispatch_guest.specs.Refusal.TheVariants as refusal
+use Rattle.swi_dispatch_guest.specs.SwiDispatchPlansCalls.{result_of_module_call as area_called, module_called_for as area_called_for}
+use Rattle.swi_dispatch_guest.specs.Naming.{instance_found, instance_preferred, instance_renamed, place_asked, with_shown}
+use Rattle.swi_dispatch_guest.specs.Openings.{opening_asked}
+use Rattle.swi_dispatch_guest.specs.Opening.{Opening}
+use Rattle.swi_dispatch_guest.specs.ImagePlans.{instantiation_planned}
+use Rattle.swi_dispatch_guest.specs.ModulePlans.{clear_planned, delete_planned, reinit_planned, tidy_planned}
 use Rattle.swi_dispatch_guest.specs.Additions.{Planned, copy_planned, insertion_planned, load_planned, named_load_planned, plan_alone}
 use Rattle.swi_dispatch_guest.specs.Answers.{refusal_answer, went_on}
 use Rattle.swi_dispatch_guest.specs.Calls.{call_answer, on_module_state}

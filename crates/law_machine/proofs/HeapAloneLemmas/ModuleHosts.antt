@@ -18,8 +18,8 @@ use Rattle.instances_table.specs.plans.Carrying.{Carried, carry_of_plan, carried
 use Rattle.instances_table.specs.plans.Plans.{Plan, actions_owed}
 use Rattle.instances.specs.tidying.Slid.{module_state_slid}
 use Rattle.instances_table.specs.Modules.{AreModules}
-use Rattle.swi_dispatch_answers.specs.declared.frames.call.Call.{Call}
-use Rattle.swi_dispatch_plans.specs.Trials.{module_state_carried}
+use Rattle.swi_dispatch_guest.specs.Call.{Call}
+use Rattle.swi_dispatch_guest.specs.Trials.{module_state_carried}
 use Rattle.swi_dispatch_guest.specs.Gates.{call_ended_by, carried_on, ended_of, entered_if, entered_with, state_after_plan, state_with_code_entered}
 use Rattle.swi_dispatch_guest.specs.MachineState.{MachineState, machine_area_store, machine_module_state}
 use Rattle.swi_dispatch_guest.specs.ModuleStart.{opened_at}

@@ -6,7 +6,7 @@ use Rattle.profile.specs.declared.error.ErrorNumber.TheVariants.{BadString}
 use Rattle.os_heap_words.specs.lists.Heap.{HeapList}
 use Rattle.os_heap.specs.Store.{Store, find_heap}
 use Rattle.law_machine.specs.heap_calls.Laws.{KeepsHeap}
-use Rattle.swi_dispatch_answers.specs.Words.{host_string}
+use Rattle.swi_dispatch_guest.specs.SwiDispatchAnswersWords.{host_string}
 use Rattle.swi_dispatch_guest.specs.declared.halt.Halt.{Halt}
 use Rattle.swi_dispatch_guest.specs.Additions.{load_planned}
 use Rattle.swi_dispatch_guest.specs.MachineState.{MachineState, StepOutcome}

@@ -20,9 +20,9 @@ use Rattle.law_machine.specs.heap_calls.Alone.{Alone, HeapCall, alone_in, call_g
 use Rattle.law_machine.specs.heap_calls.Laws.{HasHeapStill, HeapHasNoAnchor, HoldsNoHeap, IsGuestHeap, KeepsHeap}
 use Rattle.law_machine.specs.heap_calls.Lists.{is_on_heap}
 use Rattle.law_machine.specs.heap_calls.Turns.{Answered, Refused, HeapTurn, alone_or, call_on, heap_turn_of_result, turn_of_call}
-use Rattle.swi_dispatch_answers.specs.declared.refusal.Refusal.{Refusal}
-use Rattle.swi_dispatch_answers.specs.declared.refusal.Refusal.TheVariants as refusal
-use Rattle.swi_dispatch_plans.specs.store.Heaps.{heap_called, heap_called_for}
+use Rattle.swi_dispatch_guest.specs.Refusal.{Refusal}
+use Rattle.swi_dispatch_guest.specs.Refusal.TheVariants as refusal
+use Rattle.swi_dispatch_guest.specs.Heaps.{heap_called, heap_called_for}
 use Rattle.swi_dispatch_guest.proofs.ErrorNumbers.{block_read}
 use Rattle.swi_dispatch_guest.specs.declared.halt.Halt.TheVariants as halt
 use Rattle.swi_dispatch_guest.specs.Answers.{went_on}

@@ -23,14 +23,14 @@ use Rattle.instances_table.specs.plans.Plans.{Plan}
 use Rattle.instances_table.specs.declared.parts.Image.{Image}
 use Rattle.instances_table.specs.Changes.{free_slot_for, modules_of_title, titled_otherwise}
 use Rattle.instances_table.specs.Modules.{Module, slots_of}
-use Rattle.swi_dispatch_answers.specs.Strings.{ends, string_at, text_at}
-use Rattle.swi_dispatch_answers.specs.Words.{name_part, text_part}
-use Rattle.swi_dispatch_answers.specs.declared.strings.TextEnd.TheVariants as end
-use Rattle.swi_dispatch_plans.specs.ImagePlans.{copy_asked, insertion_asked, instantiation_planned, load_asked, well_named}
-use Rattle.swi_dispatch_plans.specs.ModulePlans.{clear_planned, delete_planned, may_begin_alone, may_finalise, reinit_planned, tidy_planned}
-use Rattle.swi_dispatch_plans.specs.Openings.{opening_asked}
-use Rattle.swi_dispatch_plans.specs.PlannerInput.{PlannerInput, string_asked}
-use Rattle.swi_dispatch_plans.specs.declared.openings.Opening.{Opening}
+use Rattle.swi_dispatch_guest.specs.Strings.{ends, string_at, text_at}
+use Rattle.swi_dispatch_guest.specs.SwiDispatchAnswersWords.{name_part, text_part}
+use Rattle.swi_dispatch_guest.specs.TextEnd.TheVariants as end
+use Rattle.swi_dispatch_guest.specs.ImagePlans.{copy_asked, insertion_asked, instantiation_planned, load_asked, well_named}
+use Rattle.swi_dispatch_guest.specs.ModulePlans.{clear_planned, delete_planned, may_begin_alone, may_finalise, reinit_planned, tidy_planned}
+use Rattle.swi_dispatch_guest.specs.Openings.{opening_asked}
+use Rattle.swi_dispatch_guest.specs.PlannerInput.{PlannerInput, string_asked}
+use Rattle.swi_dispatch_guest.specs.Opening.{Opening}
 use Rattle.swi_dispatch_guest.specs.Additions.{Planned, copy_planned, insertion_planned, load_planned, named_load_planned, plan_alone, planned_of}
 use Rattle.swi_dispatch_guest.specs.MachineState.{MachineState, machine_module_state, setting_of}
 use Rattle.law_machine.proofs.HeapFrameLemmas.ModuleArea.{fit_same, module_area_calls_fit}

@@ -23,7 +23,7 @@ use Rattle.dynamic_areas.specs.declared.area.Created.{Created}
 use Rattle.dynamic_areas.specs.declared.area.Wanted.{Wanted}
 use Rattle.flex_store.specs.Calls.{FlexState, flex_after_alloc, flex_after_init, flex_after_extend, mid_extended, flex_after_release}
 use Rattle.flex_store.specs.Runs.{Alloc, Extend, MidExtend, Release}
-use Rattle.swi_dispatch_plans.specs.flex_frame.Ground.{flex_state, with_flex_record}
+use Rattle.swi_dispatch_guest.specs.Ground.{flex_state, with_flex_record}
 use Rattle.law_machine.specs.heap_calls.Laws.{HeapHasNoAnchor, KeepsHeap}
 use Rattle.law_machine.proofs.HeapFrameLemmas.Areas.{area_calls_keep, heap_same}
 use Rattle.law_machine.proofs.HeapFrameLemmas.Turns.{turns_keep}
@@ -32,11 +32,11 @@ use Rattle.law_machine.specs.heap_frame.GuestLaws.{HasGuestHeap}
 use Rattle.law_machine.specs.heap_frame.TurnLaws.{TurnsOutside}
 use Rattle.law_machine.specs.sliding_stores.Meaning.{Stores, store_in}
 use Rattle.law_machine.specs.sliding_stores.Turning.{Call, Init, FlexOrSlide, stores_after_flex, stores_after_step}
-use Rattle.swi_dispatch_answers.specs.Refusals.{or_error, system_error}
-use Rattle.swi_dispatch_answers.specs.Strings.{string_at}
-use Rattle.swi_dispatch_answers.specs.declared.refusal.Refusal.{Refusal}
+use Rattle.swi_dispatch_guest.specs.Refusals.{or_error, system_error}
+use Rattle.swi_dispatch_guest.specs.Strings.{string_at}
+use Rattle.swi_dispatch_guest.specs.Refusal.{Refusal}
 use Rattle.swi_dispatch_guest.specs.SwiDispatchFlexCalls.{fit_shown, flex_called, memory_after_flex as memory_left}
-use Rattle.swi_dispatch_plans.specs.store.Areas.{area_called_for, area_changed, area_made, area_named, area_resized, change_asked, change_left, wanted_of, with_area_table}
+use Rattle.swi_dispatch_guest.specs.Areas.{area_called_for, area_changed, area_made, area_named, area_resized, change_asked, change_left, wanted_of, with_area_table}
 use Rattle.swi_dispatch_guest.specs.Calls.{machine_flex, on_area_store, on_flex, with_guest}
 use Rattle.swi_dispatch_guest.specs.MachineState.{MachineState, machine_area_store}
 use Rattle.law_machine.proofs.HeapAloneLemmas.Keeping.{Went}

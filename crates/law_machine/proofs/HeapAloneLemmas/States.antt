@@ -10,7 +10,7 @@ use Rattle.dynamic_areas.specs.Ground.{IsAreaStore, IsRecorded, system_pages_ran
 use Rattle.instances_table.specs.plans.Plans.{Plan}
 use Rattle.instances_table.specs.Modules.{AreModules}
 use Rattle.instances_table.specs.declared.parts.Image.{Image}
-use Rattle.swi_dispatch_plans.specs.flex_frame.Ground.{HasFlex}
+use Rattle.swi_dispatch_guest.specs.Ground.{HasFlex}
 use Rattle.instances.specs.module_state.Sound.{AreSolid}
 use Rattle.instances.specs.module_state.ModuleState.{ModuleState}
 use Rattle.law_machine.proofs.SlidingStoresLemmas.Turns.{machines_have}

@@ -15,13 +15,13 @@ use Rattle.arm_decode.specs.declared.action.Transfer.{Transfer}
 use Rattle.arm_decode.specs.declared.condition.Condition.{Condition}
 use Rattle.arm_core.specs.declared.turn.StepEnd.{StepEnd}
 use Rattle.arm_core.specs.Listed.{registers_of_list}
-use Rattle.arm_step.specs.Blocks.{block_base, block_loaded, transferred_count, block_start, block_stored, result_of_block_transfer, block_value, block_values, with_block_base}
+use Rattle.swi_dispatch_guest.specs.ArmStepBlocks.{block_base, block_loaded, transferred_count, block_start, block_stored, result_of_block_transfer, block_value, block_values, with_block_base}
 use Rattle.arm_core.specs.Conditions.{condition_holds}
 use Rattle.arm_core.specs.Effect.{with_next_pc}
 use Rattle.arm_core.specs.State.{State}
-use Rattle.arm_step.specs.Step.{result_of_action, acted_if_decoded, executed_if_fetched, or_fault, result_of_step}
-use Rattle.arm_step.specs.Transfers.{moved_base, transfer_address, result_of_transfer, value_stored, with_base}
-use Rattle.arm_step.specs.Words.{with_words, words_store_fault}
+use Rattle.swi_dispatch_guest.specs.ArmStepStep.{result_of_action, acted_if_decoded, executed_if_fetched, or_fault, result_of_step}
+use Rattle.swi_dispatch_guest.specs.Transfers.{moved_base, transfer_address, result_of_transfer, value_stored, with_base}
+use Rattle.swi_dispatch_guest.specs.Words.{with_words, words_store_fault}
 use Rattle.law_machine.specs.heap_alone.Storing.{StepsLeaveBytes, is_stored, is_stored_at, stores_by, stores_if_decoded, stores_if_fetched}
 
 abbrev LeavesByte : (F : Type 0) → Bytes → ℕ → Result (State × Bytes) F → Type 0

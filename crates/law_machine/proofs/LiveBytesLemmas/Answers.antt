@@ -18,11 +18,11 @@ use Rattle.dynamic_areas.specs.declared.area.Extent.{Extent}
 use Rattle.flex_store.specs.Calls.{flex_block_size}
 use Rattle.instances_table.specs.Lookup.{handler_of}
 use Rattle.instances_table.specs.declared.parts.Handler.{Handler}
-use Rattle.swi_dispatch_answers.specs.Refusals.{or_error}
-use Rattle.swi_dispatch_answers.specs.declared.refusal.Refusal.{Refusal}
-use Rattle.swi_dispatch_answers.specs.declared.refusal.Refusal.TheVariants as refusal
-use Rattle.swi_dispatch_plans.specs.flex.Calls.{flex_called, state_in}
-use Rattle.swi_dispatch_plans.specs.store.Areas.{area_called, area_read, with_extent}
+use Rattle.swi_dispatch_guest.specs.Refusals.{or_error}
+use Rattle.swi_dispatch_guest.specs.Refusal.{Refusal}
+use Rattle.swi_dispatch_guest.specs.Refusal.TheVariants as refusal
+use Rattle.swi_dispatch_guest.specs.SwiDispatchFlexCalls.{flex_called, state_in}
+use Rattle.swi_dispatch_guest.specs.Areas.{area_called, area_read, with_extent}
 use Rattle.swi_dispatch_guest.specs.declared.halt.Halt.TheVariants as halt
 use Rattle.swi_dispatch_guest.specs.Answers.{Answer, refusal_answer, went_on}
 use Rattle.swi_dispatch_guest.specs.Calls.{call_answer, machine_flex, on_area_store, on_flex, printable_at, wrote_text_after, wrote_text_at}

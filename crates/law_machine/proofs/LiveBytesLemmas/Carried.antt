@@ -12,8 +12,8 @@ use Rattle.instances_table.specs.declared.plans.action.PlanAction.{PlanAction}
 use Rattle.instances_table.specs.declared.plans.action.PlanAction.TheVariants as act
 use Rattle.instances_table.specs.declared.plans.code.Code.{Code}
 use Rattle.instances_table.specs.declared.plans.given.Given.{Given}
-use Rattle.swi_dispatch_answers.specs.declared.frames.call.Call.{Call}
-use Rattle.swi_dispatch_plans.specs.Trials.{module_state_carried}
+use Rattle.swi_dispatch_guest.specs.Call.{Call}
+use Rattle.swi_dispatch_guest.specs.Trials.{module_state_carried}
 use Rattle.swi_dispatch_guest.specs.Gates.{call_ended_by, carried_on, come_back, ended_of, entered_if, entered_with, state_after_plan, outcome_of_gate, state_with_code_entered, outcome_left}
 use Rattle.swi_dispatch_guest.specs.MachineState.{MachineState, machine_area_store, machine_module_state}
 use Rattle.swi_dispatch_guest.specs.ModuleStart.{opened_at}

@@ -5,7 +5,7 @@ use Rattle.profile.specs.Outcome.{bind}
 use Rattle.profile.specs.declared.error.ErrorNumber.{ErrorNumber}
 use Rattle.address_map.specs.Bytes.{Bytes}
 use Rattle.os_heap.specs.Store.{Store, is_in_flex_store}
-use Rattle.swi_dispatch_plans.specs.flex_frame.Ground.{flex_state, spelled_store, store_flexed, with_flex_record}
+use Rattle.swi_dispatch_guest.specs.Ground.{flex_state, spelled_store, store_flexed, with_flex_record}
 use Rattle.flex_store.specs.Blocks.{FlexStore}
 use Rattle.flex_store.specs.Calls.{FlexState, flex_after_init, flex_after_init_over, is_flex_range}
 use Rattle.flex_store.specs.Runs.{FlexCall}

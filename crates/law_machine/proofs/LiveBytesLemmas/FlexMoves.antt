@@ -32,13 +32,13 @@ use Rattle.law_machine.specs.heap_frame.FitAreaStores.{IsFitAreaStore}
 use Rattle.law_machine.specs.heap_frame.Fits.{KeepsOutside, is_module_byte}
 use Rattle.law_machine.specs.heap_frame.PlanLaws.{IsFitModuleState}
 use Rattle.instances_table.specs.plans.Plans.{Plan, plan_after_code}
-use Rattle.swi_dispatch_answers.specs.declared.refusal.Refusal.{Refusal}
-use Rattle.swi_dispatch_answers.specs.declared.refusal.Refusal.TheVariants as refusal
-use Rattle.swi_dispatch_plans.specs.store.Heaps.{heap_called, heap_called_for}
+use Rattle.swi_dispatch_guest.specs.Refusal.{Refusal}
+use Rattle.swi_dispatch_guest.specs.Refusal.TheVariants as refusal
+use Rattle.swi_dispatch_guest.specs.Heaps.{heap_called, heap_called_for}
 use Rattle.swi_dispatch_guest.proofs.NextTurn.{unhalted_step, outside_call}
 use Rattle.swi_dispatch_guest.specs.declared.halt.Halt.{Halt}
 use Rattle.swi_dispatch_guest.specs.declared.halt.Halt.TheVariants as halt
-use Rattle.swi_dispatch_answers.specs.Words.{host_string}
+use Rattle.swi_dispatch_guest.specs.SwiDispatchAnswersWords.{host_string}
 use Rattle.swi_dispatch_guest.specs.Additions.{Planned, load_planned}
 use Rattle.swi_dispatch_guest.specs.Answers.{went_on}
 use Rattle.swi_dispatch_guest.specs.Calls.{call_answer, on_store}

@@ -18,11 +18,11 @@ use Rattle.flex_store.specs.Memory.{block_at, blocks_from, blocks_in}
 use Rattle.flex_store.specs.declared.blocks.FlexBlock.{FlexBlock}
 use Rattle.flex_store.specs.declared.flex.Extent.{Extent}
 use Rattle.flex_store.specs.declared.flex.Flex.{Flex}
-use Rattle.swi_dispatch_plans.proofs.FlexFrameLemmas.Kept.{whole_word}
-use Rattle.swi_dispatch_plans.specs.flex_frame.Ground.{spelled_store}
+use Rattle.swi_dispatch_guest.proofs.SwiDispatchPlansKept.{whole_word}
+use Rattle.swi_dispatch_guest.specs.Ground.{spelled_store}
 use Rattle.law_machine.specs.heap_frame.Fits.{is_module_byte}
 use Rattle.law_machine.specs.sliding_stores.FlexStore.{HasFlexStore, IsFlexRangeSpelled, IsSpelledAt, spelled_blocks}
-use Rattle.swi_dispatch_answers.specs.Words.{host_string}
+use Rattle.swi_dispatch_guest.specs.SwiDispatchAnswersWords.{host_string}
 use Rattle.swi_dispatch_guest.specs.declared.halt.Halt.{Halt}
 use Rattle.swi_dispatch_guest.specs.Additions.{load_planned}
 use Rattle.swi_dispatch_guest.specs.MachineState.{MachineState, StepOutcome, machine_area_store}

@@ -12,12 +12,12 @@ use Rattle.arm_core.specs.State.{register_of}
 use Rattle.os_heap.specs.Store.{Store, is_in_flex_store}
 use Rattle.flex_store.specs.Calls.{FlexState, flex_after_alloc, flex_after_init, flex_after_extend, mid_extended, flex_after_release}
 use Rattle.flex_store.specs.Runs.{Alloc, Extend, FlexCall, MidExtend, Release}
-use Rattle.swi_dispatch_plans.specs.flex_frame.Ground.{flex_state, with_flex_record}
+use Rattle.swi_dispatch_guest.specs.Ground.{flex_state, with_flex_record}
 use Rattle.law_machine.specs.sliding_stores.Meaning.{Stores, store_in}
 use Rattle.law_machine.specs.sliding_stores.Turning.{Call, Init, stores_after_flex, stores_after_step}
-use Rattle.swi_dispatch_answers.specs.Refusals.{or_error}
-use Rattle.swi_dispatch_answers.specs.declared.refusal.Refusal.{Refusal}
-use Rattle.swi_dispatch_plans.specs.flex.Calls.{fit_shown, flex_called, memory_after_flex as memory_left}
+use Rattle.swi_dispatch_guest.specs.Refusals.{or_error}
+use Rattle.swi_dispatch_guest.specs.Refusal.{Refusal}
+use Rattle.swi_dispatch_guest.specs.SwiDispatchFlexCalls.{fit_shown, flex_called, memory_after_flex as memory_left}
 use Rattle.swi_dispatch_guest.specs.Answers.{went_on}
 use Rattle.swi_dispatch_guest.specs.Calls.{call_answer, machine_flex, on_flex}
 use Rattle.swi_dispatch_guest.specs.MachineState.{MachineState}

@@ -30,24 +30,24 @@ use Rattle.instances_table.specs.declared.plans.code.Code.{Code}
 use Rattle.instances_table.specs.declared.plans.given.Given.{Given}
 use Rattle.instances_table.specs.Lookup.{handler_of}
 use Rattle.instances_table.specs.declared.parts.Handler.{Handler}
-use Rattle.swi_dispatch_answers.specs.Refusals.{or_error}
-use Rattle.swi_dispatch_answers.specs.Words.{host_string}
-use Rattle.swi_dispatch_answers.specs.declared.refusal.Refusal.{Refusal}
-use Rattle.swi_dispatch_answers.specs.declared.refusal.Refusal.TheVariants as refusal
-use Rattle.swi_dispatch_plans.specs.flex.Calls.{flex_called, state_in}
-use Rattle.swi_dispatch_answers.specs.declared.frames.call.Call.{Call}
-use Rattle.swi_dispatch_answers.specs.declared.frames.frame.Frame.{Frame}
-use Rattle.swi_dispatch_answers.specs.declared.frames.frame.FrameKind.{FrameKind}
-use Rattle.swi_dispatch_answers.specs.declared.frames.frame.FrameKind.TheVariants as frame_kind
-use Rattle.swi_dispatch_answers.specs.frames.Frames.{innermost_frame}
-use Rattle.swi_dispatch_plans.specs.modules.Calls.{result_of_module_call as area_called}
-use Rattle.swi_dispatch_plans.specs.Openings.{opening_asked}
-use Rattle.swi_dispatch_plans.specs.Trials.{module_state_carried}
-use Rattle.swi_dispatch_plans.specs.declared.openings.Opening.{Opening}
+use Rattle.swi_dispatch_guest.specs.Refusals.{or_error}
+use Rattle.swi_dispatch_guest.specs.SwiDispatchAnswersWords.{host_string}
+use Rattle.swi_dispatch_guest.specs.Refusal.{Refusal}
+use Rattle.swi_dispatch_guest.specs.Refusal.TheVariants as refusal
+use Rattle.swi_dispatch_guest.specs.SwiDispatchFlexCalls.{flex_called, state_in}
+use Rattle.swi_dispatch_guest.specs.Call.{Call}
+use Rattle.swi_dispatch_guest.specs.SwiDispatchAnswersFrame.{Frame}
+use Rattle.swi_dispatch_guest.specs.FrameKind.{FrameKind}
+use Rattle.swi_dispatch_guest.specs.FrameKind.TheVariants as frame_kind
+use Rattle.swi_dispatch_guest.specs.Frames.{innermost_frame}
+use Rattle.swi_dispatch_guest.specs.SwiDispatchPlansCalls.{result_of_module_call as area_called}
+use Rattle.swi_dispatch_guest.specs.Openings.{opening_asked}
+use Rattle.swi_dispatch_guest.specs.Trials.{module_state_carried}
+use Rattle.swi_dispatch_guest.specs.Opening.{Opening}
 use Rattle.instances.specs.declared.answers.Start.{Start}
 use Rattle.instances.specs.Reading.{start_found}
-use Rattle.swi_dispatch_plans.specs.store.Areas.{area_called as area_work, area_read}
-use Rattle.swi_dispatch_plans.specs.store.Heaps.{heap_called}
+use Rattle.swi_dispatch_guest.specs.Areas.{area_called as area_work, area_read}
+use Rattle.swi_dispatch_guest.specs.Heaps.{heap_called}
 use Rattle.swi_dispatch_guest.specs.declared.halt.Halt.{Halt}
 use Rattle.swi_dispatch_guest.specs.declared.halt.Halt.TheVariants as halt
 use Rattle.swi_dispatch_guest.specs.Additions.{Planned, load_planned}

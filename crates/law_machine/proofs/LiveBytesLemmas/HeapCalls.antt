@@ -14,9 +14,9 @@ use Rattle.arm_core.specs.State.{State, register_of}
 use Rattle.profile.specs.images.Entries.{Entry}
 use Rattle.os_heap.specs.Store.{IsSound, Store}
 use Rattle.law_machine.specs.heap_calls.Turns.{call_on}
-use Rattle.swi_dispatch_answers.specs.declared.refusal.Refusal.{Refusal}
-use Rattle.swi_dispatch_answers.specs.declared.refusal.Refusal.TheVariants as refusal
-use Rattle.swi_dispatch_plans.specs.store.Heaps.{heap_called, heap_called_for}
+use Rattle.swi_dispatch_guest.specs.Refusal.{Refusal}
+use Rattle.swi_dispatch_guest.specs.Refusal.TheVariants as refusal
+use Rattle.swi_dispatch_guest.specs.Heaps.{heap_called, heap_called_for}
 use Rattle.swi_dispatch_guest.specs.declared.halt.Halt.TheVariants as halt
 use Rattle.swi_dispatch_guest.specs.Answers.{went_on}
 use Rattle.swi_dispatch_guest.specs.Calls.{call_answer, on_store}

@@ -10,7 +10,7 @@ use Rattle.profile.specs.declared.fault.Fault.{Fault}
 use Rattle.address_map.specs.Items.{is_heap_word}
 use Rattle.address_map.specs.Bytes.{Bytes, in_range, word_start, word_stored}
 use Rattle.os_heap.specs.Store.{Store, is_flex_word, owned_in}
-use Rattle.swi_dispatch_answers.specs.Words.{host_string}
+use Rattle.swi_dispatch_guest.specs.SwiDispatchAnswersWords.{host_string}
 use Rattle.swi_dispatch_guest.specs.declared.halt.Halt.{Halt}
 use Rattle.swi_dispatch_guest.specs.Additions.{load_planned}
 use Rattle.swi_dispatch_guest.specs.MachineState.{MachineState, StepOutcome, with_memory}
@@ -24,7 +24,7 @@ use Rattle.law_machine.proofs.LiveBytesLemmas.Heaps.{KeepsBlocks, all_kept, has_
 use Rattle.law_machine.proofs.LiveBytesLemmas.ModuleRows.{loaded_both}
 use Rattle.law_machine.proofs.LiveBytesLemmas.Rows.{all_same}
 use Rattle.law_machine.specs.live_bytes.Changes.{LoadsKeepLiveBytes, PokesChangeOneWord}
-use Rattle.swi_dispatch_plans.proofs.FlexFrameLemmas.Kept.{whole_word}
+use Rattle.swi_dispatch_guest.proofs.SwiDispatchPlansKept.{whole_word}
 
 unhalted : (s : MachineState) (o : Option Halt) (a : StepOutcome) → KeepsBlocks s.store a.now.store → KeepsBlocks s.store (unless_halted s o a).now.store
 unhalted s None a kept = kept

@@ -24,10 +24,10 @@ use Rattle.instances_table.specs.Changes.{instance_room, modules_of_title}
 use Rattle.instances_table.specs.Lookup.{looked_up, module_at, slot_at}
 use Rattle.instances_table.specs.Modules.{Module, slots_of}
 use Rattle.instances_table.specs.declared.parts.Image.{Image}
-use Rattle.swi_dispatch_answers.specs.Words.{name_part, text_part}
-use Rattle.swi_dispatch_plans.specs.ImagePlans.{copy_asked, insertion_asked, instantiation_planned, load_asked, well_named}
-use Rattle.swi_dispatch_plans.specs.ModulePlans.{clear_planned, delete_planned, may_begin_alone, may_finalise, reinit_planned}
-use Rattle.swi_dispatch_plans.specs.PlannerInput.{PlannerInput, string_asked}
+use Rattle.swi_dispatch_guest.specs.SwiDispatchAnswersWords.{name_part, text_part}
+use Rattle.swi_dispatch_guest.specs.ImagePlans.{copy_asked, insertion_asked, instantiation_planned, load_asked, well_named}
+use Rattle.swi_dispatch_guest.specs.ModulePlans.{clear_planned, delete_planned, may_begin_alone, may_finalise, reinit_planned}
+use Rattle.swi_dispatch_guest.specs.PlannerInput.{PlannerInput, string_asked}
 use Rattle.swi_dispatch_guest.specs.Additions.{Planned, copy_planned, insertion_planned, load_planned, named_load_planned, plan_alone, planned_of}
 use Rattle.swi_dispatch_guest.specs.MachineState.{MachineState, machine_module_state, setting_of}
 use Rattle.law_machine.proofs.HeapFrameLemmas.BlockCalls.{block_calls_keep}

@@ -11,8 +11,8 @@ use Rattle.os_heap.specs.Store.{Store}
 use Rattle.dynamic_areas.specs.Ground.{AreaStore}
 use Rattle.law_machine.proofs.HeapFrameLemmas.Areas.{area_calls_keep}
 use Rattle.law_machine.specs.heap_frame.AreaLaws.{AreaCallKeepsHeap}
-use Rattle.swi_dispatch_answers.specs.declared.refusal.Refusal.{Refusal}
-use Rattle.swi_dispatch_answers.specs.declared.refusal.Refusal.TheVariants as refusal
+use Rattle.swi_dispatch_guest.specs.Refusal.{Refusal}
+use Rattle.swi_dispatch_guest.specs.Refusal.TheVariants as refusal
 use Rattle.swi_dispatch_guest.proofs.Kept.{outside_bytes, outside_word, short_name}
 use Rattle.swi_dispatch_guest.specs.Errors.{with_error}
 use Rattle.swi_dispatch_guest.specs.MachineState.{MachineState, machine_area_store}

@@ -11,10 +11,10 @@ use Rattle.instances_table.specs.plans.Carrying.{Carried}
 use Rattle.instances_table.specs.plans.Plans.{Plan}
 use Rattle.instances_table.specs.declared.plans.code.Code.{Code}
 use Rattle.instances_table.specs.declared.plans.given.Given.{Given}
-use Rattle.swi_dispatch_answers.specs.declared.frames.call.Call.{Call}
-use Rattle.swi_dispatch_answers.specs.declared.refusal.Refusal.{Refusal}
-use Rattle.swi_dispatch_answers.specs.declared.refusal.Refusal.TheVariants as refusal
-use Rattle.swi_dispatch_plans.specs.Trials.{module_state_carried}
+use Rattle.swi_dispatch_guest.specs.Call.{Call}
+use Rattle.swi_dispatch_guest.specs.Refusal.{Refusal}
+use Rattle.swi_dispatch_guest.specs.Refusal.TheVariants as refusal
+use Rattle.swi_dispatch_guest.specs.Trials.{module_state_carried}
 use Rattle.swi_dispatch_guest.specs.Errors.{with_error}
 use Rattle.swi_dispatch_guest.specs.Gates.{call_ended_by, carried_on, ended_of, entered_if, entered_with, state_after_plan, state_with_code_entered}
 use Rattle.swi_dispatch_guest.specs.MachineState.{MachineState, machine_area_store, machine_module_state}

@@ -17,8 +17,8 @@ use Rattle.instances.proofs.GoingOn.{bound as bound_any}
 use Rattle.instances.specs.Adding.{copying, good_header, inserting, loading, slot_for}
 use Rattle.instances.specs.module_state.ModuleState.{ModuleState}
 use Rattle.instances_table.specs.plans.Plans.{Plan}
-use Rattle.swi_dispatch_plans.specs.ImagePlans.{copy_asked, insertion_asked, load_asked}
-use Rattle.swi_dispatch_plans.specs.PlannerInput.{string_asked}
+use Rattle.swi_dispatch_guest.specs.ImagePlans.{copy_asked, insertion_asked, load_asked}
+use Rattle.swi_dispatch_guest.specs.PlannerInput.{string_asked}
 use Rattle.swi_dispatch_guest.specs.Additions.{Planned, copy_planned, insertion_planned, load_planned, named_load_planned, plan_alone, planned_of}
 use Rattle.swi_dispatch_guest.specs.MachineState.{MachineState, machine_module_state, setting_of}
 use Rattle.law_machine.specs.heap_calls.Laws.{IsNotForgotten}

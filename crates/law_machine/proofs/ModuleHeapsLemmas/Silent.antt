@@ -30,14 +30,14 @@ use Rattle.instances_table.specs.plans.Carrying.{carry_of_plan, carried_by, carr
 use Rattle.instances_table.specs.plans.Plans.{Plan, actions_owed, plan_after_code}
 use Rattle.instances_table.specs.Changes.{preferring, modules_after_rename}
 use Rattle.instances_table.specs.Modules.{Module, slots_of}
-use Rattle.swi_dispatch_answers.specs.Refusals.{or_error}
-use Rattle.swi_dispatch_answers.specs.Strings.{string_in}
-use Rattle.swi_dispatch_answers.specs.declared.frames.call.Call.{Call}
-use Rattle.swi_dispatch_answers.specs.declared.refusal.Refusal.{Refusal}
-use Rattle.swi_dispatch_plans.specs.modules.Calls.{result_of_module_call as area_called, module_called_for as area_called_for}
-use Rattle.swi_dispatch_plans.specs.modules.Naming.{place_asked, with_shown}
-use Rattle.swi_dispatch_plans.specs.ModulePlans.{may_begin_alone, tidy_planned}
-use Rattle.swi_dispatch_plans.specs.PlannerInput.{PlannerInput}
+use Rattle.swi_dispatch_guest.specs.Refusals.{or_error}
+use Rattle.swi_dispatch_guest.specs.Strings.{string_in}
+use Rattle.swi_dispatch_guest.specs.Call.{Call}
+use Rattle.swi_dispatch_guest.specs.Refusal.{Refusal}
+use Rattle.swi_dispatch_guest.specs.SwiDispatchPlansCalls.{result_of_module_call as area_called, module_called_for as area_called_for}
+use Rattle.swi_dispatch_guest.specs.Naming.{place_asked, with_shown}
+use Rattle.swi_dispatch_guest.specs.ModulePlans.{may_begin_alone, tidy_planned}
+use Rattle.swi_dispatch_guest.specs.PlannerInput.{PlannerInput}
 use Rattle.swi_dispatch_guest.specs.Additions.{Planned, plan_alone}
 use Rattle.swi_dispatch_guest.specs.Errors.{with_error}
 use Rattle.swi_dispatch_guest.specs.Gates.{carried_on, come_back, outcome_left, outcome_of_gate}

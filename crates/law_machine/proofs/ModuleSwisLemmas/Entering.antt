@@ -14,9 +14,9 @@ use Rattle.instances_table.specs.plans.Code.{private_of}
 use Rattle.instances_table.specs.declared.parts.Handler.{Handler}
 use Rattle.instances_table.specs.Lookup.{handled_at, handled_in, handler_of, has_call}
 use Rattle.instances_table.specs.Modules.{Module}
-use Rattle.swi_dispatch_answers.specs.declared.frames.frame.FrameKind.TheVariants.{Swi}
-use Rattle.swi_dispatch_answers.specs.frames.Entering.{state_after_entry, swi_entered}
-use Rattle.swi_dispatch_answers.specs.frames.Frames.{frame_of}
+use Rattle.swi_dispatch_guest.specs.FrameKind.TheVariants.{Swi}
+use Rattle.swi_dispatch_guest.specs.Entering.{state_after_entry, swi_entered}
+use Rattle.swi_dispatch_guest.specs.Frames.{frame_of}
 use Rattle.swi_dispatch_guest.proofs.NextTurn.{unhalted_step}
 use Rattle.swi_dispatch_guest.specs.MachineState.{MachineState, StepOutcome}
 use Rattle.swi_dispatch_guest.specs.Step.{call_of, called_by, handler_entered, outcome_of_call, outcome_of_module_swi, outcome_of_turn, result_of_instruction, without_x}

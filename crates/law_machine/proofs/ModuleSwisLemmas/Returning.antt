@@ -8,11 +8,11 @@ use Rattle.arm_core.specs.declared.psr.Mode.TheVariants.{Supervisor, User}
 use Rattle.arm_core.specs.declared.psr.Psr.{Psr}
 use Rattle.arm_core.specs.Psr.{psr_bits}
 use Rattle.arm_core.specs.State.{State, register_in, with_register_in}
-use Rattle.swi_dispatch_answers.specs.Returns.{return_word, state_after_return}
-use Rattle.swi_dispatch_answers.specs.frames.Busy.{is_swi}
-use Rattle.swi_dispatch_answers.specs.frames.Frames.{frames_after_close, innermost_frame}
-use Rattle.swi_dispatch_answers.specs.frames.Leaving.{first_restored, left, state_with_saved_words}
-use Rattle.swi_dispatch_answers.specs.declared.frames.frame.Frame.{Frame}
+use Rattle.swi_dispatch_guest.specs.SwiDispatchAnswersReturns.{return_word, state_after_return}
+use Rattle.swi_dispatch_guest.specs.Busy.{is_swi}
+use Rattle.swi_dispatch_guest.specs.Frames.{frames_after_close, innermost_frame}
+use Rattle.swi_dispatch_guest.specs.Leaving.{first_restored, left, state_with_saved_words}
+use Rattle.swi_dispatch_guest.specs.SwiDispatchAnswersFrame.{Frame}
 use Rattle.swi_dispatch_guest.proofs.GateReturns.{swi_went}
 use Rattle.swi_dispatch_guest.proofs.NextTurn.{unhalted_step}
 use Rattle.swi_dispatch_guest.specs.Gates.{frame_closed, outcome_of_gate}

@@ -17,11 +17,11 @@ use Rattle.flex_store.specs.Calls.{flex_block_size}
 use Rattle.flex_store.specs.Runs.{Alloc, Extend, MidExtend, Release}
 use Rattle.instances_table.specs.Lookup.{handler_of}
 use Rattle.instances_table.specs.declared.parts.Handler.{Handler}
-use Rattle.swi_dispatch_answers.specs.Refusals.{or_error}
-use Rattle.swi_dispatch_answers.specs.declared.refusal.Refusal.{Refusal}
-use Rattle.swi_dispatch_answers.specs.declared.refusal.Refusal.TheVariants as refusal
-use Rattle.swi_dispatch_plans.specs.flex.Calls.{flex_called, state_in}
-use Rattle.swi_dispatch_plans.specs.store.Areas.{area_called, area_read, with_extent}
+use Rattle.swi_dispatch_guest.specs.Refusals.{or_error}
+use Rattle.swi_dispatch_guest.specs.Refusal.{Refusal}
+use Rattle.swi_dispatch_guest.specs.Refusal.TheVariants as refusal
+use Rattle.swi_dispatch_guest.specs.SwiDispatchFlexCalls.{flex_called, state_in}
+use Rattle.swi_dispatch_guest.specs.Areas.{area_called, area_read, with_extent}
 use Rattle.swi_dispatch_guest.specs.declared.halt.Halt.TheVariants as halt
 use Rattle.swi_dispatch_guest.specs.Answers.{went_on}
 use Rattle.swi_dispatch_guest.specs.Calls.{call_answer, generated_refusal, machine_flex, on_area_store, on_flex, printable_at, wrote_text_after, wrote_text_at}

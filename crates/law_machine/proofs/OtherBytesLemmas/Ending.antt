@@ -9,8 +9,8 @@ use Rattle.arm_core.specs.declared.psr.Psr.{Psr}
 use Rattle.flex_store.proofs.Holding.{bytes_beside, word_beside}
 use Rattle.flex_store.specs.declared.flex.Flex.{Flex}
 use Rattle.os_heap.specs.Store.{Store}
-use Rattle.swi_dispatch_answers.specs.declared.refusal.Refusal.{Refusal}
-use Rattle.swi_dispatch_answers.specs.declared.refusal.Refusal.TheVariants as refusal
+use Rattle.swi_dispatch_guest.specs.Refusal.{Refusal}
+use Rattle.swi_dispatch_guest.specs.Refusal.TheVariants as refusal
 use Rattle.swi_dispatch_guest.proofs.ErrorNumbers.{block_read, zero_kept, zero_set}
 use Rattle.swi_dispatch_guest.specs.Answers.{refusal_answer, went_on}
 use Rattle.swi_dispatch_guest.specs.Errors.{with_error}

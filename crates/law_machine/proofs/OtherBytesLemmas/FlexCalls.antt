@@ -6,7 +6,7 @@ use Rattle.profile.specs.declared.error.ErrorNumber.{ErrorNumber}
 use Rattle.address_map.specs.Bytes.{Bytes, word_start}
 use Rattle.address_map.specs.Records.{anchor_among}
 use Rattle.os_heap.specs.Store.{Store}
-use Rattle.swi_dispatch_plans.specs.flex_frame.Ground.{anchors_in, spelled_store, store_flexed}
+use Rattle.swi_dispatch_guest.specs.Ground.{anchors_in, spelled_store, store_flexed}
 use Rattle.flex_store.proofs.Anchoring.{other_word}
 use Rattle.flex_store.proofs.Filled.{AreFilled, holding_filled, new_filled, whole_filled}
 use Rattle.flex_store.proofs.Holding.{word_beside}

@@ -6,7 +6,7 @@ use Rattle.std.proofs.Math.ListN.{length-append}
 use Rattle.address_map.proofs.Stores.{in_range-cases}
 use Rattle.address_map.specs.Bytes.{in_range, with_bytes_at, with_word_at, word_start}
 use Rattle.os_heap.proofs.Apart.{range_parts}
-use Rattle.swi_dispatch_plans.specs.flex_frame.Ground.{anchors_in}
+use Rattle.swi_dispatch_guest.specs.Ground.{anchors_in}
 use Rattle.flex_store.proofs.Filled.{AreFilled}
 use Rattle.flex_store.proofs.Holding.{bytes_beside}
 use Rattle.flex_store.proofs.LawLemmas.{Answers, same_answer}

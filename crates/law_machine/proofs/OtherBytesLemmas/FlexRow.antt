@@ -5,15 +5,15 @@ use Rattle.profile.specs.declared.error.ErrorNumber.{ErrorNumber}
 use Rattle.profile.specs.declared.swi.SwiName.TheVariants as swi
 use Rattle.arm_core.specs.State.{register_of}
 use Rattle.os_heap.specs.Store.{Store}
-use Rattle.swi_dispatch_plans.specs.flex_frame.Ground.{flex_of, flex_state, store_flexed, with_flex_record}
+use Rattle.swi_dispatch_guest.specs.Ground.{flex_of, flex_state, store_flexed, with_flex_record}
 use Rattle.flex_store.specs.Blocks.{FlexStore, bytes_taken_by_all}
 use Rattle.flex_store.specs.Calls.{FlexState, flex_after_alloc, flex_after_extend, flex_after_init, flex_after_release, mid_extended}
 use Rattle.flex_store.specs.Runs.{Alloc, Extend, FlexCall, MidExtend, Release}
 use Rattle.flex_store.specs.declared.flex.Flex.{Flex}
 use Rattle.law_machine.specs.sliding_stores.Meaning.{Stores, store_in}
 use Rattle.law_machine.specs.sliding_stores.Turning.{Init, flex_call_answer, stores_after_flex, stores_after_step}
-use Rattle.swi_dispatch_answers.specs.Refusals.{or_error}
-use Rattle.swi_dispatch_plans.specs.flex.Calls.{fit_shown, flex_called, memory_after_flex as memory_left}
+use Rattle.swi_dispatch_guest.specs.Refusals.{or_error}
+use Rattle.swi_dispatch_guest.specs.SwiDispatchFlexCalls.{fit_shown, flex_called, memory_after_flex as memory_left}
 use Rattle.swi_dispatch_guest.specs.Calls.{machine_flex, on_flex}
 use Rattle.swi_dispatch_guest.specs.MachineState.{MachineState}
 use Rattle.law_machine.proofs.HeapAloneLemmas.States.{HasStore, stores_in}

@@ -10,8 +10,8 @@ use Rattle.arm_core.specs.declared.turn.StepEnd.{StepEnd}
 use Rattle.arm_core.specs.declared.turn.StepEnd.TheVariants as turn
 use Rattle.profile.specs.images.Entries.{Entry}
 use Rattle.os_heap.specs.Store.{IsSound, Store}
-use Rattle.swi_dispatch_answers.specs.Words.{host_string}
-use Rattle.swi_dispatch_answers.specs.frames.Frames.{innermost_frame}
+use Rattle.swi_dispatch_guest.specs.SwiDispatchAnswersWords.{host_string}
+use Rattle.swi_dispatch_guest.specs.Frames.{innermost_frame}
 use Rattle.swi_dispatch_guest.proofs.NextTurn.{unhalted_step, outside_call}
 use Rattle.swi_dispatch_guest.specs.declared.halt.Halt.{Halt}
 use Rattle.swi_dispatch_guest.specs.Additions.{load_planned}

@@ -19,11 +19,11 @@ use Rattle.dynamic_areas.specs.Remapped.{with_pages_at}
 use Rattle.dynamic_areas.specs.declared.area.Area.{Area}
 use Rattle.dynamic_areas.specs.declared.area.Created.{Created}
 use Rattle.dynamic_areas.specs.declared.area.Wanted.{Wanted}
-use Rattle.swi_dispatch_answers.specs.Refusals.{or_error, system_error}
-use Rattle.swi_dispatch_answers.specs.Strings.{string_at}
-use Rattle.swi_dispatch_answers.specs.declared.refusal.Refusal.{Refusal}
-use Rattle.swi_dispatch_answers.specs.declared.refusal.Refusal.TheVariants as refusal
-use Rattle.swi_dispatch_plans.specs.store.Areas.{area_called, area_called_for, area_changed, area_made, area_named, area_resized, change_asked, change_left, wanted_of, with_area_table}
+use Rattle.swi_dispatch_guest.specs.Refusals.{or_error, system_error}
+use Rattle.swi_dispatch_guest.specs.Strings.{string_at}
+use Rattle.swi_dispatch_guest.specs.Refusal.{Refusal}
+use Rattle.swi_dispatch_guest.specs.Refusal.TheVariants as refusal
+use Rattle.swi_dispatch_guest.specs.Areas.{area_called, area_called_for, area_changed, area_made, area_named, area_resized, change_asked, change_left, wanted_of, with_area_table}
 use Rattle.swi_dispatch_guest.specs.Calls.{area_changing, on_area_store, with_guest}
 use Rattle.swi_dispatch_guest.specs.Errors.{with_error}
 use Rattle.swi_dispatch_guest.specs.MachineState.{MachineState, machine_area_store}

@@ -22,10 +22,10 @@ use Rattle.instances_table.specs.plans.Plans.{Plan, actions_owed}
 use Rattle.instances_table.specs.declared.plans.action.PlanAction.{PlanAction}
 use Rattle.instances_table.specs.declared.plans.code.Code.{Code}
 use Rattle.instances_table.specs.declared.plans.given.Given.{Given}
-use Rattle.swi_dispatch_answers.specs.declared.frames.call.Call.{Call}
-use Rattle.swi_dispatch_plans.specs.ImagePlans.{copy_asked, insertion_asked, load_asked}
-use Rattle.swi_dispatch_plans.specs.PlannerInput.{string_asked}
-use Rattle.swi_dispatch_plans.specs.Trials.{module_state_carried}
+use Rattle.swi_dispatch_guest.specs.Call.{Call}
+use Rattle.swi_dispatch_guest.specs.ImagePlans.{copy_asked, insertion_asked, load_asked}
+use Rattle.swi_dispatch_guest.specs.PlannerInput.{string_asked}
+use Rattle.swi_dispatch_guest.specs.Trials.{module_state_carried}
 use Rattle.swi_dispatch_guest.specs.Additions.{Planned, copy_planned, insertion_planned, load_planned, named_load_planned, planned_of}
 use Rattle.swi_dispatch_guest.specs.Gates.{call_ended_by, carried_on, ended_of, entered_if, entered_with, state_after_plan, state_with_code_entered}
 use Rattle.swi_dispatch_guest.specs.MachineState.{MachineState, machine_area_store, machine_module_state, setting_of}

@@ -9,7 +9,7 @@ use Rattle.instances_table.specs.plans.Plans.{Plan}
 use Rattle.instances.specs.module_state.ModuleState.{ModuleState}
 use Rattle.instances.specs.declared.answers.Start.{Start}
 use Rattle.instances.specs.Reading.{start_found}
-use Rattle.swi_dispatch_answers.specs.declared.frames.call.Call.{Call}
+use Rattle.swi_dispatch_guest.specs.Call.{Call}
 use Rattle.swi_dispatch_guest.specs.Gates.{call_ended_by, entered_if, entered_with, ended_of, state_after_plan, kept_by, state_with_code_entered}
 use Rattle.swi_dispatch_guest.specs.Returns.{gone_back}
 use Rattle.swi_dispatch_guest.specs.MachineState.{MachineState, machine_module_state}

@@ -14,15 +14,15 @@ use Rattle.arm_core.specs.State.{IsCore, State, register_of, slot_of}
 use Rattle.profile.specs.images.Entries.{Entry}
 use Rattle.instances_table.specs.declared.parts.Image.{Image}
 use Rattle.os_heap.specs.Store.{Store}
-use Rattle.swi_dispatch_plans.specs.flex_frame.Ground.{flex_state, with_flex_record}
+use Rattle.swi_dispatch_guest.specs.Ground.{flex_state, with_flex_record}
 use Rattle.flex_store.specs.Calls.{FlexState, flex_after_alloc, flex_after_init, flex_after_extend, mid_extended, flex_after_release}
 use Rattle.flex_store.proofs.Holding.{word_beside}
 use Rattle.rma.specs.Calls.{with_store}
-use Rattle.swi_dispatch_answers.specs.Errors.{memory_with_error}
-use Rattle.swi_dispatch_answers.specs.Refusals.{or_error}
-use Rattle.swi_dispatch_answers.specs.declared.refusal.Refusal.{Refusal}
-use Rattle.swi_dispatch_answers.specs.declared.refusal.Refusal.TheVariants as refusal
-use Rattle.swi_dispatch_plans.specs.flex.Calls.{FlexMemory, fit_shown, flex_called, memory_after_flex as memory_left}
+use Rattle.swi_dispatch_guest.specs.SwiDispatchAnswersErrors.{memory_with_error}
+use Rattle.swi_dispatch_guest.specs.Refusals.{or_error}
+use Rattle.swi_dispatch_guest.specs.Refusal.{Refusal}
+use Rattle.swi_dispatch_guest.specs.Refusal.TheVariants as refusal
+use Rattle.swi_dispatch_guest.specs.SwiDispatchFlexCalls.{FlexMemory, fit_shown, flex_called, memory_after_flex as memory_left}
 use Rattle.swi_dispatch_guest.proofs.Kept.{short_name}
 use Rattle.swi_dispatch_guest.specs.declared.halt.Halt.TheVariants as halt
 use Rattle.swi_dispatch_guest.specs.Answers.{went_on}

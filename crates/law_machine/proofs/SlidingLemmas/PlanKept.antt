@@ -21,18 +21,18 @@ use Rattle.dynamic_areas.specs.Ground.{AreaStore}
 use Rattle.instances.specs.module_state.ModuleState.{ModuleState}
 use Rattle.instances_table.specs.declared.parts.Handler.{Handler}
 use Rattle.instances_table.specs.Lookup.{handler_of}
-use Rattle.swi_dispatch_answers.specs.declared.refusal.Refusal.{Refusal}
-use Rattle.swi_dispatch_answers.specs.declared.refusal.Refusal.TheVariants as refusal
-use Rattle.swi_dispatch_plans.specs.flex.Calls.{FlexMemory}
-use Rattle.swi_dispatch_plans.specs.ImagePlans.{Loading, copy_asked, image_header_in, insertion_asked, instantiation_planned, load_asked, may_add, may_load, may_replace, range_asked, well_named}
-use Rattle.swi_dispatch_plans.specs.ModulePlans.{clear_planned, delete_planned, may_begin_alone, may_finalise, reinit_planned, tidy_planned}
-use Rattle.swi_dispatch_plans.specs.Openings.{opening_asked}
-use Rattle.swi_dispatch_plans.specs.PlannerInput.{PlannerInput, string_asked}
-use Rattle.swi_dispatch_plans.specs.declared.image_plans.ImageRange.{ImageRange}
+use Rattle.swi_dispatch_guest.specs.Refusal.{Refusal}
+use Rattle.swi_dispatch_guest.specs.Refusal.TheVariants as refusal
+use Rattle.swi_dispatch_guest.specs.SwiDispatchFlexCalls.{FlexMemory}
+use Rattle.swi_dispatch_guest.specs.ImagePlans.{Loading, copy_asked, image_header_in, insertion_asked, instantiation_planned, load_asked, may_add, may_load, may_replace, range_asked, well_named}
+use Rattle.swi_dispatch_guest.specs.ModulePlans.{clear_planned, delete_planned, may_begin_alone, may_finalise, reinit_planned, tidy_planned}
+use Rattle.swi_dispatch_guest.specs.Openings.{opening_asked}
+use Rattle.swi_dispatch_guest.specs.PlannerInput.{PlannerInput, string_asked}
+use Rattle.swi_dispatch_guest.specs.ImageRange.{ImageRange}
 use Rattle.instances.specs.Adding.{good_header, instantiation}
 use Rattle.instances.specs.Plans.{clearing, deletion, reinitialisation, tidying}
 use Rattle.instances.specs.Reading.{slot_meant}
-use Rattle.swi_dispatch_answers.specs.Words.{host_string, name_part, text_part}
+use Rattle.swi_dispatch_guest.specs.SwiDispatchAnswersWords.{host_string, name_part, text_part}
 use Rattle.instances_table.specs.plans.Plans.{Plan}
 use Rattle.instances_table.specs.Changes.{modules_of_title}
 use Rattle.instances_table.specs.Modules.{slots_of}
@@ -41,7 +41,7 @@ use Rattle.rma.specs.Copies.{may_be_copied}
 use Rattle.rma.specs.NewImages.{may_be_in_place}
 use Rattle.profile.specs.Word.{bit_of}
 use Rattle.profile.specs.declared.error.ErrorNumber.TheVariants.{BadPointer, BadString, FrameLimit, ImageUnknown, SwiUnknown}
-use Rattle.swi_dispatch_plans.specs.declared.openings.Opening.{Opening}
+use Rattle.swi_dispatch_guest.specs.Opening.{Opening}
 use Rattle.swi_dispatch_guest.specs.declared.halt.Halt.{Halt}
 use Rattle.swi_dispatch_guest.specs.declared.halt.Halt.TheVariants as halt
 use Rattle.swi_dispatch_guest.specs.Additions.{Planned, copied_range_planned, copy_planned, image_planned, insertion_planned, load_planned, named_load_planned, plan_alone, range_planned}

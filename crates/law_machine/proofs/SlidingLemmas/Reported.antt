@@ -4,9 +4,9 @@ use Rattle.std.proofs.lemmas.Bool.{false≢true}
 use Rattle.profile.specs.declared.error.ErrorNumber.{ErrorNumber}
 use Rattle.arm_core.specs.State.{register_of, with_register}
 use Rattle.os_heap.specs.Store.{Store}
-use Rattle.swi_dispatch_plans.specs.flex_frame.Ground.{flex_state}
+use Rattle.swi_dispatch_guest.specs.Ground.{flex_state}
 use Rattle.flex_store.specs.Calls.{FlexState, flex_after_alloc, flex_after_extend, mid_extended}
-use Rattle.swi_dispatch_plans.specs.flex.Calls.{fit_shown, flex_called, memory_after_flex as memory_left, room_word_of}
+use Rattle.swi_dispatch_guest.specs.SwiDispatchFlexCalls.{fit_shown, flex_called, memory_after_flex as memory_left, room_word_of}
 use Rattle.swi_dispatch_guest.proofs.ErrorNumbers.{zero_kept, zero_set}
 use Rattle.swi_dispatch_guest.specs.Answers.{went_on}
 use Rattle.swi_dispatch_guest.specs.Calls.{machine_flex, on_flex}

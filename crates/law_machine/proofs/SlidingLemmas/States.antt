@@ -2,7 +2,7 @@
 use Rattle.std.proofs.Common.{◌≤◌, [], Option, Some, None, lit≤}
 use Rattle.instances_table.specs.plans.Plans.{Plan}
 use Rattle.instances_table.specs.Modules.{AreModules}
-use Rattle.swi_dispatch_plans.specs.flex_frame.Ground.{HasFlex}
+use Rattle.swi_dispatch_guest.specs.Ground.{HasFlex}
 use Rattle.instances.specs.Turns.{MayGoOn}
 use Rattle.instances.specs.actions.Pending.{is_pending, pending_of}
 use Rattle.swi_dispatch_guest.proofs.FlexCalls.{pending_one}

@@ -29,13 +29,13 @@ use Rattle.instances.specs.module_state.ModuleState.{ModuleState}
 use Rattle.instances.specs.Plans.{tidying}
 use Rattle.instances.specs.Turns.{calls_module}
 use Rattle.instances.specs.actions.Pending.{is_pending, pending_by}
-use Rattle.swi_dispatch_plans.specs.ModulePlans.{may_begin_alone, tidy_planned}
-use Rattle.swi_dispatch_plans.specs.PlannerInput.{PlannerInput}
-use Rattle.swi_dispatch_plans.specs.Trials.{module_state_carried}
-use Rattle.swi_dispatch_answers.specs.declared.frames.frame.Frame.{Frame}
-use Rattle.swi_dispatch_answers.specs.declared.frames.frame.FrameKind.{FrameKind}
-use Rattle.swi_dispatch_answers.specs.declared.frames.frame.FrameKind.TheVariants.{Swi, Entry as EntryFrame}
-use Rattle.swi_dispatch_answers.specs.frames.Frames.{innermost_frame}
+use Rattle.swi_dispatch_guest.specs.ModulePlans.{may_begin_alone, tidy_planned}
+use Rattle.swi_dispatch_guest.specs.PlannerInput.{PlannerInput}
+use Rattle.swi_dispatch_guest.specs.Trials.{module_state_carried}
+use Rattle.swi_dispatch_guest.specs.SwiDispatchAnswersFrame.{Frame}
+use Rattle.swi_dispatch_guest.specs.FrameKind.{FrameKind}
+use Rattle.swi_dispatch_guest.specs.FrameKind.TheVariants.{Swi, Entry as EntryFrame}
+use Rattle.swi_dispatch_guest.specs.Frames.{innermost_frame}
 use Rattle.swi_dispatch_guest.specs.declared.halt.Halt.TheVariants as halt
 use Rattle.swi_dispatch_guest.specs.Gates.{carried_on, come_back, fault_ahead, frame_closed, frame_left, outcome_of_gate, gated_by, kept_by, outcome_left, plan_left, unless_fault}
 use Rattle.swi_dispatch_guest.specs.MachineState.{MachineState, machine_module_state, silent, setting_of}

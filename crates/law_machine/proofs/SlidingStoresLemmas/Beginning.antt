@@ -14,8 +14,8 @@ use Rattle.os_heap.specs.Store.{IsClearOfHeaps, IsSound, Store, find_heap, is_im
 use Rattle.os_heap_words.specs.lists.Heap.{HeapList}
 use Rattle.dynamic_areas.specs.Ground.{IsAreaStore}
 use Rattle.rma.specs.flex_frame.Keeping.{AreAnchorsFree}
-use Rattle.swi_dispatch_plans.proofs.FlexFrameLemmas.ModuleStates.{begun_module_state, beside_begun}
-use Rattle.swi_dispatch_plans.specs.flex_frame.Ground.{flex_state, records_with, spelled_store, with_flex_record}
+use Rattle.swi_dispatch_guest.proofs.ModuleStates.{begun_module_state, beside_begun}
+use Rattle.swi_dispatch_guest.specs.Ground.{flex_state, records_with, spelled_store, with_flex_record}
 use Rattle.flex_store.proofs.Recording.{last_recorded, range_clear_back}
 use Rattle.flex_store.proofs.Starting.{no_blocks}
 use Rattle.flex_store.specs.Blocks.{Block, FlexStore, contents, find_block, has_anchor, is_header, bytes_taken_by_all}
@@ -28,10 +28,10 @@ use Rattle.flex_store.specs.State.{AreAnchorWords, AreInner, AreWhole}
 use Rattle.flex_store.specs.declared.flex.Extent.{Extent}
 use Rattle.flex_store.specs.declared.flex.Flex.{Flex}
 use Rattle.rma.proofs.ImageLemmas.{mapped_more}
-use Rattle.swi_dispatch_plans.proofs.FlexFrameLemmas.InstancesModuleStates.{few_records}
+use Rattle.swi_dispatch_guest.proofs.InstancesModuleStates.{few_records}
 use Rattle.instances_table.proofs.RoomLemmas.{few_modules}
-use Rattle.swi_dispatch_plans.specs.flex_frame.module_state.Sound.{count_beside}
-use Rattle.swi_dispatch_plans.specs.flex_frame.module_state.ModuleState.{ModuleState}
+use Rattle.swi_dispatch_guest.specs.Sound.{count_beside}
+use Rattle.swi_dispatch_guest.specs.ModuleState.{ModuleState}
 use Rattle.law_machine.proofs.SlidingStoresLemmas.Called.{words_said}
 use Rattle.law_machine.proofs.SlidingStoresLemmas.Calling.{IsFollowedBy, stays}
 use Rattle.law_machine.specs.sliding_stores.FlexStore.{IsFlexRangeSpelled, IsSpelledAt, IsUnmade, spelled_blocks}

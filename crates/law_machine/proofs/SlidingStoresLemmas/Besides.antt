@@ -16,7 +16,7 @@ use Rattle.rma.proofs.FlexFrameLemmas.Writes.{system_keeps}
 use Rattle.rma.specs.flex_frame.Keeping.{IsFlexKept, KeepsFlex}
 use Rattle.flex_store.specs.Laws.{contents_in}
 use Rattle.instances_table.specs.plans.Code.{private_of}
-use Rattle.swi_dispatch_plans.specs.flex_frame.module_state.ModuleState.{private_word}
+use Rattle.swi_dispatch_guest.specs.ModuleState.{private_word}
 use Rattle.instances_table.proofs.RoomLemmas.{slots_once}
 use Rattle.instances_table.specs.Changes.{is_slot_held}
 use Rattle.law_machine.proofs.SlidingStoresLemmas.Called.{images_same, word_same}

@@ -19,7 +19,7 @@ use Rattle.rma.specs.flex_frame.Keeping.{AreAnchorsFree, is_in_other_record}
 use Rattle.law_machine.specs.flex.Laws.{outside_of}
 use Rattle.flex_store.specs.Runs.{Alloc, Extend, FlexCall, MidExtend, Release}
 use Rattle.instances_table.specs.plans.Code.{private_of}
-use Rattle.swi_dispatch_plans.specs.flex_frame.module_state.ModuleState.{ModuleState, private_word}
+use Rattle.swi_dispatch_guest.specs.ModuleState.{ModuleState, private_word}
 use Rattle.instances_table.proofs.RoomLemmas.{slots_once}
 use Rattle.instances_table.specs.Changes.{is_slot_held}
 use Rattle.instances_table.specs.Modules.{AreModules}
@@ -31,7 +31,7 @@ use Rattle.law_machine.proofs.SlidingStoresLemmas.SlidModuleStates.{slots_below}
 use Rattle.law_machine.specs.sliding_stores.FlexStore.{IsSpelledAt}
 use Rattle.law_machine.specs.sliding_stores.Meaning.{BlockNumber, PayloadPlace, Stores, Value, area_blocks, area_images, area_names, area_places, area_word, payloads_in, contents_of, images_in, meaning_of, block_number_in, one_further, place_among, payload_place_in, seen_byte_at, store_in, word_said}
 use Rattle.law_machine.specs.sliding_stores.Rules.{AreAnchorsLeft, IsAnchored, IsAnchoredAlike, IsAnchorGone, with_place_seen}
-use Rattle.swi_dispatch_plans.proofs.FlexFrameLemmas.Kept.{no_store}
+use Rattle.swi_dispatch_guest.proofs.SwiDispatchPlansKept.{no_store}
 
 said_value : (word value : ℕ) (o : Option ℕ) → word_said word o ≡ Value value → word ≡ value
 said_value word value None is = cc

@@ -5,7 +5,7 @@ use Rattle.std.specs.Prelude.{if◌then◌else◌}
 use Rattle.std.proofs.lemmas.Bool.{both_ways, cases_Bool, cases_lt, eq-eqb, eqb-false, eqb-true, false_from_ne_true, false≢true, le-leb, lt-ltb, ne_eqb}
 use Rattle.address_map.specs.Bytes.{in_range, word_start}
 use Rattle.os_heap.specs.Store.{Store, is_in_flex_store}
-use Rattle.swi_dispatch_plans.specs.flex_frame.Ground.{anchors_in, spelled_store}
+use Rattle.swi_dispatch_guest.specs.Ground.{anchors_in, spelled_store}
 use Rattle.law_machine.proofs.FlexLemmas.Lists.{word_in}
 use Rattle.law_machine.specs.flex.Laws.{Outside, outside_of}
 use Rattle.flex_store.proofs.Keeping.{in_store}

@@ -6,7 +6,7 @@ use Rattle.profile.specs.Outcome.{bind}
 use Rattle.profile.specs.declared.error.ErrorNumber.{ErrorNumber}
 use Rattle.os_heap.specs.Store.{IsSound, Store, is_in_flex_store}
 use Rattle.dynamic_areas.specs.Ground.{AreaStore, IsAreaStore}
-use Rattle.swi_dispatch_plans.specs.flex_frame.Ground.{flex_of, flex_state, records_with, spelled_store, store_flexed}
+use Rattle.swi_dispatch_guest.specs.Ground.{flex_of, flex_state, records_with, spelled_store, store_flexed}
 use Rattle.law_machine.proofs.FlexLemmas.Calls.{calls_go_by_numbers, no_room_changes_nothing}
 use Rattle.law_machine.proofs.FlexLemmas.PaddingCalls.{padding_goes_by_numbers}
 use Rattle.law_machine.specs.flex.Laws.{IsDoneIn, IsOfWords, anchor_of_call, outside_of}
@@ -19,8 +19,8 @@ use Rattle.flex_store.specs.Runs.{Alloc, Extend, FlexCall, MidExtend, Release}
 use Rattle.flex_store.specs.declared.flex.Extent.{Extent}
 use Rattle.flex_store.specs.declared.flex.Flex.{Flex}
 use Rattle.rma.specs.Calls.{with_store}
-use Rattle.swi_dispatch_plans.proofs.FlexFrameLemmas.InstancesModuleStates.{module_state_kept}
-use Rattle.swi_dispatch_plans.specs.flex_frame.module_state.ModuleState.{private_word}
+use Rattle.swi_dispatch_guest.proofs.InstancesModuleStates.{module_state_kept}
+use Rattle.swi_dispatch_guest.specs.ModuleState.{private_word}
 use Rattle.law_machine.proofs.SlidingStoresLemmas.Called.{IsCalledOn, anchors_left, images_left, names_left, words_left, words_said}
 use Rattle.law_machine.proofs.SlidingStoresLemmas.Leaving.{IsAfter, IsBefore, IsCalledBy, after_called, same_flex, same_store, state_at, state_spelled, store_at}
 use Rattle.law_machine.proofs.SlidingStoresLemmas.CalledSeen.{byte_seen, byte_stays, mark_left, none_odd, some_is}

@@ -2,7 +2,7 @@
 use Rattle.std.proofs.Common.{ℕ, Bool, true, nat_eq, ◌+◌, ◌%◌, ◌≡◌, ◌≤◌, ◌∙◌, List, [], ◌∷◌, length, Option, Some, None, sym, ap, subst, arith}
 use Rattle.std.proofs.lemmas.Bool.{eq-eqb, or_left, or_right}
 use Rattle.address_map.specs.Bytes.{word_start}
-use Rattle.raw_store.specs.Region.{word_bytes}
+use Rattle.address_map.specs.RawStoreRegion.{word_bytes}
 use Rattle.address_map.specs.declared.region.Region.{Region}
 use Rattle.os_heap.specs.Store.{Store, is_in_flex_store}
 use Rattle.rma.specs.flex_frame.Keeping.{IsFlexKept, KeepsFlex}
@@ -16,7 +16,7 @@ use Rattle.flex_store.specs.declared.flex.Extent.{Extent}
 use Rattle.flex_store.specs.declared.flex.Flex.{Flex}
 use Rattle.law_machine.proofs.SlidingStoresLemmas.Spelled.{kept_blocks}
 use Rattle.law_machine.specs.sliding_stores.FlexStore.{HasFlexStore, IsFlexRangeSpelled, IsSpelledAt, spelled_blocks}
-use Rattle.swi_dispatch_plans.proofs.FlexFrameLemmas.Kept.{count_is, recorded_beside}
+use Rattle.swi_dispatch_guest.proofs.SwiDispatchPlansKept.{count_is, recorded_beside}
 
 -- the words of anchors
 anchored_same : (mapped : ℕ → Bool) (start end : ℕ) (f g : ℕ → ℕ) (at : ℕ) (bs : List Block) → AreAnchorWords mapped start end bs

@@ -10,8 +10,8 @@ use Rattle.os_heap.specs.Store.{AreHeapsIn, IsAnchorPlace, IsSound, Store}
 use Rattle.os_heap_words.proofs.ListsLemmas.HeadWords.{are_owned}
 use Rattle.rma.proofs.FlexFrameLemmas.Writes.{flex_alone}
 use Rattle.rma.specs.flex_frame.Keeping.{AreAnchorsFree}
-use Rattle.swi_dispatch_plans.proofs.FlexFrameLemmas.Calls.{place_free}
-use Rattle.swi_dispatch_plans.specs.flex_frame.Ground.{flex_of, spelled_store, store_flexed}
+use Rattle.swi_dispatch_guest.proofs.SwiDispatchPlansCalls.{place_free}
+use Rattle.swi_dispatch_guest.specs.Ground.{flex_of, spelled_store, store_flexed}
 use Rattle.law_machine.specs.flex.Laws.{IsLeftBy, IsSpelledState, anchor_of_call, outside_of}
 use Rattle.law_machine.specs.flex.Numbered.{IsCalledSeen, blocks_seen, anchor_place_of}
 use Rattle.flex_store.proofs.Headers.{header_within}
@@ -25,7 +25,7 @@ use Rattle.flex_store.specs.Runs.{FlexCall}
 use Rattle.flex_store.specs.State.{AreAnchorWords, AreInner, AreWhole, IsFlexRange, IsText}
 use Rattle.flex_store.specs.declared.flex.Extent.{Extent}
 use Rattle.flex_store.specs.declared.flex.Flex.{Flex}
-use Rattle.swi_dispatch_plans.specs.flex_frame.module_state.Sound.{count_beside}
+use Rattle.swi_dispatch_guest.specs.Sound.{count_beside}
 use Rattle.law_machine.specs.sliding_stores.FlexStore.{HasFlexStore, IsFlexRangeSpelled, spelled_blocks}
 use Rattle.law_machine.specs.sliding_stores.Meaning.{IsMemory}
 

@@ -5,7 +5,7 @@ use Rattle.std.proofs.Math.ListN.{length-append}
 use Rattle.std.proofs.lemmas.Bool.{cases_Bool, le-leb, leb-true, ltb-false}
 use Rattle.std.proofs.lemmas.List.{length-replicate, length-take}
 use Rattle.address_map.specs.Bytes.{Bytes}
-use Rattle.swi_dispatch_plans.specs.flex_frame.Ground.{flex_state, spelled_store}
+use Rattle.swi_dispatch_guest.specs.Ground.{flex_state, spelled_store}
 use Rattle.flex_store.proofs.Filled.{whole_filled}
 use Rattle.flex_store.proofs.LawLemmas.{contents_size, found_filled}
 use Rattle.flex_store.proofs.Lists.{used-append}

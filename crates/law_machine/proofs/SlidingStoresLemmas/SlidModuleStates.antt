@@ -26,16 +26,16 @@ use Rattle.instances_table.specs.plans.Code.{private_of}
 use Rattle.instances_table.proofs.RoomLemmas.{below_64, slots_counted}
 use Rattle.instances_table.specs.Changes.{is_slot_held}
 use Rattle.instances_table.specs.Modules.{AreModules, Module, has_instance, number_passing, slot_count, slots_of}
-use Rattle.swi_dispatch_plans.specs.flex_frame.module_state.Sound.{AreSolid, IsSolid, IsModuleState}
-use Rattle.swi_dispatch_plans.specs.flex_frame.module_state.ModuleState.{ModuleState, private_word, with_private}
-use Rattle.swi_dispatch_plans.proofs.FlexFrameLemmas.AreaLemmas.{image_found}
-use Rattle.swi_dispatch_plans.proofs.FlexFrameLemmas.Choosing.{IsChosen, chosen}
-use Rattle.swi_dispatch_plans.proofs.FlexFrameLemmas.LawLemmas.{heap_after, keeps_moved, slid_where}
-use Rattle.swi_dispatch_plans.proofs.FlexFrameLemmas.NameLemmas.{names_moved, slid_outside}
-use Rattle.swi_dispatch_plans.proofs.FlexFrameLemmas.Tidying.{HasHeap, heap_there, holds_none as movable_empty, payload_empty}
-use Rattle.swi_dispatch_plans.specs.flex_frame.tidying.Laws.{AreBytes}
-use Rattle.swi_dispatch_plans.specs.flex_frame.tidying.Movable.{can_move, movable_blocks}
-use Rattle.swi_dispatch_plans.specs.flex_frame.tidying.Slid.{image_moved, private_words_of, words_moved, module_state_moved, module_state_slid}
+use Rattle.swi_dispatch_guest.specs.Sound.{AreSolid, IsSolid, IsModuleState}
+use Rattle.swi_dispatch_guest.specs.ModuleState.{ModuleState, private_word, with_private}
+use Rattle.swi_dispatch_guest.proofs.AreaLemmas.{image_found}
+use Rattle.swi_dispatch_guest.proofs.Choosing.{IsChosen, chosen}
+use Rattle.swi_dispatch_guest.proofs.LawLemmas.{heap_after, keeps_moved, slid_where}
+use Rattle.swi_dispatch_guest.proofs.NameLemmas.{names_moved, slid_outside}
+use Rattle.swi_dispatch_guest.proofs.Tidying.{HasHeap, heap_there, holds_none as movable_empty, payload_empty}
+use Rattle.swi_dispatch_guest.specs.Laws.{AreBytes}
+use Rattle.swi_dispatch_guest.specs.Movable.{can_move, movable_blocks}
+use Rattle.swi_dispatch_guest.specs.Slid.{image_moved, private_words_of, words_moved, module_state_moved, module_state_slid}
 use Rattle.law_machine.proofs.SlidingStoresLemmas.Ranges.{recorded_apart}
 use Rattle.law_machine.proofs.SlidingStoresLemmas.SlidLists.{CanSlide, map_same, number_slid, payloads_slid, place_slid, unnamed_still}
 use Rattle.law_machine.specs.sliding_stores.Meaning.{BlockNumber, PrivateWord, Value, area_blocks, area_images, area_names, block_number, images_in, payload_place_in, word_said}

@@ -25,16 +25,16 @@ use Rattle.rma.specs.Calls.{with_store}
 use Rattle.instances_table.specs.plans.Code.{private_of}
 use Rattle.instances_table.proofs.RoomLemmas.{few_modules, most_slots}
 use Rattle.instances_table.specs.Modules.{AreModules, EachIsModule, Module, has_slot, has_title, number_passing, slot_count, slots_of}
-use Rattle.swi_dispatch_plans.proofs.FlexFrameLemmas.InstancesModuleStates.{module_state_kept}
-use Rattle.swi_dispatch_plans.specs.flex_frame.module_state.Sound.{IsModuleState}
-use Rattle.swi_dispatch_plans.specs.flex_frame.module_state.ModuleState.{ModuleState, private_word, with_private}
-use Rattle.swi_dispatch_plans.proofs.FlexFrameLemmas.Choosing.{are_blocks, few_blocks}
-use Rattle.swi_dispatch_plans.proofs.FlexFrameLemmas.LawLemmas.{slid_where}
-use Rattle.swi_dispatch_plans.proofs.FlexFrameLemmas.NameLemmas.{heap_small, slid_small}
-use Rattle.swi_dispatch_plans.proofs.FlexFrameLemmas.Tidying.{HasHeap, after_blocks, blocks_sound, heap_there}
-use Rattle.swi_dispatch_plans.specs.flex_frame.tidying.Laws.{AreBytes}
-use Rattle.swi_dispatch_plans.specs.flex_frame.tidying.Movable.{can_move, movable_blocks}
-use Rattle.swi_dispatch_plans.specs.flex_frame.tidying.Slid.{image_moved, private_words_of, words_moved, module_state_moved, module_state_slid}
+use Rattle.swi_dispatch_guest.proofs.InstancesModuleStates.{module_state_kept}
+use Rattle.swi_dispatch_guest.specs.Sound.{IsModuleState}
+use Rattle.swi_dispatch_guest.specs.ModuleState.{ModuleState, private_word, with_private}
+use Rattle.swi_dispatch_guest.proofs.Choosing.{are_blocks, few_blocks}
+use Rattle.swi_dispatch_guest.proofs.LawLemmas.{slid_where}
+use Rattle.swi_dispatch_guest.proofs.NameLemmas.{heap_small, slid_small}
+use Rattle.swi_dispatch_guest.proofs.Tidying.{HasHeap, after_blocks, blocks_sound, heap_there}
+use Rattle.swi_dispatch_guest.specs.Laws.{AreBytes}
+use Rattle.swi_dispatch_guest.specs.Movable.{can_move, movable_blocks}
+use Rattle.swi_dispatch_guest.specs.Slid.{image_moved, private_words_of, words_moved, module_state_moved, module_state_slid}
 use Rattle.law_machine.proofs.SlidingStoresLemmas.SlidStores.{sound_slid}
 use Rattle.law_machine.proofs.SlidingStoresLemmas.SlidModuleStates.{holds_no_heap, holds_none, placed_of, slots_below, word_outside}
 use Rattle.law_machine.proofs.FlexLemmas.Small.{word_small}

@@ -17,7 +17,7 @@ use Rattle.rma.proofs.HeapSlideLemmas.KeptBlocks.{bytes_fixed}
 use Rattle.rma.proofs.HeapSlideLemmas.LawLemmas.{slid_totals, slide_fits}
 use Rattle.rma.proofs.HeapSlideLemmas.Records.{IsSlide, all_placed, moves_in, ranges_apart, slid_in}
 use Rattle.rma.specs.heap_slide.Slide.{HoldNoAnchor, HoldNoHeap, is_listed, slid_bytes, with_slid}
-use Rattle.swi_dispatch_plans.proofs.FlexFrameLemmas.NameLemmas.{slid_outside}
+use Rattle.swi_dispatch_guest.proofs.NameLemmas.{slid_outside}
 use Rattle.law_machine.proofs.SlidingStoresLemmas.Spelling.{heap_spelled}
 
 module _ (s : Store) (h : HeapList) (movable : List ℕ) (sound : IsSound s) (found : find_heap h.start s.heaps ≡ Some h) (free : HoldNoAnchor s h movable)

@@ -13,7 +13,7 @@ use Rattle.flex_store.specs.declared.flex.Flex.{Flex}
 use Rattle.flex_store.specs.Laws.{HaveDistinctAnchors, HasBlocks}
 use Rattle.flex_store.specs.State.{AreAnchorWords, IsFlexAt, IsText}
 use Rattle.flex_store.specs.declared.flex.Extent.{Extent}
-use Rattle.swi_dispatch_plans.specs.flex_frame.Ground.{HasFlex, spelled_store}
+use Rattle.swi_dispatch_guest.specs.Ground.{HasFlex, spelled_store}
 use Rattle.law_machine.specs.sliding_stores.FlexStore.{HasFlexStore, IsFlexRangeSpelled, IsSpelledAt, spelled_blocks}
 
 pub spelled_at : (m : AddressMap) (o : Option Extent) → IsFlexAt m o → IsSpelledAt (store_of m) o

@@ -17,10 +17,10 @@ use Rattle.law_machine.specs.flex.Padding.{all_paddings}
 use Rattle.flex_store.specs.Laws.{contents_in}
 use Rattle.instances_table.specs.declared.parts.Image.{Image}
 use Rattle.instances_table.specs.Modules.{Module}
-use Rattle.swi_dispatch_plans.specs.flex_frame.module_state.Sound.{IsModuleState}
-use Rattle.swi_dispatch_plans.specs.flex_frame.module_state.ModuleState.{ModuleState}
-use Rattle.swi_dispatch_plans.specs.flex_frame.tidying.Movable.{movable_blocks}
-use Rattle.swi_dispatch_plans.specs.flex_frame.tidying.Slid.{image_moved, moves_in, private_words_of, module_state_slid, module_state_slid_in}
+use Rattle.swi_dispatch_guest.specs.Sound.{IsModuleState}
+use Rattle.swi_dispatch_guest.specs.ModuleState.{ModuleState}
+use Rattle.swi_dispatch_guest.specs.Movable.{movable_blocks}
+use Rattle.swi_dispatch_guest.specs.Slid.{image_moved, moves_in, private_words_of, module_state_slid, module_state_slid_in}
 use Rattle.law_machine.proofs.SlidingStoresLemmas.Beginning.{init_followed}
 use Rattle.law_machine.proofs.SlidingStoresLemmas.CalledSeen.{anchor_word}
 use Rattle.law_machine.proofs.SlidingStoresLemmas.Calling.{call_followed}

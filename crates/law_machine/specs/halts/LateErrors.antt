@@ -12,10 +12,10 @@ use Rattle.profile.specs.declared.reason.ModuleReason.TheVariants as reason
 use Rattle.profile.specs.declared.swi.SwiName.TheVariants as swi
 use Rattle.arm_core.specs.State.{register_of}
 use Rattle.profile.specs.images.Entries.{Entry}
-use Rattle.swi_dispatch_answers.specs.Words.{host_string}
-use Rattle.swi_dispatch_plans.specs.ImagePlans.{instantiation_planned}
-use Rattle.swi_dispatch_plans.specs.ModulePlans.{clear_planned, delete_planned, reinit_planned, tidy_planned}
-use Rattle.swi_dispatch_plans.specs.store.Areas.{area_changed, change_asked}
+use Rattle.swi_dispatch_guest.specs.SwiDispatchAnswersWords.{host_string}
+use Rattle.swi_dispatch_guest.specs.ImagePlans.{instantiation_planned}
+use Rattle.swi_dispatch_guest.specs.ModulePlans.{clear_planned, delete_planned, reinit_planned, tidy_planned}
+use Rattle.swi_dispatch_guest.specs.Areas.{area_changed, change_asked}
 use Rattle.swi_dispatch_guest.specs.Additions.{Planned, copy_planned, insertion_planned, load_planned, named_load_planned}
 use Rattle.swi_dispatch_guest.specs.Calls.{with_guest}
 use Rattle.swi_dispatch_guest.specs.MachineState.{MachineState, machine_area_store, setting_of}

@@ -14,7 +14,7 @@ use Rattle.arm_core.specs.declared.psr.Mode.TheVariants.{Supervisor}
 use Rattle.arm_core.specs.declared.turn.StepEnd.TheVariants as turn
 use Rattle.arm_core.specs.State.{register_in, register_of}
 use Rattle.profile.specs.images.Entries.{Entry}
-use Rattle.swi_dispatch_answers.specs.Returns.{return_word}
+use Rattle.swi_dispatch_guest.specs.SwiDispatchAnswersReturns.{return_word}
 use Rattle.swi_dispatch_guest.specs.MachineState.{MachineState}
 use Rattle.swi_dispatch_guest.specs.Step.{outcome_of_call, result_of_instruction, machine_step, store_called, without_x}
 

@@ -9,11 +9,11 @@ use Rattle.arm_decode.specs.Fields.{condition_in}
 use Rattle.arm_decode.specs.declared.action.Action.{Action}
 use Rattle.arm_decode.specs.declared.action.Action.TheVariants as action
 use Rattle.arm_decode.specs.declared.condition.Condition.{Condition}
-use Rattle.arm_step.specs.Blocks.{transferred_count, block_start}
+use Rattle.swi_dispatch_guest.specs.ArmStepBlocks.{transferred_count, block_start}
 use Rattle.arm_core.specs.Conditions.{condition_holds}
 use Rattle.arm_core.specs.State.{State}
-use Rattle.arm_step.specs.Step.{result_of_step}
-use Rattle.arm_step.specs.Transfers.{transfer_address}
+use Rattle.swi_dispatch_guest.specs.ArmStepStep.{result_of_step}
+use Rattle.swi_dispatch_guest.specs.Transfers.{transfer_address}
 
 -- STRB stores one byte, and STR the word that its address lies in.
 abbrev pub is_stored_at : Bool → ℕ → ℕ → Bool

@@ -20,7 +20,7 @@ use Rattle.os_heap_words.specs.lists.Heap.{HeapList}
 use Rattle.os_heap_words.specs.lists.Lists.{live_total}
 use Rattle.os_heap.specs.Nesting.{IsWithin}
 use Rattle.os_heap.specs.Store.{Store, find_heap, is_in_flex_store, owned_in}
-use Rattle.swi_dispatch_plans.specs.ModulePlans.{tidy_planned}
+use Rattle.swi_dispatch_guest.specs.ModulePlans.{tidy_planned}
 use Rattle.swi_dispatch_guest.specs.Gates.{outcome_left}
 use Rattle.swi_dispatch_guest.specs.MachineState.{MachineState, setting_of}
 use Rattle.swi_dispatch_guest.specs.Step.{result_of_instruction, module_loaded}

@@ -7,7 +7,7 @@ use Rattle.profile.specs.declared.swi.SwiName.TheVariants as swi
 use Rattle.profile.specs.images.Entries.{Entry}
 use Rattle.flex_store.specs.Listed.{all_listed}
 use Rattle.flex_store.specs.declared.blocks.FlexBlock.{FlexBlock}
-use Rattle.swi_dispatch_plans.specs.flex_frame.Ground.{spelled_store}
+use Rattle.swi_dispatch_guest.specs.Ground.{spelled_store}
 use Rattle.swi_dispatch_guest.specs.MachineState.{MachineState}
 use Rattle.swi_dispatch_guest.specs.Step.{module_loaded}
 use Rattle.swi_dispatch_guest.specs.Moves.{Move, machine_after_event, swi_made}

@@ -11,8 +11,8 @@ use Rattle.arm_core.specs.State.{register_in}
 use Rattle.profile.specs.images.Entries.{Entry}
 use Rattle.instances_table.specs.plans.Code.{private_of}
 use Rattle.instances_table.specs.Modules.{Module}
-use Rattle.swi_dispatch_answers.specs.declared.frames.frame.Frame.{Frame}
-use Rattle.swi_dispatch_answers.specs.declared.frames.frame.FrameKind.TheVariants.{Swi}
+use Rattle.swi_dispatch_guest.specs.SwiDispatchAnswersFrame.{Frame}
+use Rattle.swi_dispatch_guest.specs.FrameKind.TheVariants.{Swi}
 use Rattle.swi_dispatch_guest.specs.MachineState.{MachineState}
 use Rattle.swi_dispatch_guest.specs.Step.{machine_step, outcome_of_call, result_of_instruction, without_x}
 

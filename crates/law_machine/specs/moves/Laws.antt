@@ -9,8 +9,8 @@ use Rattle.arm_core.specs.State.{register_of}
 use Rattle.arm_core.specs.declared.turn.StepEnd.TheVariants as turn
 use Rattle.profile.specs.images.Entries.{Entry}
 use Rattle.instances_table.specs.plans.Plans.{Plan}
-use Rattle.swi_dispatch_plans.specs.flex.Calls.{room_word_of}
-use Rattle.swi_dispatch_plans.specs.ModulePlans.{tidy_planned}
+use Rattle.swi_dispatch_guest.specs.SwiDispatchFlexCalls.{room_word_of}
+use Rattle.swi_dispatch_guest.specs.ModulePlans.{tidy_planned}
 use Rattle.swi_dispatch_guest.specs.MachineState.{MachineState, setting_of}
 use Rattle.swi_dispatch_guest.specs.Step.{result_of_instruction}
 use Rattle.swi_dispatch_guest.specs.Moves.{Call, Move, Step, core_of, machine_with_words, machine_after_event, swi_made}

@@ -3,7 +3,7 @@
 -- blocks lie one after another from the store's start is this project's own).
 use Rattle.std.specs.Prelude.{ℕ, ◌≡◌, ◌-◌, ◌⊎◌, true, Bool, Some, Ok}
 use Rattle.address_map.specs.Bytes.{in_range}
-use Rattle.swi_dispatch_plans.specs.flex_frame.Ground.{flex_state, store_flexed}
+use Rattle.swi_dispatch_guest.specs.Ground.{flex_state, store_flexed}
 use Rattle.flex_store.specs.Blocks.{FlexStore}
 use Rattle.flex_store.specs.Calls.{FlexState, end_in, header_place_in}
 use Rattle.flex_store.specs.Runs.{Alloc, Extend, FlexCall, MidExtend, Release}

@@ -18,19 +18,19 @@ use Rattle.arm_core.specs.State.{State, register_of}
 use Rattle.arm_core.specs.declared.turn.StepEnd.{StepEnd}
 use Rattle.arm_core.specs.declared.turn.StepEnd.TheVariants as turn
 use Rattle.profile.specs.images.Entries.{Entry}
-use Rattle.swi_dispatch_plans.specs.flex_frame.Ground.{spelled_store}
+use Rattle.swi_dispatch_guest.specs.Ground.{spelled_store}
 use Rattle.flex_store.specs.Blocks.{FlexStore}
 use Rattle.flex_store.specs.Runs.{Alloc, Extend, FlexCall, MidExtend, Release}
 use Rattle.flex_store.specs.declared.flex.Extent.{Extent}
 use Rattle.flex_store.specs.declared.flex.Flex.{Flex}
 use Rattle.instances_table.specs.plans.Plans.{Plan, plan_after_code}
 use Rattle.os_heap.specs.Store.{Store}
-use Rattle.swi_dispatch_answers.specs.declared.frames.frame.Frame.{Frame}
-use Rattle.swi_dispatch_answers.specs.frames.Frames.{innermost_frame}
-use Rattle.swi_dispatch_plans.specs.ImagePlans.{instantiation_planned}
-use Rattle.swi_dispatch_plans.specs.ModulePlans.{clear_planned, delete_planned, reinit_planned, tidy_planned}
-use Rattle.swi_dispatch_plans.specs.Openings.{opening_asked}
-use Rattle.swi_dispatch_plans.specs.declared.openings.Opening.{Opening}
+use Rattle.swi_dispatch_guest.specs.SwiDispatchAnswersFrame.{Frame}
+use Rattle.swi_dispatch_guest.specs.Frames.{innermost_frame}
+use Rattle.swi_dispatch_guest.specs.ImagePlans.{instantiation_planned}
+use Rattle.swi_dispatch_guest.specs.ModulePlans.{clear_planned, delete_planned, reinit_planned, tidy_planned}
+use Rattle.swi_dispatch_guest.specs.Openings.{opening_asked}
+use Rattle.swi_dispatch_guest.specs.Opening.{Opening}
 use Rattle.swi_dispatch_guest.specs.Additions.{Planned, copy_planned, insertion_planned, load_planned, named_load_planned, plan_alone}
 use Rattle.swi_dispatch_guest.specs.Errors.{error_number}
 use Rattle.swi_dispatch_guest.specs.Gates.{outcome_left}

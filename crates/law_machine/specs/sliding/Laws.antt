@@ -10,7 +10,7 @@ use Rattle.arm_core.specs.declared.turn.StepEnd.TheVariants as turn
 use Rattle.profile.specs.images.Entries.{Entry}
 use Rattle.instances_table.specs.declared.plans.code.Outcome.TheVariants.{Well, Refused}
 use Rattle.instances_table.specs.plans.Plans.{Plan}
-use Rattle.swi_dispatch_plans.specs.ModulePlans.{tidy_planned}
+use Rattle.swi_dispatch_guest.specs.ModulePlans.{tidy_planned}
 use Rattle.swi_dispatch_guest.specs.Gates.{outcome_left}
 use Rattle.swi_dispatch_guest.specs.MachineState.{MachineState, setting_of}
 use Rattle.swi_dispatch_guest.specs.GuestState.{IsGuest, GuestState, state_of}

@@ -3,7 +3,7 @@ use Rattle.std.specs.Prelude.{ℕ, ◌≡◌, Bool, true, false, Some, Ok, List,
 use Rattle.profile.specs.SwiNames.{swi_of}
 use Rattle.arm_core.specs.State.{register_of}
 use Rattle.profile.specs.images.Entries.{Entry}
-use Rattle.swi_dispatch_plans.specs.flex.Calls.{room_word_of}
+use Rattle.swi_dispatch_guest.specs.SwiDispatchFlexCalls.{room_word_of}
 use Rattle.swi_dispatch_guest.specs.MachineState.{MachineState}
 use Rattle.swi_dispatch_guest.specs.Step.{outcome_of_call}
 use Rattle.law_machine.specs.sliding_stores.Turning.{answer_of_turn}

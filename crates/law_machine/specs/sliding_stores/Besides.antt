@@ -3,7 +3,7 @@
 use Rattle.profile.specs.MemoryMap.{error_block_start}
 use Rattle.std.specs.Prelude.{ℕ, ◌≡◌, true, false}
 use Rattle.address_map.specs.Bytes.{Bytes, in_range}
-use Rattle.swi_dispatch_plans.specs.flex_frame.module_state.ModuleState.{private_word}
+use Rattle.swi_dispatch_guest.specs.ModuleState.{private_word}
 use Rattle.instances_table.specs.Changes.{is_slot_held}
 use Rattle.rma.specs.Calls.{with_store}
 use Rattle.law_machine.specs.sliding_stores.Meaning.{AreStores, Stores, meaning_of, store_in}

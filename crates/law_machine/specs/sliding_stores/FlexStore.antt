@@ -11,8 +11,8 @@ use Rattle.flex_store.specs.Memory.{AreAnchored, Holds, blocks_in, blocks_text_o
 use Rattle.flex_store.specs.State.{AreAnchorWords, AreInner, AreWhole, IsFlexRange, is_recorded}
 use Rattle.flex_store.specs.declared.flex.Extent.{Extent}
 use Rattle.flex_store.specs.declared.flex.Flex.{Flex}
-use Rattle.swi_dispatch_plans.specs.flex_frame.Ground.{records_with}
-use Rattle.swi_dispatch_plans.specs.flex_frame.module_state.Sound.{count_beside}
+use Rattle.swi_dispatch_guest.specs.Ground.{records_with}
+use Rattle.swi_dispatch_guest.specs.Sound.{count_beside}
 
 -- the blocks that the words from the store's start on spell
 abbrev pub spelled_blocks : Store → Extent → List Block

@@ -3,12 +3,12 @@
 use Rattle.std.specs.Prelude.{ℕ, ◌≡◌, ◌≤◌, length, List, [], ◌∷◌, map, Some}
 use Rattle.address_map.specs.declared.map.AddressMap.{AddressMap}
 use Rattle.dynamic_areas.specs.Areas.{AreaTable}
-use Rattle.swi_dispatch_plans.specs.flex_frame.Ground.{HasFlex}
+use Rattle.swi_dispatch_guest.specs.Ground.{HasFlex}
 use Rattle.flex_store.specs.declared.flex.Flex.{Flex}
 use Rattle.instances_table.specs.declared.parts.Image.{Image}
 use Rattle.instances_table.specs.Modules.{AreModules, Module}
-use Rattle.swi_dispatch_plans.specs.flex_frame.module_state.Sound.{IsModuleState}
-use Rattle.swi_dispatch_plans.specs.flex_frame.module_state.ModuleState.{private_word, module_state_of}
+use Rattle.swi_dispatch_guest.specs.Sound.{IsModuleState}
+use Rattle.swi_dispatch_guest.specs.ModuleState.{private_word, module_state_of}
 use Rattle.law_machine.specs.sliding_stores.Meaning.{AreStores, Stores, Value, meaning_of, store_in}
 use Rattle.law_machine.specs.sliding_stores.Rules.{IsTurned}
 use Rattle.law_machine.specs.sliding_stores.Turning.{AreAllowed, FlexOrSlide, answer_of_turn, anchor_place_of_turn, stores_after_step}

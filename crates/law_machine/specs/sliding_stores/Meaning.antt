@@ -14,15 +14,15 @@ use Rattle.os_heap_words.specs.lists.Heap.{HeapList}
 use Rattle.os_heap.specs.Store.{Store, find_heap, is_image}
 use Rattle.flex_store.specs.Laws.{contents_in}
 use Rattle.flex_store.specs.declared.flex.Flex.{Flex}
-use Rattle.swi_dispatch_plans.specs.flex_frame.Ground.{spelled_store}
+use Rattle.swi_dispatch_guest.specs.Ground.{spelled_store}
 use Rattle.law_machine.specs.flex.Numbered.{SeenBlock, blocks_seen}
 use Rattle.law_machine.specs.flex.Padding.{all_paddings}
 use Rattle.instances_table.specs.Changes.{is_slot_held}
 use Rattle.instances_table.specs.declared.parts.Image.{Image}
 use Rattle.instances_table.specs.Modules.{AreModules}
-use Rattle.swi_dispatch_plans.specs.flex_frame.module_state.Sound.{IsModuleState}
-use Rattle.swi_dispatch_plans.specs.flex_frame.module_state.ModuleState.{ModuleState, private_word}
-use Rattle.swi_dispatch_plans.specs.flex_frame.tidying.Laws.{AreBytes}
+use Rattle.swi_dispatch_guest.specs.Sound.{IsModuleState}
+use Rattle.swi_dispatch_guest.specs.ModuleState.{ModuleState, private_word}
+use Rattle.swi_dispatch_guest.specs.Laws.{AreBytes}
 use Rattle.law_machine.specs.sliding_stores.FlexStore.{HasFlexStore}
 
 -- A machine's memory with its areas and its modules, and where its flex store is; and the images

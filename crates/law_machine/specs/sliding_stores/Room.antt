@@ -6,7 +6,7 @@ use Rattle.os_heap.specs.Store.{Store}
 use Rattle.flex_store.specs.Blocks.{cut_of, more_of}
 use Rattle.flex_store.specs.Calls.{FlexState, flex_after_alloc, flex_after_extend, mid_extended}
 use Rattle.flex_store.specs.declared.flex.Extent.{Extent}
-use Rattle.swi_dispatch_plans.specs.flex_frame.Ground.{flex_state}
+use Rattle.swi_dispatch_guest.specs.Ground.{flex_state}
 use Rattle.law_machine.specs.sliding_stores.Meaning.{AreStores, Stores, contents_of, store_in}
 
 -- the bytes of the store's range, those of a block's header, and a number of bytes rounded up to a

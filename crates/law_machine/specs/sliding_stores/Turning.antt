@@ -4,7 +4,7 @@ use Rattle.std.specs.Prelude.{ℕ, ◌≡◌, Bool, true, List, [], ◌∷◌, O
 use Rattle.profile.specs.Outcome.{bind}
 use Rattle.profile.specs.declared.error.ErrorNumber.{ErrorNumber}
 use Rattle.os_heap.specs.Store.{Store}
-use Rattle.swi_dispatch_plans.specs.flex_frame.Ground.{flex_of, flex_state, store_flexed, with_flex_record}
+use Rattle.swi_dispatch_guest.specs.Ground.{flex_of, flex_state, store_flexed, with_flex_record}
 use Rattle.law_machine.specs.flex.Laws.{IsOfWords, anchor_of_call}
 use Rattle.law_machine.specs.flex.Numbered.{Anchor, Fixed, anchor_place_of}
 use Rattle.flex_store.specs.Blocks.{FlexStore}
@@ -13,7 +13,7 @@ use Rattle.flex_store.specs.Runs.{Alloc, Extend, FlexCall, MidExtend, Release}
 use Rattle.flex_store.specs.declared.flex.Flex.{Flex}
 use Rattle.rma.specs.Calls.{with_store}
 use Rattle.instances_table.specs.declared.parts.Image.{Image}
-use Rattle.swi_dispatch_plans.specs.flex_frame.tidying.Slid.{module_state_slid}
+use Rattle.swi_dispatch_guest.specs.Slid.{module_state_slid}
 use Rattle.law_machine.specs.sliding_stores.Meaning.{Stores, store_in}
 
 -- Flex_Init of the range from a start up to an end; another flex call; or a slide, in a call that

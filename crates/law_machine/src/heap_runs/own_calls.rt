@@ -8,7 +8,7 @@ ghost use Rattle.law_machine.specs.heap_runs.Moves.{written_reply_of};
 ghost use Rattle.swi_dispatch_guest.specs.GuestState.{state_of};
 
 use crate::heap_runs::moves::Reply;
-use arm_step::Cpu;
+use arm_core::Cpu;
 use profile::word::is_bit_set;
 use profile::{HeapReason, SwiName};
 use swi_dispatch_guest::Machine;

@@ -1,5 +1,5 @@
 -- The words of a heap written over other bytes.
-use Rattle.profile.specs.MemoryMap.{heap_name}
+use Rattle.address_map.specs.MemoryMap.{heap_name}
 use Rattle.std.proofs.Common.{arith, ◌/◌, ◌+◌, ◌≡◌, ℕ, ◌%◌, ◌<◌, ◌-◌, inl, ◌∙◌, sym, inr, ◌∷◌, [], List, ◌≤◌, refl, Bool, ap}
 use Rattle.std.proofs.lemmas.Bool.{cases_lt}
 use Rattle.std.proofs.lemmas.Bool.Decides.{nat_tests}

@@ -1,6 +1,6 @@
 -- The bytes of a live block are none of the words that its heap spells: they stay as they are where
 -- these are written.
-use Rattle.profile.specs.MemoryMap.{heap_name}
+use Rattle.address_map.specs.MemoryMap.{heap_name}
 use Rattle.std.proofs.Common.{List, ℕ, [], ◌∷◌, ◌≡◌, ◌==◌, ◌||◌, ◌+◌, ◌-◌, ◌%◌, ◌≤◌, ◌<◌, Some, true, false, refl, sym, ◌∙◌, inl, inr, arith}
 use Rattle.std.proofs.lemmas.Bool.{eqb-false, ne_eqb, or_parts, or_from, or_cases, and_parts, and_right, leb-true, ltb-true, le-leb, lt-ltb, le-ltb}
 use Rattle.address_map.proofs.Stores.{in_range-cases}

@@ -1,6 +1,6 @@
 -- A heap: where it starts, its end, and its list of items; and what it is for memory to spell it
 -- (RISC OS 3 Programmer's Reference Manual, "OS_Heap", the internal format).
-use Rattle.profile.specs.MemoryMap.{heap_name}
+use Rattle.address_map.specs.MemoryMap.{heap_name}
 use Rattle.std.specs.Prelude.{ℕ, List, ◌+◌, [], ◌∷◌, ◌-◌, ◌≡◌, true, Bool, false, ◌≤◌, ◌%◌}
 use Rattle.address_map.specs.Bytes.{AreMapped, Bytes, word_at, with_word_at}
 use Rattle.address_map.specs.Items.{is_total, size_of}

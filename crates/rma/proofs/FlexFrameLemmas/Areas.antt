@@ -6,10 +6,10 @@ use Rattle.std.proofs.lemmas.Bool.{and_parts, both_ways, cases_Bool, eqb-false, 
 use Rattle.std.specs.Prelude.{min, nat_lt, ok_or}
 use Rattle.profile.specs.Outcome.{bind}
 use Rattle.profile.specs.declared.error.ErrorNumber.TheVariants.{AreaInUse, AreaUnknown}
-use Rattle.address_map.proofs.Anchors.{none_among}
-use Rattle.address_map.specs.Bytes.{in_range}
-use Rattle.address_map.specs.declared.region.Region.{Region}
-use Rattle.os_heap_words.specs.lists.Heap.{HeapList}
+use Rattle.dynamic_areas.proofs.Anchors.{none_among}
+use Rattle.dynamic_areas.specs.Bytes.{in_range}
+use Rattle.dynamic_areas.specs.Region.{Region}
+use Rattle.dynamic_areas.specs.Heap.{HeapList}
 use Rattle.dynamic_areas.proofs.Apart.{range_parts}
 use Rattle.dynamic_areas.proofs.PayloadLists.{own_start}
 use Rattle.dynamic_areas.specs.Calls.{ending}

@@ -6,19 +6,19 @@ use Rattle.std.specs.Prelude.{IfOk, nat_le, nat_lt}
 use Rattle.profile.specs.Outcome.{Gives, bind}
 use Rattle.profile.specs.declared.error.ErrorNumber.{ErrorNumber}
 use Rattle.profile.specs.declared.error.ErrorNumber.TheVariants.{BlockHoldsHeap, HeapHoldsAnchor, HeapBadDesc, HeapBadRegion, HeapOverlaps, HeapTableFull, HeapNotABlock, HeapNoRoom, HeapBadShrink}
-use Rattle.address_map.specs.Records.{anchor_among}
-use Rattle.address_map.specs.Bytes.{Bytes, in_range, word_start}
-use Rattle.address_map.specs.Items.{is_heap_word, is_total, size_of}
-use Rattle.address_map.specs.declared.item.Item.{Item}
-use Rattle.address_map.specs.declared.region.Kind.{Kind}
-use Rattle.address_map.specs.declared.region.Kind.TheVariants as kind
-use Rattle.os_heap_words.proofs.ListsLemmas.LiveBlocks.{LiveBytes, law_live_bytes, live_apart}
-use Rattle.os_heap_words.proofs.ListsLemmas.Payloads.{heap_beside, payload_unspelled, spelled_inside}
-use Rattle.os_heap_words.proofs.ListsLemmas.Reading.{total_facts}
-use Rattle.os_heap_words.proofs.ListsLemmas.Spelling.{total_of-numbers}
-use Rattle.os_heap_words.specs.lists.Heap.{AreTotals, HeapList, IsHeapIn, with_heap}
-use Rattle.os_heap_words.specs.lists.Lists.{Claim, changed_by, claim_in_items, live_total, items_after_release, resized_in_place, round_up_8, total_for}
-use Rattle.os_heap_words.specs.lists.Marks.{spells_any}
+use Rattle.dynamic_areas.specs.Records.{anchor_among}
+use Rattle.dynamic_areas.specs.Bytes.{Bytes, in_range, word_start}
+use Rattle.dynamic_areas.specs.Items.{is_heap_word, is_total, size_of}
+use Rattle.dynamic_areas.specs.Item.{Item}
+use Rattle.dynamic_areas.specs.Kind.{Kind}
+use Rattle.dynamic_areas.specs.Kind.TheVariants as kind
+use Rattle.dynamic_areas.proofs.LiveBlocks.{LiveBytes, law_live_bytes, live_apart}
+use Rattle.dynamic_areas.proofs.Payloads.{heap_beside, payload_unspelled, spelled_inside}
+use Rattle.dynamic_areas.proofs.Reading.{total_facts}
+use Rattle.dynamic_areas.proofs.Spelling.{total_of-numbers}
+use Rattle.dynamic_areas.specs.Heap.{AreTotals, HeapList, IsHeapIn, with_heap}
+use Rattle.dynamic_areas.specs.OsHeapWordsLists.{Claim, changed_by, claim_in_items, live_total, items_after_release, resized_in_place, round_up_8, total_for}
+use Rattle.dynamic_areas.specs.Marks.{spells_any}
 use Rattle.dynamic_areas.proofs.RangeTests.{can_hold}
 use Rattle.dynamic_areas.proofs.Anchored.{IsPlacedBy, header_outside, place_in}
 use Rattle.dynamic_areas.proofs.Apart.{range_parts}

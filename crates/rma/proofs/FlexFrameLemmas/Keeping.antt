@@ -1,8 +1,8 @@
 -- Calls one after another keep the flex store as each does.
 use Rattle.std.proofs.Common.{ℕ, ◌≡◌, ◌&&◌, ◌||◌, ◌∙◌, Bool, false, List, [], ◌∷◌, refl, sym, ap, subst, inl, inr}
 use Rattle.std.proofs.lemmas.Bool.{cases_Bool, false_from_ne_true}
-use Rattle.address_map.specs.Bytes.{in_range}
-use Rattle.address_map.specs.declared.region.Region.{Region}
+use Rattle.dynamic_areas.specs.Bytes.{in_range}
+use Rattle.dynamic_areas.specs.Region.{Region}
 use Rattle.dynamic_areas.proofs.Anchored.{not_flex}
 use Rattle.dynamic_areas.specs.Store.{Store, is_flex_store, is_image, is_in_flex_store}
 use Rattle.rma.specs.flex_frame.Keeping.{IsFlexKept, KeepsFlex, beside_images, is_flex_byte}

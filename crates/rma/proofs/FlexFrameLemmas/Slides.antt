@@ -3,19 +3,19 @@
 use Rattle.profile.specs.MemoryMap.{module_area_start}
 use Rattle.std.proofs.Common.{ℕ, Bool, List, [], ◌∷◌, ◌≡◌, ◌≤◌, ◌<◌, ◌+◌, ◌-◌, ◌∙◌, true, false, refl, sym, ap, subst, inl, inr, Option, Some, None, length, arith, not, ◌&&◌, ◌⊎◌}
 use Rattle.std.proofs.lemmas.Bool.{both_ways, cases_Bool, cases_eq, false_from_ne_true, false≢true, le-leb, lt-ltb, or_cases, or_from, or_parts, and_parts}
-use Rattle.address_map.proofs.Anchors.{none_among}
-use Rattle.address_map.proofs.Stores.{in_range-cases}
-use Rattle.address_map.specs.Bytes.{Bytes, in_range, word_start}
-use Rattle.address_map.specs.Items.{is_heap_word}
-use Rattle.address_map.specs.Moves.{moved_place, moved_regions, moved_to}
-use Rattle.address_map.specs.Records.{anchor_among}
-use Rattle.address_map.specs.declared.follow.BlockMove.{BlockMove}
-use Rattle.address_map.specs.declared.region.Kind.{Kind}
-use Rattle.address_map.specs.declared.region.Kind.TheVariants as kind
-use Rattle.address_map.specs.declared.region.Region.{Region}
-use Rattle.os_heap_words.proofs.ListsLemmas.Payloads.{heap_beside, spelled_inside}
-use Rattle.os_heap_words.specs.lists.Heap.{HeapList, IsHeapIn}
-use Rattle.os_heap_words.specs.lists.Lists.{live_total}
+use Rattle.dynamic_areas.proofs.Anchors.{none_among}
+use Rattle.dynamic_areas.proofs.AddressMapStores.{in_range-cases}
+use Rattle.dynamic_areas.specs.Bytes.{Bytes, in_range, word_start}
+use Rattle.dynamic_areas.specs.Items.{is_heap_word}
+use Rattle.dynamic_areas.specs.Moves.{moved_place, moved_regions, moved_to}
+use Rattle.dynamic_areas.specs.Records.{anchor_among}
+use Rattle.dynamic_areas.specs.BlockMove.{BlockMove}
+use Rattle.dynamic_areas.specs.Kind.{Kind}
+use Rattle.dynamic_areas.specs.Kind.TheVariants as kind
+use Rattle.dynamic_areas.specs.Region.{Region}
+use Rattle.dynamic_areas.proofs.Payloads.{heap_beside, spelled_inside}
+use Rattle.dynamic_areas.specs.Heap.{HeapList, IsHeapIn}
+use Rattle.dynamic_areas.specs.OsHeapWordsLists.{live_total}
 use Rattle.dynamic_areas.proofs.Anchored.{header_outside, place_in}
 use Rattle.dynamic_areas.proofs.Apart.{block_inside, one_block, range_parts}
 use Rattle.dynamic_areas.proofs.Found.{found_heap, found_start}

@@ -3,16 +3,16 @@
 use Rattle.profile.specs.MemoryMap.{module_area_start, system_start}
 use Rattle.std.proofs.Common.{ℕ, Bool, not, ◌≡◌, ◌≤◌, ◌<◌, ◌+◌, ◌-◌, ◌==◌, ◌&&◌, true, false, Option, Some, None, List, [], ◌∷◌, ◌++◌, refl, ap, subst, ◌∙◌, inl, inr, arith}
 use Rattle.std.proofs.lemmas.Bool.{and_parts, both_ways, cases_Bool, false_from_ne_true, false≢true, le-leb, lt-ltb, or_cases, or_from, or_parts}
-use Rattle.address_map.proofs.Anchors.{none_among}
-use Rattle.address_map.specs.Bytes.{Bytes, in_range}
-use Rattle.address_map.specs.Items.{size_of}
-use Rattle.address_map.specs.Records.{anchor_among, are_same, is_record, without_region}
-use Rattle.address_map.specs.declared.region.Kind.{Kind}
-use Rattle.address_map.specs.declared.region.Kind.TheVariants as kind
-use Rattle.address_map.specs.declared.region.Region.{Region}
-use Rattle.os_heap_words.proofs.ListsLemmas.LiveBlocks.{LiveBytes, law_live_bytes}
-use Rattle.os_heap_words.specs.lists.Heap.{HeapList, IsHeapIn}
-use Rattle.os_heap_words.specs.lists.Lists.{live_total}
+use Rattle.dynamic_areas.proofs.Anchors.{none_among}
+use Rattle.dynamic_areas.specs.Bytes.{Bytes, in_range}
+use Rattle.dynamic_areas.specs.Items.{size_of}
+use Rattle.dynamic_areas.specs.Records.{anchor_among, are_same, is_record, without_region}
+use Rattle.dynamic_areas.specs.Kind.{Kind}
+use Rattle.dynamic_areas.specs.Kind.TheVariants as kind
+use Rattle.dynamic_areas.specs.Region.{Region}
+use Rattle.dynamic_areas.proofs.LiveBlocks.{LiveBytes, law_live_bytes}
+use Rattle.dynamic_areas.specs.Heap.{HeapList, IsHeapIn}
+use Rattle.dynamic_areas.specs.OsHeapWordsLists.{live_total}
 use Rattle.dynamic_areas.proofs.Anchored.{header_outside}
 use Rattle.dynamic_areas.proofs.Apart.{range_parts}
 use Rattle.dynamic_areas.proofs.Found.{found_heap}

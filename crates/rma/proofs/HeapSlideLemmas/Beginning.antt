@@ -1,13 +1,13 @@
 -- A heap that was made one without items, whose bytes are as they were.
 use Rattle.std.proofs.Common.{List, ℕ, [], ◌≡◌, ◌≤◌, ◌+◌, ◌-◌, ◌∙◌, refl, sym, ap, add-zero, inl, inr, arith, length}
-use Rattle.address_map.proofs.Bytes.{is_mapped-layout}
-use Rattle.address_map.specs.Memory.{byte_at, bytes_of, class_of, layout}
-use Rattle.address_map.specs.declared.class.Class.{Class}
-use Rattle.address_map.specs.declared.map.AddressMap.{AddressMap}
-use Rattle.os_heap_words.proofs.ListsLemmas.LastLink.{link_of-heap, replaced}
-use Rattle.os_heap_words.specs.lists.Heap.{IsHeapIn, next_free}
-use Rattle.os_heap_words.specs.lists.Words.{IsWordWritten, link_at}
-use Rattle.os_heap_words.specs.Outcomes.{end_at, HasHeapAt, items_at}
+use Rattle.dynamic_areas.proofs.Bytes.{is_mapped-layout}
+use Rattle.dynamic_areas.specs.Memory.{byte_at, bytes_of, class_of, layout}
+use Rattle.dynamic_areas.specs.Class.{Class}
+use Rattle.dynamic_areas.specs.AddressMap.{AddressMap}
+use Rattle.dynamic_areas.proofs.LastLink.{link_of-heap, replaced}
+use Rattle.dynamic_areas.specs.Heap.{IsHeapIn, next_free}
+use Rattle.dynamic_areas.specs.Words.{IsWordWritten, link_at}
+use Rattle.dynamic_areas.specs.Outcomes.{end_at, HasHeapAt, items_at}
 use Rattle.rma.proofs.HeapSlideLemmas.Laying.{IsRead, read}
 use Rattle.rma.specs.heap_slide.Slide.{AreBlocks}
 use Rattle.rma.specs.heap_slide.Steps.{IsSliding}

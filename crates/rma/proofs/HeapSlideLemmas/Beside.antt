@@ -1,18 +1,18 @@
 -- The heaps beside the one whose blocks slide: memory spells each of them as it did.
 use Rattle.std.proofs.Common.{List, ℕ, [], ◌∷◌, ◌≡◌, ◌≢◌, ◌≤◌, ◌<◌, ◌⊎◌, ◌+◌, ◌-◌, Option, Some, false, refl, sym, ap, subst, inl, inr, arith}
 use Rattle.std.proofs.lemmas.Bool.{both_ways, cases_Bool, eq-eqb, false_from_ne_true, ne_eqb, or_parts}
-use Rattle.address_map.proofs.Stores.{in_range-cases}
-use Rattle.address_map.specs.Bytes.{Bytes, in_range, word_at, word_start}
-use Rattle.address_map.specs.Items.{is_heap_word, items_in}
-use Rattle.address_map.specs.Moves.{moved_to}
-use Rattle.address_map.specs.Records.{is_heap_kind}
-use Rattle.address_map.specs.declared.item.Item.{Item}
-use Rattle.address_map.specs.declared.region.Region.{Region}
-use Rattle.os_heap_words.proofs.ListsLemmas.HeadWords.{law_heap_frame}
-use Rattle.os_heap_words.proofs.ListsLemmas.HeapWords.{cons_part, heap_kept}
-use Rattle.os_heap_words.proofs.ListsLemmas.Reading.{items_in-heap}
-use Rattle.os_heap_words.specs.lists.Heap.{AreTotals, HeapList, IsHeapIn}
-use Rattle.os_heap_words.specs.lists.Lists.{live_total}
+use Rattle.dynamic_areas.proofs.AddressMapStores.{in_range-cases}
+use Rattle.dynamic_areas.specs.Bytes.{Bytes, in_range, word_at, word_start}
+use Rattle.dynamic_areas.specs.Items.{is_heap_word, items_in}
+use Rattle.dynamic_areas.specs.Moves.{moved_to}
+use Rattle.dynamic_areas.specs.Records.{is_heap_kind}
+use Rattle.dynamic_areas.specs.Item.{Item}
+use Rattle.dynamic_areas.specs.Region.{Region}
+use Rattle.dynamic_areas.proofs.HeadWords.{law_heap_frame}
+use Rattle.dynamic_areas.proofs.HeapWords.{cons_part, heap_kept}
+use Rattle.dynamic_areas.proofs.Reading.{items_in-heap}
+use Rattle.dynamic_areas.specs.Heap.{AreTotals, HeapList, IsHeapIn}
+use Rattle.dynamic_areas.specs.OsHeapWordsLists.{live_total}
 use Rattle.dynamic_areas.proofs.Forgetting.{StartsIn, so_starts}
 use Rattle.dynamic_areas.proofs.Nesting.{KeepsHeaps, listed, within_unspelled}
 use Rattle.dynamic_areas.proofs.Stores.{AreOthers, clear_both_ways, own_held, stand_held}

@@ -2,33 +2,33 @@
 use Rattle.std.proofs.Common.{List, ℕ, Bool, [], ◌∷◌, ◌≡◌, ◌≤◌, ◌+◌, ◌-◌, ◌∙◌, ◌&&◌, true, false, refl, sym, ap, subst, inl, inr, Some, None, Option, is_some, length, arith}
 use Rattle.std.proofs.lemmas.Bool.{and_parts, both_ways, cases_Bool, false≢true, or_left, or_right}
 use Rattle.std.proofs.lemmas.List.{length-map}
-use Rattle.address_map.proofs.Bytes.{byte_at-lt, is_mapped-layout}
-use Rattle.address_map.proofs.Stores.{in_range-cases}
-use Rattle.address_map.specs.Bytes.{Bytes, in_range, word_start}
-use Rattle.address_map.specs.Classes.{is_heap_class}
-use Rattle.address_map.specs.Memory.{anchor_of, byte_at, bytes_of, class_of, is_mapped, mapping, regions}
-use Rattle.address_map.proofs.Anchors.{none_among}
-use Rattle.address_map.specs.Moves.{AreDown, moved_place, moved_region, moved_regions, moved_to}
-use Rattle.address_map.specs.Records.{anchor_among}
-use Rattle.address_map.specs.declared.region.Kind.{Kind}
-use Rattle.address_map.specs.declared.region.Kind.TheVariants as kind
-use Rattle.os_heap_words.specs.lists.Lists.{live_total}
-use Rattle.address_map.specs.declared.class.Class.{Class}
-use Rattle.address_map.specs.declared.follow.BlockMove.{BlockMove}
-use Rattle.address_map.specs.declared.item.Item.{Item}
-use Rattle.address_map.specs.declared.map.AddressMap.{AddressMap}
-use Rattle.address_map.specs.declared.region.Region.{Region}
-use Rattle.os_heap_words.proofs.ListsLemmas.HeapWords.{outside_before, outside_past, part_back}
-use Rattle.os_heap_words.specs.lists.Heap.{AreTotals, HeapList, IsHeapIn, with_heap}
-use Rattle.os_heap_words.specs.lists.Marks.{Remarks, spells_any}
-use Rattle.os_heap_words.specs.lists.Words.{AreApart, IsOutside}
+use Rattle.dynamic_areas.proofs.Bytes.{byte_at-lt, is_mapped-layout}
+use Rattle.dynamic_areas.proofs.AddressMapStores.{in_range-cases}
+use Rattle.dynamic_areas.specs.Bytes.{Bytes, in_range, word_start}
+use Rattle.dynamic_areas.specs.Classes.{is_heap_class}
+use Rattle.dynamic_areas.specs.Memory.{anchor_of, byte_at, bytes_of, class_of, is_mapped, mapping, regions}
+use Rattle.dynamic_areas.proofs.Anchors.{none_among}
+use Rattle.dynamic_areas.specs.Moves.{AreDown, moved_place, moved_region, moved_regions, moved_to}
+use Rattle.dynamic_areas.specs.Records.{anchor_among}
+use Rattle.dynamic_areas.specs.Kind.{Kind}
+use Rattle.dynamic_areas.specs.Kind.TheVariants as kind
+use Rattle.dynamic_areas.specs.OsHeapWordsLists.{live_total}
+use Rattle.dynamic_areas.specs.Class.{Class}
+use Rattle.dynamic_areas.specs.BlockMove.{BlockMove}
+use Rattle.dynamic_areas.specs.Item.{Item}
+use Rattle.dynamic_areas.specs.AddressMap.{AddressMap}
+use Rattle.dynamic_areas.specs.Region.{Region}
+use Rattle.dynamic_areas.proofs.HeapWords.{outside_before, outside_past, part_back}
+use Rattle.dynamic_areas.specs.Heap.{AreTotals, HeapList, IsHeapIn, with_heap}
+use Rattle.dynamic_areas.specs.Marks.{Remarks, spells_any}
+use Rattle.dynamic_areas.specs.Words.{AreApart, IsOutside}
 use Rattle.dynamic_areas.proofs.Found.{found_heap, found_start}
 use Rattle.dynamic_areas.proofs.Anchored.{KeepsAnchors, heads_unflexed, place_held}
 use Rattle.dynamic_areas.proofs.FlexWords.{AreSameFlex, flex_held, flex_on, same_flex}
 use Rattle.dynamic_areas.proofs.Held.{heads_marked, marks_held}
 use Rattle.dynamic_areas.proofs.Stores.{are_others, AreOthers, layout-regions, places-held, same_limits}
 use Rattle.dynamic_areas.specs.Calls.{OfHeap, holds_anchor, heaps_with_items}
-use Rattle.os_heap_words.specs.Outcomes.{end_at, HasHeapAt, items_at}
+use Rattle.dynamic_areas.specs.Outcomes.{end_at, HasHeapAt, items_at}
 use Rattle.dynamic_areas.specs.Store.{AreClasses, AreHeapsIn, find_heap, heaps_in, IsSound, is_flex_store, is_in_flex_store, others_in, store_of}
 use Rattle.rma.proofs.HeapSlideLemmas.Beside.{AreBeside, heaps_beside, heaps_stay, KeepsBytes, parts_beside, read_beside}
 use Rattle.rma.proofs.HeapSlideLemmas.KeptBlocks.{bytes_fixed}

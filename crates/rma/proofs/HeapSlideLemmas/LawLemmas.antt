@@ -2,17 +2,17 @@
 use Rattle.std.proofs.Common.{List, ℕ, Bool, [], ◌∷◌, ◌++◌, ◌≡◌, ◌≤◌, ◌+◌, ◌-◌, ◌*◌, ◌/◌, ◌%◌, ◌==◌, ◌∙◌, true, false, refl, inl, inr, zero-add, arith}
 use Rattle.std.proofs.lemmas.Bool.{cases_Bool, eq-eqb, le-leb}
 use Rattle.std.proofs.lemmas.Bool.Decides.{nat_tests}
-use Rattle.address_map.proofs.Moving.{moved_in}
-use Rattle.address_map.specs.Bytes.{with_moved_at}
-use Rattle.address_map.specs.Items.{is_total, size_of}
-use Rattle.address_map.specs.declared.item.Item.{Item}
-use Rattle.address_map.specs.declared.item.Item.TheVariants.{Free, Live}
-use Rattle.os_heap_words.proofs.ListsLemmas.ItemWalk.{size_of-old}
-use Rattle.os_heap_words.proofs.ListsLemmas.Reading.{total_facts}
-use Rattle.os_heap_words.proofs.ListsLemmas.Spelling.{size_of-multiple, total_of-numbers}
-use Rattle.os_heap_words.specs.lists.Counts.{all_free, free_count, free_total, largest_block, largest_free}
-use Rattle.os_heap_words.specs.lists.Heap.{AreSpaced, AreTotals}
-use Rattle.os_heap_words.specs.lists.Lists.{left_free}
+use Rattle.dynamic_areas.proofs.AddressMapMoving.{moved_in}
+use Rattle.dynamic_areas.specs.Bytes.{with_moved_at}
+use Rattle.dynamic_areas.specs.Items.{is_total, size_of}
+use Rattle.dynamic_areas.specs.Item.{Item}
+use Rattle.dynamic_areas.specs.Item.TheVariants.{Free, Live}
+use Rattle.dynamic_areas.proofs.ItemWalk.{size_of-old}
+use Rattle.dynamic_areas.proofs.Reading.{total_facts}
+use Rattle.dynamic_areas.proofs.Spelling.{size_of-multiple, total_of-numbers}
+use Rattle.dynamic_areas.specs.Counts.{all_free, free_count, free_total, largest_block, largest_free}
+use Rattle.dynamic_areas.specs.Heap.{AreSpaced, AreTotals}
+use Rattle.dynamic_areas.specs.OsHeapWordsLists.{left_free}
 use Rattle.dynamic_areas.proofs.Moving.{found_held}
 use Rattle.dynamic_areas.specs.Calls.{heap_description}
 use Rattle.rma.proofs.HeapSlideLemmas.Laying.{moved_past}

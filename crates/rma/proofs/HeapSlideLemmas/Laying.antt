@@ -1,20 +1,20 @@
 -- A block that is copied to its new place, and laid there.
 use Rattle.std.proofs.Common.{List, ℕ, Bool, ◌≡◌, ◌≤◌, ◌<◌, ◌+◌, ◌-◌, ◌%◌, ◌∙◌, true, false, refl, inl, inr, arith, cond}
 use Rattle.std.proofs.lemmas.Bool.{and_parts, le-leb, leb-true, lt-leb, le-ltb, ltb-true, or_cases}
-use Rattle.address_map.proofs.Bytes.{is_mapped-layout}
-use Rattle.address_map.specs.Bytes.{Bytes, in_range, with_moved_at, word_start}
-use Rattle.address_map.specs.Items.{is_head, is_head_of, size_of}
-use Rattle.address_map.specs.Memory.{byte_at, bytes_of, class_of, layout}
-use Rattle.address_map.specs.declared.class.Class.{Class}
-use Rattle.address_map.specs.declared.class.Class.TheVariants as class
-use Rattle.address_map.specs.declared.item.Item.{Item}
-use Rattle.address_map.specs.declared.item.Item.TheVariants.{Live}
-use Rattle.address_map.specs.declared.map.AddressMap.{AddressMap}
-use Rattle.os_heap_words.proofs.ListsLemmas.HeadWords.{head_inside, law_heap_frame}
-use Rattle.os_heap_words.proofs.ListsLemmas.Reading.{items_in-heap}
-use Rattle.os_heap_words.specs.lists.Heap.{IsHeapIn}
-use Rattle.os_heap_words.specs.lists.Marks.{head_class, class_after_marking, with_item_marked}
-use Rattle.os_heap_words.specs.Outcomes.{end_at, HasHeapAt, items_at}
+use Rattle.dynamic_areas.proofs.Bytes.{is_mapped-layout}
+use Rattle.dynamic_areas.specs.Bytes.{Bytes, in_range, with_moved_at, word_start}
+use Rattle.dynamic_areas.specs.Items.{is_head, is_head_of, size_of}
+use Rattle.dynamic_areas.specs.Memory.{byte_at, bytes_of, class_of, layout}
+use Rattle.dynamic_areas.specs.Class.{Class}
+use Rattle.dynamic_areas.specs.Class.TheVariants as class
+use Rattle.dynamic_areas.specs.Item.{Item}
+use Rattle.dynamic_areas.specs.Item.TheVariants.{Live}
+use Rattle.dynamic_areas.specs.AddressMap.{AddressMap}
+use Rattle.dynamic_areas.proofs.HeadWords.{head_inside, law_heap_frame}
+use Rattle.dynamic_areas.proofs.Reading.{items_in-heap}
+use Rattle.dynamic_areas.specs.Heap.{IsHeapIn}
+use Rattle.dynamic_areas.specs.Marks.{head_class, class_after_marking, with_item_marked}
+use Rattle.dynamic_areas.specs.Outcomes.{end_at, HasHeapAt, items_at}
 use Rattle.rma.specs.heap_slide.Steps.{IsLaid, IsRoomForBlock, IsSetDown, items_laid_last}
 
 -- bytes that a copy leaves alone

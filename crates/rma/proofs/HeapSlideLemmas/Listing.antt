@@ -2,11 +2,11 @@
 use Rattle.std.proofs.Common.{List, ℕ, [], ◌∷◌, ◌++◌, ◌≡◌, ◌≢◌, ◌≤◌, ◌<◌, ◌+◌, ◌==◌, ◌∙◌, false, refl, sym, inl, inr, arith, length}
 use Rattle.std.proofs.lemmas.List.{length-append}
 use Rattle.std.proofs.lemmas.Bool.{cases_Bool, eqb-true, eq-eqb, ne_eqb}
-use Rattle.address_map.specs.declared.follow.BlockMove.{BlockMove}
-use Rattle.address_map.specs.declared.item.Item.{Item}
-use Rattle.address_map.specs.declared.item.Item.TheVariants.{Free, Live}
-use Rattle.os_heap_words.proofs.ListsLemmas.Reading.{total_facts}
-use Rattle.os_heap_words.specs.lists.Heap.{AreTotals}
+use Rattle.dynamic_areas.specs.BlockMove.{BlockMove}
+use Rattle.dynamic_areas.specs.Item.{Item}
+use Rattle.dynamic_areas.specs.Item.TheVariants.{Free, Live}
+use Rattle.dynamic_areas.proofs.Reading.{total_facts}
+use Rattle.dynamic_areas.specs.Heap.{AreTotals}
 use Rattle.rma.specs.heap_slide.Slide.{AreBlocks, begins, is_listed, move_of, item_place_after, without_first_block}
 
 -- an address that is not the first is listed after it

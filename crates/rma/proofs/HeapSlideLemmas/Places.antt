@@ -2,16 +2,16 @@
 -- items' range.
 use Rattle.std.proofs.Common.{List, ℕ, Bool, [], ◌∷◌, ◌++◌, ◌≡◌, ◌≢◌, ◌≤◌, ◌<◌, ◌+◌, ◌-◌, ◌%◌, ◌==◌, ◌∙◌, true, false, refl, sym, ap, inl, inr, Some, None, arith}
 use Rattle.std.proofs.lemmas.Bool.{cases_Bool, cases_eq, cases_lt, eqb-true, eq-eqb, ne_eqb}
-use Rattle.address_map.specs.Bytes.{with_moved_at}
-use Rattle.address_map.specs.Items.{size_of}
-use Rattle.address_map.specs.Moves.{AreDown, moved_to}
-use Rattle.address_map.specs.declared.follow.BlockMove.{BlockMove}
-use Rattle.address_map.specs.declared.item.Item.{Item}
-use Rattle.address_map.specs.declared.item.Item.TheVariants.{Free, Live}
-use Rattle.os_heap_words.proofs.ListsLemmas.LinkWalk.{live_low}
-use Rattle.os_heap_words.proofs.ListsLemmas.Reading.{total_facts}
-use Rattle.os_heap_words.specs.lists.Heap.{AreTotals}
-use Rattle.os_heap_words.specs.lists.Lists.{left_free, live_total}
+use Rattle.dynamic_areas.specs.Bytes.{with_moved_at}
+use Rattle.dynamic_areas.specs.Items.{size_of}
+use Rattle.dynamic_areas.specs.Moves.{AreDown, moved_to}
+use Rattle.dynamic_areas.specs.BlockMove.{BlockMove}
+use Rattle.dynamic_areas.specs.Item.{Item}
+use Rattle.dynamic_areas.specs.Item.TheVariants.{Free, Live}
+use Rattle.dynamic_areas.proofs.LinkWalk.{live_low}
+use Rattle.dynamic_areas.proofs.Reading.{total_facts}
+use Rattle.dynamic_areas.specs.Heap.{AreTotals}
+use Rattle.dynamic_areas.specs.OsHeapWordsLists.{left_free, live_total}
 use Rattle.rma.proofs.HeapSlideLemmas.Laying.{moved_below, moved_past}
 use Rattle.rma.specs.heap_slide.Slide.{move_of, moves_of, item_place_after, slid, slid_bytes}
 

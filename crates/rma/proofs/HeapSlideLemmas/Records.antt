@@ -1,20 +1,20 @@
 -- The records of images follow their blocks, and those of other ranges stay.
 use Rattle.std.proofs.Common.{List, ℕ, Bool, [], ◌∷◌, ◌≡◌, ◌≢◌, ◌≤◌, ◌<◌, ◌⊎◌, ◌+◌, ◌∙◌, true, false, refl, sym, ap, subst, inl, inr, Some, arith}
 use Rattle.std.proofs.lemmas.Bool.{both_ways, cases_Bool, cases_eq, eq-eqb, ne_eqb, false≢true}
-use Rattle.address_map.proofs.InRange.{range_inside}
-use Rattle.address_map.proofs.Stores.{in_range-cases}
-use Rattle.address_map.specs.Bytes.{Bytes, in_range}
-use Rattle.address_map.specs.Items.{size_of}
-use Rattle.address_map.specs.Moves.{moved_place, moved_region, moved_regions, moved_to}
-use Rattle.address_map.specs.Records.{is_heap_kind}
-use Rattle.address_map.specs.declared.follow.BlockMove.{BlockMove}
-use Rattle.address_map.specs.declared.item.Item.{Item}
-use Rattle.address_map.specs.declared.region.Kind.{Kind}
-use Rattle.address_map.specs.declared.region.Kind.TheVariants as kind
-use Rattle.address_map.specs.declared.region.Region.{Region}
-use Rattle.os_heap_words.proofs.ListsLemmas.LiveBlocks.{LiveBytes, live_apart, law_live_bytes}
-use Rattle.os_heap_words.specs.lists.Heap.{HeapList, IsHeapIn}
-use Rattle.os_heap_words.specs.lists.Lists.{live_total}
+use Rattle.dynamic_areas.proofs.InRange.{range_inside}
+use Rattle.dynamic_areas.proofs.AddressMapStores.{in_range-cases}
+use Rattle.dynamic_areas.specs.Bytes.{Bytes, in_range}
+use Rattle.dynamic_areas.specs.Items.{size_of}
+use Rattle.dynamic_areas.specs.Moves.{moved_place, moved_region, moved_regions, moved_to}
+use Rattle.dynamic_areas.specs.Records.{is_heap_kind}
+use Rattle.dynamic_areas.specs.BlockMove.{BlockMove}
+use Rattle.dynamic_areas.specs.Item.{Item}
+use Rattle.dynamic_areas.specs.Kind.{Kind}
+use Rattle.dynamic_areas.specs.Kind.TheVariants as kind
+use Rattle.dynamic_areas.specs.Region.{Region}
+use Rattle.dynamic_areas.proofs.LiveBlocks.{LiveBytes, live_apart, law_live_bytes}
+use Rattle.dynamic_areas.specs.Heap.{HeapList, IsHeapIn}
+use Rattle.dynamic_areas.specs.OsHeapWordsLists.{live_total}
 use Rattle.dynamic_areas.proofs.Apart.{range_parts}
 use Rattle.dynamic_areas.proofs.Nesting.{clear_turned, listed}
 use Rattle.dynamic_areas.proofs.Stores.{AreOthers, placed_by}

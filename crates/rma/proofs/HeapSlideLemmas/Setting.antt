@@ -1,22 +1,22 @@
 -- Items laid at the end of a heap's list: a block, and a free item before it where there is a gap.
 use Rattle.std.proofs.Common.{List, ℕ, [], ◌∷◌, ◌++◌, ◌≡◌, ◌≢◌, ◌≤◌, ◌<◌, ◌+◌, ◌-◌, ◌%◌, ◌^◌, ◌∙◌, true, refl, subst, inl, inr, append-nil, arith}
 use Rattle.std.proofs.lemmas.Bool.{eq-eqb, ne_eqb}
-use Rattle.address_map.proofs.Bytes.{is_mapped-layout}
-use Rattle.address_map.specs.Items.{is_total, size_of}
-use Rattle.address_map.specs.Memory.{byte_at, bytes_of, class_of, is_mapped, layout}
-use Rattle.address_map.specs.declared.item.Item.{Item}
-use Rattle.address_map.specs.declared.item.Item.TheVariants.{Free, Live}
-use Rattle.address_map.specs.declared.map.AddressMap.{AddressMap}
-use Rattle.os_heap_words.proofs.ListsLemmas.LastLink.{LinkFacts, link_facts}
-use Rattle.os_heap_words.proofs.ListsLemmas.Marks.{remarked}
-use Rattle.os_heap_words.proofs.ListsLemmas.Reading.{total_facts}
-use Rattle.os_heap_words.proofs.ListsLemmas.Spelling.{size_of-append, size_of-multiple, spaced-join, total_of-numbers, totals-front}
-use Rattle.os_heap_words.specs.lists.Heap.{AreSpaced, AreTotals, IsHeapIn, last_free}
-use Rattle.os_heap_words.specs.lists.Marks.{Remarks}
-use Rattle.os_heap_words.specs.lists.Words.{IsFreed, IsWordWritten, link_at}
-use Rattle.os_heap_words.proofs.Claiming.{appended}
-use Rattle.os_heap_words.proofs.Replace.{becomes, heap_below}
-use Rattle.os_heap_words.specs.Outcomes.{Becomes, end_at, items_at}
+use Rattle.dynamic_areas.proofs.Bytes.{is_mapped-layout}
+use Rattle.dynamic_areas.specs.Items.{is_total, size_of}
+use Rattle.dynamic_areas.specs.Memory.{byte_at, bytes_of, class_of, is_mapped, layout}
+use Rattle.dynamic_areas.specs.Item.{Item}
+use Rattle.dynamic_areas.specs.Item.TheVariants.{Free, Live}
+use Rattle.dynamic_areas.specs.AddressMap.{AddressMap}
+use Rattle.dynamic_areas.proofs.LastLink.{LinkFacts, link_facts}
+use Rattle.dynamic_areas.proofs.Marks.{remarked}
+use Rattle.dynamic_areas.proofs.Reading.{total_facts}
+use Rattle.dynamic_areas.proofs.Spelling.{size_of-append, size_of-multiple, spaced-join, total_of-numbers, totals-front}
+use Rattle.dynamic_areas.specs.Heap.{AreSpaced, AreTotals, IsHeapIn, last_free}
+use Rattle.dynamic_areas.specs.Marks.{Remarks}
+use Rattle.dynamic_areas.specs.Words.{IsFreed, IsWordWritten, link_at}
+use Rattle.dynamic_areas.proofs.Claiming.{appended}
+use Rattle.dynamic_areas.proofs.Replace.{becomes, heap_below}
+use Rattle.dynamic_areas.specs.Outcomes.{Becomes, end_at, items_at}
 use Rattle.rma.specs.heap_slide.Steps.{IsRoomForBlock, IsSetDown, items_laid_last}
 
 -- what the room for a block says

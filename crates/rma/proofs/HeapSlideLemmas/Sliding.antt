@@ -1,30 +1,30 @@
 -- A slide from item to item: what the words of the next one say, and what holds after it.
 use Rattle.std.proofs.Common.{List, ℕ, Bool, [], ◌∷◌, ◌++◌, ◌≡◌, ◌≢◌, ◌≤◌, ◌<◌, ◌+◌, ◌-◌, ◌%◌, ◌==◌, ◌||◌, ◌∙◌, true, false, refl, sym, ap, subst, inl, inr, append_assoc, append-nil, arith, length, cond}
 use Rattle.std.proofs.lemmas.Bool.{cases_Bool, eqb-true, eq-eqb}
-use Rattle.address_map.proofs.Equations.{same_bytes}
-use Rattle.address_map.proofs.Stores.{in_range-cases}
-use Rattle.address_map.specs.Bytes.{Bytes, with_moved_at, word_at, word_start}
-use Rattle.address_map.specs.Items.{is_head, is_head_of, is_total, items_in, link_target, size_of}
-use Rattle.address_map.specs.Memory.{byte_at, bytes_of, class_of, layout}
-use Rattle.address_map.specs.declared.class.Class.{Class}
-use Rattle.address_map.specs.declared.follow.BlockMove.{BlockMove}
-use Rattle.address_map.specs.declared.item.Item.{Item}
-use Rattle.address_map.specs.declared.item.Item.TheVariants.{Free, Live}
-use Rattle.address_map.specs.declared.map.AddressMap.{AddressMap}
-use Rattle.os_heap_words.proofs.ListsLemmas.HeadWords.{head_inside}
-use Rattle.os_heap_words.proofs.ListsLemmas.HeapWords.{outside_past}
-use Rattle.os_heap_words.proofs.ListsLemmas.ItemWalk.{next_apart, size_of-old}
-use Rattle.os_heap_words.proofs.ListsLemmas.Marks.{is_head-append, is_head-one}
-use Rattle.os_heap_words.proofs.ListsLemmas.Reading.{total_facts}
-use Rattle.os_heap_words.proofs.ListsLemmas.Spelling.{last_free-append, size_of-append, size_of-multiple, total_of-numbers, totals-back, totals-front}
-use Rattle.os_heap_words.specs.lists.Heap.{AreTotals, IsHeapIn, last_free, next_free}
-use Rattle.os_heap_words.specs.lists.Lists.{left_free}
-use Rattle.os_heap_words.specs.lists.Marks.{head_class, class_after_marking, Remarks, with_item_marked}
-use Rattle.os_heap_words.specs.lists.Words.{IsOutside}
-use Rattle.os_heap_words.proofs.Marking.{can_stand}
-use Rattle.os_heap_words.proofs.Searching.{FreeFacts, free_facts}
-use Rattle.os_heap_words.proofs.Walking.{LiveFacts, live_facts}
-use Rattle.os_heap_words.specs.Outcomes.{end_at, HasHeapAt, items_at}
+use Rattle.dynamic_areas.proofs.Equations.{same_bytes}
+use Rattle.dynamic_areas.proofs.AddressMapStores.{in_range-cases}
+use Rattle.dynamic_areas.specs.Bytes.{Bytes, with_moved_at, word_at, word_start}
+use Rattle.dynamic_areas.specs.Items.{is_head, is_head_of, is_total, items_in, link_target, size_of}
+use Rattle.dynamic_areas.specs.Memory.{byte_at, bytes_of, class_of, layout}
+use Rattle.dynamic_areas.specs.Class.{Class}
+use Rattle.dynamic_areas.specs.BlockMove.{BlockMove}
+use Rattle.dynamic_areas.specs.Item.{Item}
+use Rattle.dynamic_areas.specs.Item.TheVariants.{Free, Live}
+use Rattle.dynamic_areas.specs.AddressMap.{AddressMap}
+use Rattle.dynamic_areas.proofs.HeadWords.{head_inside}
+use Rattle.dynamic_areas.proofs.HeapWords.{outside_past}
+use Rattle.dynamic_areas.proofs.ItemWalk.{next_apart, size_of-old}
+use Rattle.dynamic_areas.proofs.Marks.{is_head-append, is_head-one}
+use Rattle.dynamic_areas.proofs.Reading.{total_facts}
+use Rattle.dynamic_areas.proofs.Spelling.{last_free-append, size_of-append, size_of-multiple, total_of-numbers, totals-back, totals-front}
+use Rattle.dynamic_areas.specs.Heap.{AreTotals, IsHeapIn, last_free, next_free}
+use Rattle.dynamic_areas.specs.OsHeapWordsLists.{left_free}
+use Rattle.dynamic_areas.specs.Marks.{head_class, class_after_marking, Remarks, with_item_marked}
+use Rattle.dynamic_areas.specs.Words.{IsOutside}
+use Rattle.dynamic_areas.proofs.Marking.{can_stand}
+use Rattle.dynamic_areas.proofs.Searching.{FreeFacts, free_facts}
+use Rattle.dynamic_areas.proofs.Walking.{LiveFacts, live_facts}
+use Rattle.dynamic_areas.specs.Outcomes.{end_at, HasHeapAt, items_at}
 use Rattle.rma.proofs.HeapSlideLemmas.Laying.{IsRead, moved_past, read}
 use Rattle.rma.proofs.HeapSlideLemmas.Listing.{listed_first, listed_rest, more_moves, room_for_move}
 use Rattle.rma.proofs.HeapSlideLemmas.Setting.{laid_alone, laid_behind}

@@ -3,8 +3,8 @@
 -- machine is this project's own).
 use Rattle.std.specs.Prelude.{ℕ, ◌≡◌, ◌&&◌, ◌||◌, Bool, true, false, not, List, [], ◌∷◌, if◌then◌else◌}
 use Rattle.std.specs.List.{list_any}
-use Rattle.address_map.specs.Bytes.{in_range}
-use Rattle.address_map.specs.declared.region.Region.{Region}
+use Rattle.dynamic_areas.specs.Bytes.{in_range}
+use Rattle.dynamic_areas.specs.Region.{Region}
 use Rattle.dynamic_areas.specs.Store.{Store, is_flex_store, is_image, is_in_flex_store}
 
 -- is a byte in a recorded range that is no heap?

@@ -4,11 +4,11 @@ use Rattle.profile.specs.MemoryMap.{module_area_start, system_start}
 use Rattle.std.specs.Prelude.{ℕ, ◌≡◌, ◌+◌, ◌-◌, ◌*◌, false, Some, Result, Ok, List, [], ◌∷◌, ◌++◌}
 use Rattle.profile.specs.Outcome.{Gives}
 use Rattle.profile.specs.declared.error.ErrorNumber.{ErrorNumber}
-use Rattle.address_map.specs.Bytes.{Bytes, in_range}
-use Rattle.address_map.specs.Records.{anchor_among, without_region}
-use Rattle.address_map.specs.declared.follow.BlockMove.{BlockMove}
-use Rattle.address_map.specs.declared.region.Kind.TheVariants as kind
-use Rattle.os_heap_words.specs.lists.Lists.{live_total}
+use Rattle.dynamic_areas.specs.Bytes.{Bytes, in_range}
+use Rattle.dynamic_areas.specs.Records.{anchor_among, without_region}
+use Rattle.dynamic_areas.specs.BlockMove.{BlockMove}
+use Rattle.dynamic_areas.specs.Kind.TheVariants as kind
+use Rattle.dynamic_areas.specs.OsHeapWordsLists.{live_total}
 use Rattle.dynamic_areas.specs.Calls.{OfHeap, store_after_init, store_after_change, gave_back, store_after_get, store_after_resize}
 use Rattle.dynamic_areas.specs.Store.{Store, IsSound, find_heap}
 use Rattle.rma.specs.heap_slide.Slide.{IsHeapSlid, MaySlide}

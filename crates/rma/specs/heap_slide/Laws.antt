@@ -1,12 +1,12 @@
 -- Laws of every slide, said in other words than its definition.
 use Rattle.std.specs.Prelude.{ℕ, ◌≡◌, ◌≤◌, ◌<◌, Bool, true, ◌+◌, ◌-◌, ◌%◌, List, [], ◌∷◌, Some, Ok}
-use Rattle.address_map.specs.Items.{size_of}
-use Rattle.address_map.specs.Moves.{moved_to}
-use Rattle.address_map.specs.declared.item.Item.{Item}
-use Rattle.address_map.specs.declared.item.Item.TheVariants.{Free, Live}
-use Rattle.os_heap_words.specs.lists.Counts.{free_count}
-use Rattle.os_heap_words.specs.lists.Heap.{AreSpaced, AreTotals, HeapList}
-use Rattle.os_heap_words.specs.lists.Lists.{live_total}
+use Rattle.dynamic_areas.specs.Items.{size_of}
+use Rattle.dynamic_areas.specs.Moves.{moved_to}
+use Rattle.dynamic_areas.specs.Item.{Item}
+use Rattle.dynamic_areas.specs.Item.TheVariants.{Free, Live}
+use Rattle.dynamic_areas.specs.Counts.{free_count}
+use Rattle.dynamic_areas.specs.Heap.{AreSpaced, AreTotals, HeapList}
+use Rattle.dynamic_areas.specs.OsHeapWordsLists.{live_total}
 use Rattle.dynamic_areas.specs.Calls.{heap_description}
 use Rattle.dynamic_areas.specs.Store.{find_heap, Store}
 use Rattle.rma.specs.heap_slide.Slide.{is_listed, moves_of, item_place_after, slid, slid_bytes, with_slid}

@@ -5,13 +5,13 @@
 -- project's own).
 use Rattle.std.specs.Prelude.{ℕ, ◌≡◌, ◌≤◌, Bool, true, false, ◌+◌, ◌-◌, ◌==◌, List, [], ◌∷◌, ◌++◌, length, if◌then◌else◌}
 use Rattle.std.specs.List.{list_any}
-use Rattle.address_map.specs.Bytes.{with_moved_at}
-use Rattle.address_map.specs.Moves.{moved_regions}
-use Rattle.address_map.specs.declared.follow.BlockMove.{BlockMove}
-use Rattle.address_map.specs.declared.item.Item.{Item}
-use Rattle.address_map.specs.declared.item.Item.TheVariants.{Free, Live}
-use Rattle.os_heap_words.specs.lists.Heap.{HeapList, with_heap}
-use Rattle.os_heap_words.specs.lists.Lists.{left_free, live_total}
+use Rattle.dynamic_areas.specs.Bytes.{with_moved_at}
+use Rattle.dynamic_areas.specs.Moves.{moved_regions}
+use Rattle.dynamic_areas.specs.BlockMove.{BlockMove}
+use Rattle.dynamic_areas.specs.Item.{Item}
+use Rattle.dynamic_areas.specs.Item.TheVariants.{Free, Live}
+use Rattle.dynamic_areas.specs.Heap.{HeapList, with_heap}
+use Rattle.dynamic_areas.specs.OsHeapWordsLists.{left_free, live_total}
 use Rattle.dynamic_areas.specs.Calls.{OfHeap, holds_anchor, total_or_0, heaps_with_items}
 use Rattle.dynamic_areas.specs.Forgetting.{holds_heap}
 use Rattle.dynamic_areas.specs.Store.{Store, find_heap}

@@ -1,18 +1,18 @@
 -- Where a slide stands: the heap's words spell the items that have their new places, as a list by
 -- itself, and those that come next lie after them as they were.
 use Rattle.std.specs.Prelude.{ℕ, ◌≡◌, ◌≤◌, true, ◌+◌, ◌-◌, ◌%◌, ◌^◌, List, [], ◌∷◌, ◌++◌, length}
-use Rattle.address_map.specs.Bytes.{word_at, with_moved_at, word_start}
-use Rattle.address_map.specs.Items.{is_head, is_head_of, is_total, link_target, size_of}
-use Rattle.address_map.specs.Memory.{byte_at, bytes_of, class_of, layout}
-use Rattle.address_map.specs.declared.follow.BlockMove.{BlockMove}
-use Rattle.address_map.specs.declared.item.Item.{Item}
-use Rattle.address_map.specs.declared.item.Item.TheVariants.{Free, Live}
-use Rattle.address_map.specs.declared.map.AddressMap.{AddressMap}
-use Rattle.os_heap_words.specs.lists.Heap.{IsHeapIn, last_free, next_free}
-use Rattle.os_heap_words.specs.lists.Lists.{left_free}
-use Rattle.os_heap_words.specs.lists.Marks.{class_after_marking, Remarks}
-use Rattle.os_heap_words.specs.lists.Words.{AreApart, IsOutside}
-use Rattle.os_heap_words.specs.Outcomes.{CanStand, end_at, HasHeapAt, items_at}
+use Rattle.dynamic_areas.specs.Bytes.{word_at, with_moved_at, word_start}
+use Rattle.dynamic_areas.specs.Items.{is_head, is_head_of, is_total, link_target, size_of}
+use Rattle.dynamic_areas.specs.Memory.{byte_at, bytes_of, class_of, layout}
+use Rattle.dynamic_areas.specs.BlockMove.{BlockMove}
+use Rattle.dynamic_areas.specs.Item.{Item}
+use Rattle.dynamic_areas.specs.Item.TheVariants.{Free, Live}
+use Rattle.dynamic_areas.specs.AddressMap.{AddressMap}
+use Rattle.dynamic_areas.specs.Heap.{IsHeapIn, last_free, next_free}
+use Rattle.dynamic_areas.specs.OsHeapWordsLists.{left_free}
+use Rattle.dynamic_areas.specs.Marks.{class_after_marking, Remarks}
+use Rattle.dynamic_areas.specs.Words.{AreApart, IsOutside}
+use Rattle.dynamic_areas.specs.Outcomes.{CanStand, end_at, HasHeapAt, items_at}
 use Rattle.rma.specs.heap_slide.Slide.{AreBlocks, is_listed, moves_of, slid, slid_bytes}
 
 -- what is laid at the end of a list: a block, and the gap before it, if there is one

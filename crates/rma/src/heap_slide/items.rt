@@ -1,16 +1,14 @@
 //! One step of a slide: a free item is passed, or a block is laid at its new place.
 
 ghost use Rattle.std.specs.Prelude.{ℕ, ◌≡◌, ◌≤◌, ◌+◌, ◌-◌, ◌%◌, ◌==◌, false, if◌then◌else◌};
-ghost use Rattle.address_map.specs.Items.{link_target};
-ghost use Rattle.address_map.specs.Memory.{byte_at, class_of};
-ghost use Rattle.address_map.specs.Bytes.{word_at};
-ghost use Rattle.address_map.specs.declared.item.Item.TheVariants.{Free};
-ghost use Rattle.os_heap_words.specs.lists.Marks.{head_class, with_item_marked};
+ghost use Rattle.dynamic_areas.specs.Items.{link_target};
+ghost use Rattle.dynamic_areas.specs.Memory.{byte_at, class_of};
+ghost use Rattle.dynamic_areas.specs.Bytes.{word_at};
+ghost use Rattle.dynamic_areas.specs.Item.TheVariants.{Free};
+ghost use Rattle.dynamic_areas.specs.Marks.{head_class, with_item_marked};
 ghost use Rattle.rma.specs.heap_slide.Steps.{IsFreeHere, IsLaid, IsRoomForBlock, IsSetDown, KeepsBytesAndLayout};
 
-use address_map::{AddressMap, Item};
-use os_heap_words::marks::{make, mark_item};
-use os_heap_words::words::{BASE, follow, put, put_free, word};
+use dynamic_areas::{AddressMap, BASE, Item, follow, make, mark_item, put, put_free, word};
 
 /// Where a slide stands.
 #[derive(Clone, Copy)]

@@ -1,16 +1,16 @@
 //! The slide of a heap's blocks, with the records of module images, and the moves that it answers.
 
 ghost use Rattle.std.specs.Prelude.{◌≡◌};
-ghost use Rattle.address_map.specs.Memory.{regions};
-ghost use Rattle.address_map.specs.Moves.{moved_regions};
+ghost use Rattle.dynamic_areas.specs.Memory.{regions};
+ghost use Rattle.dynamic_areas.specs.Moves.{moved_regions};
 ghost use Rattle.dynamic_areas.specs.Store.{store_of};
 ghost use Rattle.rma.specs.heap_slide.Slide.{MaySlide, IsHeapSlid};
 ghost use Rattle.dynamic_areas.specs.Sound.{IsSoundMap};
 ghost use Rattle.rma.specs.Kept.{KeepsMapped};
 
 use crate::heap_slide::steps::slide_items;
-use address_map::{AddressMap, BlockMove};
 use arrayvec::ArrayVec;
+use dynamic_areas::{AddressMap, BlockMove};
 
 /// The most blocks that a slide can move.
 pub const MOST_MOVES: usize = 128;

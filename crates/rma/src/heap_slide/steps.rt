@@ -1,16 +1,15 @@
 //! The walk over a heap's items that slides its blocks, but for the records of images.
 
 ghost use Rattle.std.specs.Prelude.{ℕ, List, [], ◌≡◌, ◌≢◌, ◌≤◌, ◌<◌, ◌+◌, ◌++◌, ◌^◌, length};
-ghost use Rattle.address_map.specs.Bytes.{word_at};
-ghost use Rattle.address_map.specs.Memory.{byte_at};
-ghost use Rattle.os_heap_words.specs.Outcomes.{HasHeapAt, items_at};
+ghost use Rattle.dynamic_areas.specs.Bytes.{word_at};
+ghost use Rattle.dynamic_areas.specs.Memory.{byte_at};
+ghost use Rattle.dynamic_areas.specs.Outcomes.{HasHeapAt, items_at};
 ghost use Rattle.rma.specs.heap_slide.Slide.{AreBlocks, begins, move_of, item_place_after, without_first_block};
 ghost use Rattle.rma.specs.heap_slide.Steps.{IsAllSlid, IsSliding};
 
 use crate::heap_slide::items::{Cursor, lay, pass_free};
 use crate::heap_slide::moves::Moves;
-use address_map::{AddressMap, BlockMove};
-use os_heap_words::words::{BASE, follow, put, put_link, word};
+use dynamic_areas::{AddressMap, BASE, BlockMove, follow, put, put_link, word};
 use profile::memory_map::HEAP_DESCRIPTOR;
 
 /// Slides the items of a heap, one after another upwards. The records of images stay as they are.

@@ -1,7 +1,7 @@
 -- The bytes that lines SAVE name: an image's, or those of memory from an address on, where all of them are mapped.
 use Rattle.std.specs.Prelude.{ℕ, ◌==◌, length, List, Option, Some, None, if◌then◌else◌}
 use Rattle.address_map.specs.Bytes.{Bytes}
-use Rattle.gdb_machine.specs.Memory.{known_bytes}
+use Rattle.gdb_server.specs.Memory.{known_bytes}
 use Rattle.profile.specs.images.Entries.{Entry, bytes_of_image}
 use Rattle.rosm_settings.specs.declared.saved_files.SavedBytes.{SavedBytes}
 use Rattle.rosm_settings.specs.declared.saved_files.SavedBytes.TheVariants as saved

@@ -11,13 +11,12 @@ use crate::debug::options::WantedForm;
 use crate::debug::refusal::DebugRefusal;
 use crate::debug::scripts::{HostScripts, ending_by_reader};
 use crate::debug::words::{WantedSession, read_words};
-use command_shell_lines::read_script;
 use debug_program::talk::{hand_on, talk};
 use debug_program::{
     DebugTyping, IncludingScript, PromptedLines, SavingSource, ShownAnswers, show_transcript,
     talk_behind_script,
 };
-use debug_records::{DebugSettings, ReportForm, RunError, RunMeter, record_script};
+use debug_records::{DebugSettings, ReportForm, RunError, RunMeter, read_script, record_script};
 use profile::images::Images;
 use profile::text_lines::cut;
 use profile::{Device, Sink, Source};

@@ -5,7 +5,7 @@ ghost use Rattle.address_map.specs.Memory.{bytes_of};
 ghost use Rattle.rosm_tools.specs.debug.Saves.{bytes_saved};
 
 use address_map::AddressMap;
-use gdb_machine::known_bytes;
+use gdb_server::known_bytes;
 use profile::images::Images;
 use rosm_settings::saved_files::SavedBytes;
 use std::alloc::{AllocError, Global};

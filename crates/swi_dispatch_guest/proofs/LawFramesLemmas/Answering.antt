@@ -2,11 +2,11 @@
 use Rattle.std.proofs.Common.{ℕ, ◌≡◌, List, Option, Some, None, Result, Ok, Err, refl}
 use Rattle.profile.specs.declared.swi.SwiName.{SwiName}
 use Rattle.profile.specs.declared.swi.SwiName.TheVariants as swi
-use Rattle.arm_core.specs.State.{State, register_of}
+use Rattle.arm_run.specs.State.{State, register_of}
 use Rattle.os_heap.specs.Store.{Store}
 use Rattle.swi_dispatch_plans.specs.Ground.{AreaStore}
 use Rattle.swi_dispatch_plans.specs.module_state.ModuleState.{ModuleState}
-use Rattle.swi_dispatch_answers.specs.declared.refusal.Refusal.{Refusal}
+use Rattle.swi_dispatch_plans.specs.Refusal.{Refusal}
 use Rattle.swi_dispatch_guest.specs.SwiDispatchFlexCalls.{FlexMemory}
 use Rattle.swi_dispatch_guest.specs.Answers.{went_on}
 use Rattle.swi_dispatch_guest.specs.Calls.{call_answer, on_area_store, on_flex, on_store, on_module_state, wrote_text_after, wrote_text_at}

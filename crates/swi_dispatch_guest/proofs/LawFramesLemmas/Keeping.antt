@@ -16,35 +16,35 @@ use Rattle.profile.specs.declared.reason.ModuleReason.TheVariants as reason
 use Rattle.profile.specs.declared.swi.SwiName.{SwiName}
 use Rattle.profile.specs.declared.swi.SwiName.TheVariants as swi
 use Rattle.profile.specs.Reasons.{module_reason}
-use Rattle.address_map.specs.Bytes.{Bytes, word_loaded}
-use Rattle.arm_core.specs.Conditions.{condition_holds}
-use Rattle.arm_core.specs.Effect.{with_next_pc}
-use Rattle.arm_core.specs.State.{State, register_of}
-use Rattle.arm_core.specs.declared.turn.StepEnd.{StepEnd}
-use Rattle.arm_core.specs.declared.turn.StepEnd.TheVariants as turn
-use Rattle.arm_decode.specs.Decoded.{instruction_of_word}
-use Rattle.arm_decode.specs.Fields.{condition_in}
-use Rattle.arm_decode.specs.declared.action.Action.{Action}
-use Rattle.arm_decode.specs.declared.action.Action.TheVariants as action
-use Rattle.arm_decode.specs.declared.condition.Condition.{Condition}
-use Rattle.arm_step.specs.Step.{acted_if_decoded, executed_if_fetched, or_fault, result_of_action, result_of_step, result_of_word}
-use Rattle.arm_step.specs.Transfers.{result_of_transfer}
-use Rattle.arm_step.specs.Blocks.{result_of_block_transfer}
+use Rattle.os_heap.specs.Bytes.{Bytes, word_loaded}
+use Rattle.arm_run.specs.Conditions.{condition_holds}
+use Rattle.arm_run.specs.Effect.{with_next_pc}
+use Rattle.arm_run.specs.State.{State, register_of}
+use Rattle.arm_run.specs.StepEnd.{StepEnd}
+use Rattle.arm_run.specs.StepEnd.TheVariants as turn
+use Rattle.arm_run.specs.ArmDecodeDecoded.{instruction_of_word}
+use Rattle.arm_run.specs.Fields.{condition_in}
+use Rattle.arm_run.specs.Action.{Action}
+use Rattle.arm_run.specs.Action.TheVariants as action
+use Rattle.arm_run.specs.Condition.{Condition}
+use Rattle.arm_run.specs.Step.{acted_if_decoded, executed_if_fetched, or_fault, result_of_action, result_of_step, result_of_word}
+use Rattle.arm_run.specs.Transfers.{result_of_transfer}
+use Rattle.arm_run.specs.Blocks.{result_of_block_transfer}
 use Rattle.os_heap.specs.Store.{owned_in}
 use Rattle.profile.specs.images.Entries.{Entry}
-use Rattle.instances_table.specs.declared.plans.code.Code.{Code}
-use Rattle.instances_table.specs.declared.plans.given.Given.{Given}
-use Rattle.instances_table.specs.plans.Carrying.{Carried}
-use Rattle.instances_table.specs.plans.Plans.{Plan}
+use Rattle.swi_dispatch_plans.specs.Code.{Code}
+use Rattle.swi_dispatch_plans.specs.Given.{Given}
+use Rattle.swi_dispatch_plans.specs.Carrying.{Carried}
+use Rattle.swi_dispatch_plans.specs.Plans.{Plan}
 use Rattle.swi_dispatch_plans.specs.module_state.ModuleState.{ModuleState}
-use Rattle.instances_table.specs.declared.parts.Handler.{Handler}
-use Rattle.instances_table.specs.Lookup.{handler_of}
-use Rattle.swi_dispatch_answers.specs.declared.refusal.Refusal.{Refusal}
-use Rattle.swi_dispatch_answers.specs.declared.refusal.Refusal.TheVariants as refusal
-use Rattle.swi_dispatch_answers.specs.declared.frames.call.Call.{Call}
-use Rattle.swi_dispatch_answers.specs.declared.frames.frame.Frame.{Frame}
-use Rattle.swi_dispatch_answers.specs.declared.frames.frame.FrameKind.TheVariants as frame
-use Rattle.swi_dispatch_answers.specs.frames.Frames.{frame_of}
+use Rattle.swi_dispatch_plans.specs.Handler.{Handler}
+use Rattle.swi_dispatch_plans.specs.Lookup.{handler_of}
+use Rattle.swi_dispatch_plans.specs.Refusal.{Refusal}
+use Rattle.swi_dispatch_plans.specs.Refusal.TheVariants as refusal
+use Rattle.swi_dispatch_plans.specs.Call.{Call}
+use Rattle.swi_dispatch_plans.specs.Frame.{Frame}
+use Rattle.swi_dispatch_plans.specs.FrameKind.TheVariants as frame
+use Rattle.swi_dispatch_plans.specs.Frames.{frame_of}
 use Rattle.swi_dispatch_plans.specs.ImagePlans.{instantiation_planned}
 use Rattle.swi_dispatch_plans.specs.ModulePlans.{clear_planned, delete_planned, reinit_planned, tidy_planned}
 use Rattle.swi_dispatch_plans.specs.Openings.{opening_asked}

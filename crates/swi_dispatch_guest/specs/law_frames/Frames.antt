@@ -2,7 +2,7 @@
 use Rattle.std.specs.Prelude.{◌≡◌, ◌≢◌, ◌++◌, List}
 use Rattle.profile.specs.MemoryMap.{return_gate}
 use Rattle.profile.specs.images.Entries.{Entry}
-use Rattle.swi_dispatch_answers.specs.declared.frames.frame.Frame.{Frame}
+use Rattle.swi_dispatch_plans.specs.Frame.{Frame}
 use Rattle.swi_dispatch_guest.specs.MachineState.{MachineState, StepOutcome}
 use Rattle.swi_dispatch_guest.specs.Step.{machine_step}
 

@@ -6,11 +6,11 @@ use Rattle.std.proofs.lemmas.Bool.{and_parts, both_ways, cases_Bool, false_from_
 use Rattle.flex_store.specs.Outcome.{Gives, bind}
 use Rattle.flex_store.specs.ErrorNumber.{ErrorNumber}
 use Rattle.flex_store.specs.ErrorNumber.TheVariants.{FlexAnchorInUse, FlexBadAnchor, FlexHoldsAnchor}
-use Rattle.address_map.specs.Bytes.{in_range, shares_address, word_start}
-use Rattle.address_map.specs.Classes.{is_anchor, is_flex_header}
-use Rattle.address_map.specs.Memory.{byte_at, bytes_of, class_of}
-use Rattle.address_map.specs.declared.map.AddressMap.{AddressMap}
-use Rattle.address_map.specs.declared.region.Region.{Region}
+use Rattle.os_heap.specs.Bytes.{in_range, shares_address, word_start}
+use Rattle.os_heap.specs.Classes.{is_anchor, is_flex_header}
+use Rattle.os_heap.specs.Memory.{byte_at, bytes_of, class_of}
+use Rattle.os_heap.specs.AddressMap.{AddressMap}
+use Rattle.os_heap.specs.Region.{Region}
 use Rattle.flex_store.proofs.Apart.{range_parts}
 use Rattle.flex_store.proofs.Frame.{layout-others}
 use Rattle.flex_store.specs.Payloads.{is_other, payload_of}

@@ -3,15 +3,15 @@
 use Rattle.std.proofs.Common.{◌≡◌, ◌≤◌, ◌<◌, ℕ, ◌+◌, ◌-◌, ◌&&◌, ◌||◌, ◌==◌, Bool, true, false, List, [], ◌∷◌, Option, Some, None, length, suc, inl, inr, refl, sym, ap, subst, ◌∙◌, arith}
 use Rattle.std.proofs.lemmas.Bool.{and_parts, both_ways, cases_Bool, false_from_ne_true, eqb-true, false≢true, or_left, or_right}
 use Rattle.flex_store.specs.Sizes.{Sizes}
-use Rattle.address_map.proofs.Bytes.{is_mapped-layout}
-use Rattle.address_map.specs.Bytes.{AreMapped, Bytes, word_start, in_range}
-use Rattle.address_map.specs.Classes.{is_anchor, is_flex_header}
-use Rattle.address_map.specs.Memory.{byte_at, bytes_of, class_of, is_mapped}
-use Rattle.address_map.specs.declared.class.Class.{Class}
-use Rattle.address_map.specs.declared.map.AddressMap.{AddressMap}
-use Rattle.address_map.specs.declared.region.Kind.{Kind}
-use Rattle.address_map.specs.declared.region.Kind.TheVariants as kind
-use Rattle.address_map.specs.declared.region.Region.{Region}
+use Rattle.os_heap.proofs.Bytes.{is_mapped-layout}
+use Rattle.os_heap.specs.Bytes.{AreMapped, Bytes, word_start, in_range}
+use Rattle.os_heap.specs.Classes.{is_anchor, is_flex_header}
+use Rattle.os_heap.specs.Memory.{byte_at, bytes_of, class_of, is_mapped}
+use Rattle.os_heap.specs.Class.{Class}
+use Rattle.os_heap.specs.AddressMap.{AddressMap}
+use Rattle.os_heap.specs.Kind.{Kind}
+use Rattle.os_heap.specs.Kind.TheVariants as kind
+use Rattle.os_heap.specs.Region.{Region}
 use Rattle.flex_store.proofs.Frame.{layout-others}
 use Rattle.flex_store.specs.Store.{IsSound, Store, is_flex_store, is_flex_word, is_image, is_in_flex_store, owned_in, store_of}
 use Rattle.instances.specs.Areas.{AreaTable}

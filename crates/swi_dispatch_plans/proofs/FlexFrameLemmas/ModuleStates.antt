@@ -1,7 +1,7 @@
 -- The module state of modules once the flex store has begun: its range is one record more, and no image.
 use Rattle.std.proofs.Common.{◌≡◌, ℕ, List, [], ◌∷◌, ◌++◌, map, suc, inl, inr, refl, ap, sym, ◌∙◌, arith}
 use Rattle.std.proofs.lemmas.Bool.{cases_Bool, false≢true}
-use Rattle.address_map.specs.declared.region.Region.{Region}
+use Rattle.os_heap.specs.Region.{Region}
 use Rattle.flex_store.specs.Store.{is_image}
 use Rattle.flex_store.specs.Calls.{flex_record}
 use Rattle.instances.specs.Modules.{Module}

@@ -1,10 +1,10 @@
 -- What the making of the flex store leaves: a record more, and an empty store.
 use Rattle.std.proofs.Common.{ℕ, ◌≡◌, ◌-◌, is_some, Bool, true, false, [], ◌∷◌, ◌++◌, suc, Option, Some, None, refl, sym, ap, subst, ◌∙◌}
 use Rattle.std.proofs.lemmas.Bool.{both_ways, false≢true, true≢false}
-use Rattle.address_map.specs.Bytes.{AreMapped}
-use Rattle.address_map.specs.Classes.{is_anchor}
-use Rattle.address_map.specs.Memory.{Mapping, class_of, free_pages, is_mapped, regions}
-use Rattle.address_map.specs.declared.map.AddressMap.{AddressMap}
+use Rattle.os_heap.specs.Bytes.{AreMapped}
+use Rattle.os_heap.specs.Classes.{is_anchor}
+use Rattle.os_heap.specs.Memory.{Mapping, class_of, free_pages, is_mapped, regions}
+use Rattle.os_heap.specs.AddressMap.{AddressMap}
 use Rattle.flex_store.specs.Store.{others_in, store_of}
 use Rattle.instances.specs.Areas.{AreaTable}
 use Rattle.instances.specs.Ground.{AreAreas}

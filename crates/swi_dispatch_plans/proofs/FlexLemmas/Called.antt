@@ -3,7 +3,7 @@
 use Rattle.std.proofs.Common.{◌≡◌, Result, Ok, Err, refl, subst}
 use Rattle.profile.specs.Outcome.{Gives}
 use Rattle.profile.specs.declared.error.ErrorNumber.{ErrorNumber}
-use Rattle.dynamic_areas.specs.AddressMap.{AddressMap}
+use Rattle.os_heap.specs.AddressMap.{AddressMap}
 use Rattle.swi_dispatch_plans.proofs.FlexFrameLemmas.Calls.{flex_left, flex_stays_so, state_is}
 use Rattle.swi_dispatch_plans.specs.flex_frame.CallLaws.{IsLeft}
 use Rattle.swi_dispatch_plans.specs.flex_frame.Ground.{HasFlex}
@@ -12,9 +12,9 @@ use Rattle.flex_store.specs.Kept.{KeepsLayoutAndHeaps}
 use Rattle.flex_store.specs.State.{IsFlex, state_of_flex as flex_state_of}
 use Rattle.flex_store.specs.declared.flex.Flex.{Flex}
 use Rattle.swi_dispatch_plans.proofs.FlexFrameLemmas.InstancesModuleStates.{module_state_kept}
-use Rattle.dynamic_areas.proofs.HeapCalls.{areas_written}
-use Rattle.dynamic_areas.proofs.Frame.{layout-others}
-use Rattle.dynamic_areas.specs.Store.{store_of}
+use Rattle.instances.proofs.HeapCalls.{areas_written}
+use Rattle.os_heap.proofs.Frame.{layout-others}
+use Rattle.os_heap.specs.Store.{store_of}
 use Rattle.swi_dispatch_plans.specs.flex_frame.module_state.ModuleState.{module_state_of}
 use Rattle.swi_dispatch_plans.specs.flex.Calls.{memory_after_flex, memory_of, state_in, memory_with_flex}
 use Rattle.swi_dispatch_plans.specs.flex.Leaving.{CanCallFlex, LeavesFlex}

@@ -4,8 +4,8 @@ use Rattle.std.specs.Prelude.{MatchResult, is_some}
 use Rattle.std.proofs.lemmas.Bool.{cases_Bool}
 use Rattle.profile.specs.Outcome.{Gives}
 use Rattle.profile.specs.declared.error.ErrorNumber.{ErrorNumber}
-use Rattle.dynamic_areas.specs.Memory.{regions}
-use Rattle.dynamic_areas.specs.AddressMap.{AddressMap}
+use Rattle.os_heap.specs.Memory.{regions}
+use Rattle.os_heap.specs.AddressMap.{AddressMap}
 use Rattle.swi_dispatch_plans.proofs.FlexFrameLemmas.Calls.{ok_is, state_is}
 use Rattle.swi_dispatch_plans.proofs.FlexFrameLemmas.Starts.{has_made, made_areas, made_left, others_made, room_there, unmade_areas, unmade_left}
 use Rattle.swi_dispatch_plans.proofs.FlexFrameLemmas.ModuleStates.{begun_module_state}
@@ -17,7 +17,7 @@ use Rattle.flex_store.specs.State.{IsFlex, flex_in, state_of_flex as flex_state_
 use Rattle.flex_store.specs.declared.flex.Extent.{Extent}
 use Rattle.flex_store.specs.declared.flex.Flex.{Flex}
 use Rattle.swi_dispatch_plans.proofs.FlexFrameLemmas.InstancesModuleStates.{module_state_kept}
-use Rattle.dynamic_areas.specs.Store.{Store, store_of}
+use Rattle.os_heap.specs.Store.{Store, store_of}
 use Rattle.swi_dispatch_plans.specs.flex_frame.module_state.Sound.{count_beside}
 use Rattle.swi_dispatch_plans.specs.flex_frame.module_state.ModuleState.{module_state_of}
 use Rattle.swi_dispatch_plans.specs.flex.Calls.{flex_in_range, memory_after_flex, memory_of, state_in}

@@ -1,14 +1,14 @@
 -- What the calls on modules leave, by what is said of memory and areas, or of the modules.
 use Rattle.profile.specs.MemoryMap.{system_start}
 use Rattle.std.proofs.Common.{List, refl, arith}
-use Rattle.address_map.proofs.InRange.{range_inside}
-use Rattle.address_map.specs.declared.map.AddressMap.{AddressMap}
-use Rattle.address_map.specs.Bytes.{AreMapped}
+use Rattle.os_heap.proofs.InRange.{range_inside}
+use Rattle.os_heap.specs.AddressMap.{AddressMap}
+use Rattle.os_heap.specs.Bytes.{AreMapped}
 use Rattle.os_heap.specs.Store.{store_of}
-use Rattle.dynamic_areas.specs.Areas.{AreaTable}
-use Rattle.dynamic_areas.specs.Ground.{IsAreaStore, area_store_of}
-use Rattle.dynamic_areas.specs.Kept.{IsAreaMap}
-use Rattle.dynamic_areas.proofs.HeapCalls.{system_mapped}
+use Rattle.instances.specs.Areas.{AreaTable}
+use Rattle.instances.specs.Ground.{IsAreaStore, area_store_of}
+use Rattle.instances.specs.Kept.{IsAreaMap}
+use Rattle.instances.proofs.HeapCalls.{system_mapped}
 use Rattle.instances.specs.Modules.{Module}
 use Rattle.instances.proofs.GoingOn.{may_go_on_kept}
 use Rattle.instances.specs.module_state.ModuleState.{module_state_of}

@@ -2,9 +2,9 @@
 use Rattle.std.proofs.Common.{◌≡◌, ℕ, Option, Some, None, Err, List, refl}
 use Rattle.profile.specs.declared.error.ErrorNumber.{ErrorNumber}
 use Rattle.os_heap.specs.Store.{Store}
-use Rattle.dynamic_areas.specs.declared.area.Area.{Area}
-use Rattle.dynamic_areas.specs.Areas.{area_in, find_area}
-use Rattle.dynamic_areas.specs.Changing.{change_answer}
+use Rattle.instances.specs.Area.{Area}
+use Rattle.instances.specs.Areas.{area_in, find_area}
+use Rattle.instances.specs.Changing.{change_answer}
 
 unknown_found : (areas : List Area) (s : Store) (free number amount : ℕ) (e : ErrorNumber) (found : Option Area)
     → find_area number areas ≡ found → area_in areas number ≡ Err e → Some e ≡ (change_answer areas s free number amount).error

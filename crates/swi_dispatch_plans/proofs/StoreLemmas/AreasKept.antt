@@ -5,20 +5,20 @@ use Rattle.std.specs.Prelude.{MatchResult}
 use Rattle.std.proofs.lemmas.Bool.{cases_Bool}
 use Rattle.profile.specs.Outcome.{Gives, Leaves}
 use Rattle.profile.specs.declared.error.ErrorNumber.{ErrorNumber}
-use Rattle.address_map.specs.Memory.{free_pages}
-use Rattle.address_map.specs.declared.map.AddressMap.{AddressMap}
+use Rattle.os_heap.specs.Memory.{free_pages}
+use Rattle.os_heap.specs.AddressMap.{AddressMap}
 use Rattle.os_heap.specs.lists.Heap.{HeapList}
 use Rattle.os_heap.specs.Store.{Store, find_heap, store_of}
-use Rattle.dynamic_areas.specs.declared.area.Area.{Area}
-use Rattle.dynamic_areas.specs.declared.area.Changed.{Changed}
-use Rattle.dynamic_areas.specs.declared.area.Created.{Created}
-use Rattle.dynamic_areas.specs.declared.area.Wanted.{Wanted}
-use Rattle.dynamic_areas.specs.Areas.{AreaTable, find_area}
-use Rattle.dynamic_areas.specs.Changing.{change_answer, store_after_end, is_growth, area_table_after_remove, store_changed, store_emptied, store_extended, store_less, store_more, store_reduced, with_heap_end}
-use Rattle.dynamic_areas.specs.Creating.{area_table_after_create, pages_for}
-use Rattle.dynamic_areas.specs.Ground.{AreAreas, area_store_of}
-use Rattle.dynamic_areas.specs.Remapped.{with_pages_at}
-use Rattle.instances.proofs.Areas.{area_changed_keeps, created_keeps, removed_keeps}
+use Rattle.instances.specs.Area.{Area}
+use Rattle.instances.specs.Changed.{Changed}
+use Rattle.instances.specs.Created.{Created}
+use Rattle.instances.specs.Wanted.{Wanted}
+use Rattle.instances.specs.Areas.{AreaTable, find_area}
+use Rattle.instances.specs.Changing.{change_answer, store_after_end, is_growth, area_table_after_remove, store_changed, store_emptied, store_extended, store_less, store_more, store_reduced, with_heap_end}
+use Rattle.instances.specs.Creating.{area_table_after_create, pages_for}
+use Rattle.instances.specs.Ground.{AreAreas, area_store_of}
+use Rattle.instances.specs.Remapped.{with_pages_at}
+use Rattle.instances.proofs.FlexAreas.{area_changed_keeps, created_keeps, removed_keeps}
 use Rattle.instances.proofs.RmaKeeping.{keeps_equal}
 use Rattle.instances.specs.flex_frame.Keeping.{KeepsFlex}
 

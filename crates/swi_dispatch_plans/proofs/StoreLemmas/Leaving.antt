@@ -2,17 +2,17 @@
 use Rattle.std.proofs.Common.{ℕ, Result, refl}
 use Rattle.profile.specs.Outcome.{Gives}
 use Rattle.profile.specs.declared.error.ErrorNumber.{ErrorNumber}
-use Rattle.address_map.specs.declared.map.AddressMap.{AddressMap}
+use Rattle.os_heap.specs.AddressMap.{AddressMap}
 use Rattle.os_heap.specs.Calls.{store_after_init, store_after_change, gave_back, store_after_resize}
 use Rattle.os_heap.specs.Sound.{KeepsLayout, KeepsOtherRanges, KeepsRangesInOrder, KeepsRest}
 use Rattle.os_heap.specs.Store.{AreClasses, IsSound, store_of}
 use Rattle.os_heap.proofs.Frame.{layout-others}
-use Rattle.dynamic_areas.proofs.HeapCalls.{areas_begun, areas_changed, areas_freed, areas_resized, areas_written}
+use Rattle.instances.proofs.HeapCalls.{areas_begun, areas_changed, areas_freed, areas_resized, areas_written}
 use Rattle.instances.proofs.Heaps.{begun_keeps, changed_keeps, freed_keeps, resized_keeps}
 use Rattle.instances.proofs.RmaKeeping.{keeps_same}
 use Rattle.instances.specs.flex_frame.Keeping.{KeepsFlex}
-use Rattle.dynamic_areas.specs.Areas.{AreaTable}
-use Rattle.dynamic_areas.specs.Kept.{IsAreaMap, KeepsAreaTable}
+use Rattle.instances.specs.Areas.{AreaTable}
+use Rattle.instances.specs.Kept.{IsAreaMap, KeepsAreaTable}
 use Rattle.swi_dispatch_plans.specs.store.Leaving.{LeavesAreas, LeavesSound}
 
 -- what moves no page and changes no record

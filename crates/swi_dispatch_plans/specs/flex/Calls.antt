@@ -8,12 +8,12 @@ use Rattle.profile.specs.declared.error.ErrorNumber.{ErrorNumber}
 use Rattle.profile.specs.declared.error.ErrorNumber.TheVariants.{SwiUnknown}
 use Rattle.profile.specs.declared.swi.SwiName.{SwiName}
 use Rattle.profile.specs.declared.swi.SwiName.TheVariants as swi
-use Rattle.dynamic_areas.specs.AddressMap.{AddressMap}
+use Rattle.os_heap.specs.AddressMap.{AddressMap}
 use Rattle.swi_dispatch_answers.specs.State.{State, register_of, with_register}
 use Rattle.swi_dispatch_plans.specs.flex_frame.Ground.{flex_of, flex_state, store_flexed, with_flex_record}
 use Rattle.flex_store.specs.Calls.{FlexState, flex_after_alloc, flex_after_init, flex_after_extend, mid_extended, flex_after_release, flex_block_size}
 use Rattle.flex_store.specs.declared.flex.Flex.{Flex}
-use Rattle.dynamic_areas.specs.Store.{Store, store_of}
+use Rattle.os_heap.specs.Store.{Store, store_of}
 use Rattle.swi_dispatch_answers.specs.declared.refusal.Refusal.{Refusal}
 use Rattle.swi_dispatch_answers.specs.Refusals.{or_error, system_error}
 

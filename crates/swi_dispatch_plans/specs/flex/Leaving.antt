@@ -1,12 +1,12 @@
 -- What flex calls ask of memory, and what they leave of all else.
 use Rattle.std.specs.Prelude.{◌<◌, List, length}
-use Rattle.dynamic_areas.specs.AddressMap.{AddressMap}
+use Rattle.os_heap.specs.AddressMap.{AddressMap}
 use Rattle.swi_dispatch_plans.specs.flex_frame.Ground.{HasFlex}
 use Rattle.flex_store.specs.declared.flex.Flex.{Flex}
-use Rattle.dynamic_areas.specs.Areas.{AreaTable}
-use Rattle.instances_table.specs.Modules.{Module}
-use Rattle.instances_table.specs.declared.parts.Image.{Image}
-use Rattle.dynamic_areas.specs.Store.{AreClasses, IsSound, store_of}
+use Rattle.instances.specs.Areas.{AreaTable}
+use Rattle.instances.specs.Modules.{Module}
+use Rattle.instances.specs.Image.{Image}
+use Rattle.os_heap.specs.Store.{AreClasses, IsSound, store_of}
 use Rattle.swi_dispatch_plans.specs.flex_frame.module_state.Sound.{IsModuleState}
 use Rattle.swi_dispatch_plans.specs.flex_frame.module_state.ModuleState.{module_state_of}
 

@@ -1,6 +1,6 @@
 -- What a flex call leaves, as the written machine has it, follows from the call's own contract.
 use Rattle.std.specs.Prelude.{◌≡◌}
-use Rattle.address_map.specs.declared.map.AddressMap.{AddressMap}
+use Rattle.os_heap.specs.AddressMap.{AddressMap}
 use Rattle.flex_store.specs.Store.{store_of}
 use Rattle.flex_store.specs.Calls.{FlexState}
 use Rattle.flex_store.specs.declared.flex.Flex.{Flex}

@@ -2,8 +2,8 @@
 -- and beside module images there are recorded the system pages, and the range of the store, if
 -- there is one (Acorn C manual, "flex"; the layout is this project's own).
 use Rattle.std.specs.Prelude.{ℕ, ◌≡◌, Bool, false, ◌+◌, Option, Some, None, [], ◌∷◌, ◌++◌}
-use Rattle.address_map.specs.Bytes.{word_start}
-use Rattle.address_map.specs.declared.map.AddressMap.{AddressMap}
+use Rattle.os_heap.specs.Bytes.{word_start}
+use Rattle.os_heap.specs.AddressMap.{AddressMap}
 use Rattle.flex_store.specs.Store.{Store, store_of}
 use Rattle.instances.specs.flex_frame.Keeping.{AreAnchorsFree}
 use Rattle.flex_store.specs.declared.flex.Extent.{Extent}

@@ -2,8 +2,8 @@
 -- machine.
 use Rattle.std.specs.Prelude.{ℕ, ◌≡◌, ◌≤◌, ◌<◌, ◌+◌, ◌-◌, true, false, Some, None}
 use Rattle.flex_store.specs.Sizes.{Sizes}
-use Rattle.address_map.specs.Memory.{byte_at, class_of, layout}
-use Rattle.address_map.specs.declared.map.AddressMap.{AddressMap}
+use Rattle.os_heap.specs.Memory.{byte_at, class_of, layout}
+use Rattle.os_heap.specs.AddressMap.{AddressMap}
 use Rattle.flex_store.specs.Store.{IsSound, find_heap, owned_in, store_of}
 use Rattle.instances.specs.Areas.{AreaTable}
 use Rattle.instances.specs.Ground.{AreAreas}
@@ -12,7 +12,7 @@ use Rattle.instances.specs.flex_frame.Keeping.{KeepsFlex}
 use Rattle.flex_store.specs.State.{flex_in}
 use Rattle.flex_store.specs.declared.flex.Extent.{Extent}
 use Rattle.flex_store.specs.declared.flex.Flex.{Flex}
-use Rattle.address_map.specs.Bytes.{in_range}
+use Rattle.os_heap.specs.Bytes.{in_range}
 use Rattle.flex_store.specs.lists.Heap.{HeapList}
 use Rattle.flex_store.specs.lists.Lists.{live_total}
 use Rattle.swi_dispatch_plans.specs.flex_frame.Ground.{HasFlex}

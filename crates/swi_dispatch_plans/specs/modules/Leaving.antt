@@ -1,11 +1,11 @@
 -- What the calls on modules that run no module code leave of all else.
 use Rattle.std.specs.Prelude.{◌≡◌, List, Option}
-use Rattle.address_map.specs.declared.map.AddressMap.{AddressMap}
-use Rattle.dynamic_areas.specs.Areas.{AreaTable}
+use Rattle.os_heap.specs.AddressMap.{AddressMap}
+use Rattle.instances.specs.Areas.{AreaTable}
 use Rattle.swi_dispatch_plans.specs.store.Leaving.{LeavesSound}
 use Rattle.instances.specs.module_state.ModuleState.{module_state_of}
 use Rattle.instances.specs.Turns.{MayGoOn}
-use Rattle.instances_table.specs.plans.Plans.{Plan}
+use Rattle.swi_dispatch_answers.specs.Plans.{Plan}
 use Rattle.instances.specs.Modules.{Module, slots_of}
 
 -- Memory, areas and modules after a call: memory and areas as sound as before, the same instances,

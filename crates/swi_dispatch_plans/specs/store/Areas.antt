@@ -9,16 +9,16 @@ use Rattle.profile.specs.declared.reason.AreaReason.{AreaReason}
 use Rattle.profile.specs.declared.reason.AreaReason.TheVariants as reason
 use Rattle.swi_dispatch_answers.specs.State.{State, register_of, with_register}
 use Rattle.os_heap.specs.Store.{Store}
-use Rattle.dynamic_areas.specs.declared.area.Area.{Area}
-use Rattle.dynamic_areas.specs.declared.area.Changed.{Changed}
-use Rattle.dynamic_areas.specs.declared.area.Created.{Created}
-use Rattle.dynamic_areas.specs.declared.area.Extent.{Extent}
-use Rattle.dynamic_areas.specs.declared.area.Wanted.{Wanted}
-use Rattle.dynamic_areas.specs.Areas.{AreaTable, area_in, extent_asked, find_area, next_number, areas_after_renumber, with_areas}
-use Rattle.dynamic_areas.specs.Changing.{change_answer, area_table_changed, area_table_after_remove, store_changed, store_emptied}
-use Rattle.dynamic_areas.specs.Creating.{area_wanted, area_table_after_create, pages_for}
-use Rattle.dynamic_areas.specs.Ground.{AreaStore, pool_of}
-use Rattle.dynamic_areas.specs.Remapped.{with_pages_at}
+use Rattle.instances.specs.Area.{Area}
+use Rattle.instances.specs.Changed.{Changed}
+use Rattle.instances.specs.Created.{Created}
+use Rattle.instances.specs.Extent.{Extent}
+use Rattle.instances.specs.Wanted.{Wanted}
+use Rattle.instances.specs.Areas.{AreaTable, area_in, extent_asked, find_area, next_number, areas_after_renumber, with_areas}
+use Rattle.instances.specs.Changing.{change_answer, area_table_changed, area_table_after_remove, store_changed, store_emptied}
+use Rattle.instances.specs.Creating.{area_wanted, area_table_after_create, pages_for}
+use Rattle.instances.specs.Ground.{AreaStore, pool_of}
+use Rattle.instances.specs.Remapped.{with_pages_at}
 use Rattle.swi_dispatch_answers.specs.declared.refusal.Refusal.{Refusal}
 use Rattle.swi_dispatch_answers.specs.Refusals.{or_error, system_error}
 use Rattle.swi_dispatch_answers.specs.Strings.{string_at}

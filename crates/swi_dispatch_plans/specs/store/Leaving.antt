@@ -1,9 +1,9 @@
 -- What calls on heaps and areas leave of all else.
 use Rattle.std.specs.Prelude.{◌≡◌}
-use Rattle.address_map.specs.declared.map.AddressMap.{AddressMap}
+use Rattle.os_heap.specs.AddressMap.{AddressMap}
 use Rattle.os_heap.specs.Store.{AreClasses, store_of}
-use Rattle.dynamic_areas.specs.Areas.{AreaTable}
-use Rattle.dynamic_areas.specs.Ground.{IsAreaStore, area_store_of}
+use Rattle.instances.specs.Areas.{AreaTable}
+use Rattle.instances.specs.Ground.{IsAreaStore, area_store_of}
 use Rattle.instances.specs.flex_frame.Keeping.{KeepsFlex}
 
 -- Memory and areas after a call: the areas stand on the memory, the marked words are those of the

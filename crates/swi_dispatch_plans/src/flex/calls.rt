@@ -6,8 +6,8 @@ ghost use Rattle.flex_store.specs.Calls.{flex_after_alloc, flex_after_extend, mi
 ghost use Rattle.swi_dispatch_plans.specs.flex.Calls.{flex_allocated, flex_called, flex_extended, flex_in_range, flex_made, flex_mid_extended, flex_released, flex_sized, memory_after_flex, memory_of, state_in, room_word_of};
 ghost use Rattle.swi_dispatch_plans.specs.flex.Leaving.{CanCallFlex, LeavesFlex};
 
-use dynamic_areas::AddressMap;
 use flex_store::Flex;
+use os_heap::AddressMap;
 use profile::{ErrorNumber, SwiName};
 use swi_dispatch_answers::{Cpu, Refusal};
 

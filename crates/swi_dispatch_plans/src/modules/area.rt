@@ -4,16 +4,15 @@
 ghost use Rattle.std.specs.Prelude.{◌≡◌, List};
 ghost use Rattle.profile.specs.Outcome.{Leaves};
 ghost use Rattle.os_heap.specs.Store.{IsSound, store_of};
-ghost use Rattle.dynamic_areas.specs.Areas.{AreaTable};
-ghost use Rattle.dynamic_areas.specs.Kept.{IsAreaMap};
+ghost use Rattle.instances.specs.Areas.{AreaTable};
+ghost use Rattle.instances.specs.Kept.{IsAreaMap};
 ghost use Rattle.instances.specs.Modules.{Module};
 ghost use Rattle.instances.specs.module_state.ModuleState.{module_state_of};
 ghost use Rattle.swi_dispatch_plans.specs.store.Leaving.{LeavesSound};
 ghost use Rattle.swi_dispatch_plans.specs.modules.Area.{area_described, block_claimed, block_extended, rma_block_after_free};
 
-use address_map::AddressMap;
-use dynamic_areas::Areas;
-use instances::Rma;
+use instances::{Areas, Rma};
+use os_heap::AddressMap;
 use swi_dispatch_answers::{Cpu, Refusal};
 
 /// Reason 5: the largest free block and all that is free go to R2 and R3.

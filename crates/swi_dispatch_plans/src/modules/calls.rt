@@ -2,16 +2,15 @@
 
 ghost use Rattle.std.specs.Prelude.{◌≡◌};
 ghost use Rattle.profile.specs.Outcome.{Leaves};
-ghost use Rattle.dynamic_areas.specs.Kept.{IsAreaMap};
+ghost use Rattle.instances.specs.Kept.{IsAreaMap};
 ghost use Rattle.instances.specs.module_state.ModuleState.{module_state_of};
 ghost use Rattle.swi_dispatch_plans.specs.modules.Calls.{result_of_module_call};
 ghost use Rattle.swi_dispatch_plans.specs.modules.Leaving.{LeavesModuleState};
 
 use crate::modules::area::{claim_block, describe_area, extend_block, free_block};
 use crate::modules::naming::{find_instance, prefer_instance, print_instance, rename_instance};
-use address_map::AddressMap;
-use dynamic_areas::Areas;
-use instances::Instances;
+use instances::{Areas, Instances};
+use os_heap::AddressMap;
 use profile::{ErrorNumber, ModuleReason};
 use swi_dispatch_answers::{Cpu, Refusal};
 

@@ -4,15 +4,15 @@
 
 ghost use Rattle.std.specs.Prelude.{◌≡◌};
 ghost use Rattle.profile.specs.Outcome.{Leaves};
-ghost use Rattle.address_map.specs.Bytes.{AreMapped};
-ghost use Rattle.address_map.specs.Memory.{is_mapped};
-ghost use Rattle.dynamic_areas.specs.Areas.{AreaTable};
+ghost use Rattle.os_heap.specs.Bytes.{AreMapped};
+ghost use Rattle.os_heap.specs.Memory.{is_mapped};
+ghost use Rattle.instances.specs.Areas.{AreaTable};
 ghost use Rattle.instances.specs.module_state.ModuleState.{module_state_of};
 ghost use Rattle.swi_dispatch_plans.specs.modules.Leaving.{LeavesInstances};
 ghost use Rattle.swi_dispatch_plans.specs.modules.Naming.{instance_found, instance_preferred, instance_renamed, instance_shown};
 
-use address_map::AddressMap;
 use instances::{Instances, Place};
+use os_heap::AddressMap;
 use swi_dispatch_answers::strings::string_in;
 use swi_dispatch_answers::{Cpu, Refusal};
 

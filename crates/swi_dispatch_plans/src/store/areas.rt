@@ -3,15 +3,15 @@
 
 ghost use Rattle.std.specs.Prelude.{◌≡◌, Some, None, Err};
 ghost use Rattle.profile.specs.Outcome.{Leaves};
-ghost use Rattle.dynamic_areas.specs.Changing.{change_answer, area_table_changed, store_changed};
-ghost use Rattle.dynamic_areas.specs.Ground.{IsAreaStore, area_store_of};
-ghost use Rattle.dynamic_areas.specs.Kept.{IsAreaMap};
-ghost use Rattle.dynamic_areas.specs.Rooms.{IsAreaTable};
+ghost use Rattle.instances.specs.Changing.{change_answer, area_table_changed, store_changed};
+ghost use Rattle.instances.specs.Ground.{IsAreaStore, area_store_of};
+ghost use Rattle.instances.specs.Kept.{IsAreaMap};
+ghost use Rattle.instances.specs.Rooms.{IsAreaTable};
 ghost use Rattle.swi_dispatch_plans.specs.store.Areas.{area_called, area_changed, area_created, area_enumerated, area_named, area_read, area_removed, area_renumbered, area_shown, change_asked, wanted_of, with_area_table};
 ghost use Rattle.swi_dispatch_plans.specs.store.Leaving.{LeavesSound};
 
-use address_map::AddressMap;
-use dynamic_areas::{Areas, Changed, Wanted};
+use instances::{Areas, Changed, Wanted};
+use os_heap::AddressMap;
 use profile::memory_map::PAGE_SIZE;
 use profile::{AreaReason, ErrorNumber};
 use swi_dispatch_answers::strings::text_at;

@@ -6,8 +6,7 @@ ghost use Rattle.os_heap.specs.Store.{store_of};
 ghost use Rattle.swi_dispatch_plans.specs.store.Heaps.{heap_called};
 ghost use Rattle.swi_dispatch_plans.specs.store.Leaving.{LeavesAreas};
 
-use address_map::AddressMap;
-use os_heap::Heaps;
+use os_heap::{AddressMap, Heaps};
 use profile::{ErrorNumber, HeapReason};
 use swi_dispatch_answers::{Cpu, Refusal};
 

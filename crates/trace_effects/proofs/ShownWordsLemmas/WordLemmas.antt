@@ -4,12 +4,12 @@ use Rattle.std.proofs.lemmas.Bool.{cases_Bool}
 use Rattle.std.proofs.lemmas.Bool.Decides.{nat_tests}
 use Rattle.profile.specs.declared.fault.Fault.{Fault}
 use Rattle.profile.specs.declared.fault.Fault.TheVariants.{AddressException, DataUnmapped}
-use Rattle.address_map.specs.Bytes.{Bytes, load_fault, ok_unless_fault, word_at, word_loaded, word_start}
-use Rattle.address_map.specs.Lent.{IsLent}
-use Rattle.address_map.specs.Memory.{byte_at, bytes_of, is_mapped}
-use Rattle.address_map.specs.declared.map.AddressMap.{AddressMap}
-use Rattle.address_map.proofs.Bytes.{byte_at-unmapped, is_mapped-page, is_mapped-word}
-use Rattle.address_map.proofs.Loads.{place_past}
+use Rattle.arm_step.specs.Bytes.{Bytes, load_fault, ok_unless_fault, word_at, word_loaded, word_start}
+use Rattle.arm_step.specs.Lent.{IsLent}
+use Rattle.arm_step.specs.Memory.{byte_at, bytes_of, is_mapped}
+use Rattle.arm_step.specs.AddressMap.{AddressMap}
+use Rattle.arm_step.proofs.Bytes.{byte_at-unmapped, is_mapped-page, is_mapped-word}
+use Rattle.arm_step.proofs.Loads.{place_past}
 
 value_loaded : (fault : Option Fault) (value word : ℕ) → ok_unless_fault fault value ≡ Ok word → word ≡ value
 value_loaded None value word loaded = cc

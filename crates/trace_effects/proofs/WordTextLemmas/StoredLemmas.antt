@@ -2,7 +2,7 @@
 use Rattle.std.proofs.Common.{◌≡◌, ℕ, suc, ◌+◌, ◌-◌, ◌<◌, ◌≤◌, List, [], ◌∷◌, ◌++◌, length, get_or, drop, ap, ◌∙◌, sym, arith, refl, append_assoc, drop-cons}
 use Rattle.std.proofs.lemmas.List.{append-nil, drop_all}
 use Rattle.profile.proofs.OutputLemmas.{AddsAllBut-start, AddsAllBut-more, AddsAllBut-same, Appends-from_all_but}
-use Rattle.address_map.specs.Bytes.{Bytes, word_loaded}
+use Rattle.arm_step.specs.Bytes.{Bytes, word_loaded}
 use Rattle.profile.specs.Sums.{address_further}
 use Rattle.trace_effects.specs.word_text.Stored.{stored_line, stored_lines, word_or_zero, word_values_from}
 

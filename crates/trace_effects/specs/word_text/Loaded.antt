@@ -4,7 +4,7 @@
 use Rattle.std.specs.Prelude.{ℕ, Bool, ◌&&◌, ◌==◌, nat_lt, List, [], ◌++◌, codes, Option, Some, None, if◌then◌else◌}
 use Rattle.std.specs.Fmt.{decimal}
 use Rattle.profile.specs.Digits.{hex_word}
-use Rattle.address_map.specs.Bytes.{Bytes, word_loaded}
+use Rattle.arm_step.specs.Bytes.{Bytes, word_loaded}
 use Rattle.arm_core.specs.State.{State, register_of}
 use Rattle.trace_effects.specs.declared.stored.StoredWords.{StoredWords}
 use Rattle.trace_effects.specs.word_text.Stored.{word_or_zero}

@@ -3,7 +3,7 @@
 use Rattle.std.specs.Prelude.{ℕ, zero, suc, ◌==◌, List, [], ◌∷◌, ◌++◌, codes, length, slice_index, Result, Ok, Err, if◌then◌else◌}
 use Rattle.profile.specs.Digits.{hex_word}
 use Rattle.profile.specs.declared.fault.Fault.{Fault}
-use Rattle.address_map.specs.Bytes.{Bytes, word_loaded}
+use Rattle.arm_step.specs.Bytes.{Bytes, word_loaded}
 use Rattle.profile.specs.Sums.{address_further}
 
 -- a word where no memory is mapped counts as 0

@@ -1,11 +1,11 @@
 //! All words of memory that differ.
 
 ghost use Rattle.std.specs.Prelude.{ℕ, ◌≡◌, ◌<◌, ◌%◌, ◌*◌, ◌+◌, ◌^◌, true, IfOk, OnOk};
-ghost use Rattle.address_map.specs.Bytes.{word_at};
-ghost use Rattle.address_map.specs.Memory.{byte_at};
+ghost use Rattle.arm_step.specs.Bytes.{word_at};
+ghost use Rattle.arm_step.specs.Memory.{byte_at};
 ghost use Rattle.trace_effects.specs.shown_words.Replay.{AreShownBelow, words_after};
 
-use address_map::AddressMap;
+use arm_step::AddressMap;
 use profile::memory_map::{ADDRESS_LIMIT, PAGE_SIZE};
 use std::alloc::{AllocError, Global};
 

@@ -1,14 +1,14 @@
 //! The words that an instruction loaded.
 
 ghost use Rattle.std.specs.Prelude.{◌≡◌};
-ghost use Rattle.address_map.specs.Memory.{bytes_of};
+ghost use Rattle.arm_step.specs.Memory.{bytes_of};
 ghost use Rattle.profile.specs.Output.{Writes};
 ghost use Rattle.trace_effects.specs.word_text.Loaded.{count_word, is_same_register, loaded_words_text, place_word, value_word};
 
 use crate::StoredWords;
 use crate::word_text::stored::word_or_zero;
-use address_map::AddressMap;
 use arm_core::Cpu;
+use arm_step::AddressMap;
 use itoa::Buffer;
 use profile::{HexText, Sink, WriteFault, push_parts};
 

@@ -1,13 +1,13 @@
 //! The words that an instruction stored to.
 
 ghost use Rattle.std.specs.Prelude.{◌≡◌, ◌≤◌};
-ghost use Rattle.address_map.specs.Bytes.{word_loaded};
-ghost use Rattle.address_map.specs.Memory.{bytes_of};
+ghost use Rattle.arm_step.specs.Bytes.{word_loaded};
+ghost use Rattle.arm_step.specs.Memory.{bytes_of};
 ghost use Rattle.profile.specs.Output.{Writes};
 ghost use Rattle.trace_effects.specs.word_text.Stored.{stored_below, stored_here, stored_line, stored_lines, stored_word, word_or_zero, word_values_from};
 
 use crate::StoredWords;
-use address_map::AddressMap;
+use arm_step::AddressMap;
 use arrayvec::ArrayVec;
 use profile::{HexText, Sink, WriteFault, push_all, push_parts};
 

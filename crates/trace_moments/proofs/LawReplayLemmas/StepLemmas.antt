@@ -20,7 +20,7 @@ use Rattle.arm_core.specs.State.{State, register_in, register_of}
 use Rattle.arm_core.specs.declared.psr.Mode.TheVariants.{Supervisor}
 use Rattle.arm_core.specs.declared.turn.StepEnd.{StepEnd}
 use Rattle.arm_core.specs.declared.turn.StepEnd.TheVariants as turn
-use Rattle.arm_step.specs.Step.{result_of_step}
+use Rattle.law_machine.specs.Step.{result_of_step}
 use Rattle.profile.specs.images.Entries.{Entry}
 use Rattle.instances_table.specs.declared.plans.code.Code.{Code}
 use Rattle.instances_table.specs.declared.plans.given.Given.{Given}
@@ -36,27 +36,27 @@ use Rattle.swi_dispatch_answers.specs.declared.frames.frame.Frame.{Frame}
 use Rattle.swi_dispatch_answers.specs.declared.frames.frame.FrameKind.{FrameKind}
 use Rattle.swi_dispatch_answers.specs.declared.frames.frame.FrameKind.TheVariants as frame
 use Rattle.swi_dispatch_answers.specs.frames.Frames.{frame_of, frames_after_close, innermost_frame}
-use Rattle.swi_dispatch_plans.specs.ImagePlans.{instantiation_planned}
-use Rattle.swi_dispatch_plans.specs.ModulePlans.{clear_planned, delete_planned, reinit_planned, tidy_planned}
-use Rattle.swi_dispatch_plans.specs.Openings.{opening_asked}
-use Rattle.swi_dispatch_plans.specs.Reading.{start_found}
-use Rattle.swi_dispatch_plans.specs.Start.{Start}
-use Rattle.swi_dispatch_plans.specs.Trials.{module_state_carried}
-use Rattle.swi_dispatch_plans.specs.declared.openings.Opening.{Opening}
-use Rattle.swi_dispatch_plans.specs.module_state.ModuleState.{ModuleState}
-use Rattle.swi_dispatch_guest.specs.declared.halt.Halt.{Halt}
-use Rattle.swi_dispatch_guest.specs.declared.halt.Halt.TheVariants as halt
-use Rattle.swi_dispatch_guest.specs.Additions.{Planned, copy_planned, insertion_planned, load_planned, named_load_planned, plan_alone}
-use Rattle.swi_dispatch_guest.specs.Answers.{Answer, refusal_answer}
-use Rattle.swi_dispatch_guest.specs.Calls.{call_answer}
-use Rattle.swi_dispatch_guest.specs.Gates.{call_ended_by, carried_on, come_back, ended_of, entered_if, entered_with, entry_left, fault_ahead, frame_closed, frame_left, frames_by, gated_by, outcome_left, outcome_of_gate, plan_left, state_after_plan, state_with_code_entered, swi_left, unless_fault}
-use Rattle.swi_dispatch_guest.specs.MachineState.{MachineState, StepOutcome, machine_module_state, silent, setting_of, with_module_state}
-use Rattle.swi_dispatch_guest.specs.ModuleStart.{opened_at}
-use Rattle.swi_dispatch_guest.specs.Returns.{error_answered, gone_back, outcome_of_error, outcome_of_halt}
-use Rattle.swi_dispatch_guest.specs.Step.{begun_alone, call_of, call_refused, called_by, is_exit, machine_step, module_entered, module_loaded, os_module_called, os_module_called_for, outcome_of_answer, outcome_of_call, outcome_of_end, outcome_of_module_swi, outcome_of_planned, outcome_of_turn, result_of_instruction, store_called, unless_halted, without_x}
-use Rattle.swi_dispatch_guest.specs.law_frames.Frames.{KeepsFrames, OnlyTheGateCloses}
-use Rattle.swi_dispatch_guest.proofs.LawFramesLemmas.Answering.{IsLeft, answer_left}
-use Rattle.swi_dispatch_guest.proofs.LawFramesLemmas.Keeping.{only_the_gate_closes}
+use Rattle.law_machine.specs.ImagePlans.{instantiation_planned}
+use Rattle.law_machine.specs.ModulePlans.{clear_planned, delete_planned, reinit_planned, tidy_planned}
+use Rattle.law_machine.specs.Openings.{opening_asked}
+use Rattle.law_machine.specs.Reading.{start_found}
+use Rattle.law_machine.specs.Start.{Start}
+use Rattle.law_machine.specs.Trials.{module_state_carried}
+use Rattle.law_machine.specs.Opening.{Opening}
+use Rattle.law_machine.specs.ModuleState.{ModuleState}
+use Rattle.law_machine.specs.Halt.{Halt}
+use Rattle.law_machine.specs.Halt.TheVariants as halt
+use Rattle.law_machine.specs.Additions.{Planned, copy_planned, insertion_planned, load_planned, named_load_planned, plan_alone}
+use Rattle.law_machine.specs.Answers.{Answer, refusal_answer}
+use Rattle.law_machine.specs.Calls.{call_answer}
+use Rattle.law_machine.specs.Gates.{call_ended_by, carried_on, come_back, ended_of, entered_if, entered_with, entry_left, fault_ahead, frame_closed, frame_left, frames_by, gated_by, outcome_left, outcome_of_gate, plan_left, state_after_plan, state_with_code_entered, swi_left, unless_fault}
+use Rattle.trace_store_text.specs.MachineState.{MachineState, StepOutcome, machine_module_state, silent, setting_of, with_module_state}
+use Rattle.law_machine.specs.ModuleStart.{opened_at}
+use Rattle.law_machine.specs.Returns.{error_answered, gone_back, outcome_of_error, outcome_of_halt}
+use Rattle.trace_store_text.specs.Step.{begun_alone, call_of, call_refused, called_by, is_exit, machine_step, module_entered, module_loaded, os_module_called, os_module_called_for, outcome_of_answer, outcome_of_call, outcome_of_end, outcome_of_module_swi, outcome_of_planned, outcome_of_turn, result_of_instruction, store_called, unless_halted, without_x}
+use Rattle.law_machine.specs.Frames.{KeepsFrames, OnlyTheGateCloses}
+use Rattle.law_machine.proofs.Answering.{IsLeft, answer_left}
+use Rattle.law_machine.proofs.Keeping.{only_the_gate_closes}
 use Rattle.trace_moments.specs.Frames.{AreKept}
 use Rattle.trace_moments.proofs.FrameLemmas.{kept_if_closed, kept_if_left, kept_if_opened, kept_shown}
 use Rattle.trace_moments.specs.law_replay.Steps.{Keeps, KeepsOpenFrames, StepsKeepFrames, count_kept, count_open}

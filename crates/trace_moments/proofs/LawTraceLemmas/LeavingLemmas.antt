@@ -27,7 +27,7 @@ use Rattle.os_heap.specs.Store.{Store}
 use Rattle.dynamic_areas.specs.Areas.{AreaTable, area_in, areas_after_renumber, extent_asked, next_number, with_areas}
 use Rattle.flex_store.proofs.Holding.{bytes_beside, word_beside}
 use Rattle.flex_store.specs.Calls.{flex_block_size}
-use Rattle.instances.specs.Reading.{instance_info, instance_looked_up}
+use Rattle.law_machine.specs.Reading.{instance_info, instance_looked_up}
 use Rattle.instances_table.specs.Lookup.{handler_of}
 use Rattle.instances_table.specs.declared.parts.Handler.{Handler}
 use Rattle.swi_dispatch_answers.specs.Errors.{memory_with_error}
@@ -35,19 +35,19 @@ use Rattle.swi_dispatch_answers.specs.Refusals.{or_error}
 use Rattle.swi_dispatch_answers.specs.Strings.{string_in}
 use Rattle.swi_dispatch_answers.specs.declared.refusal.Refusal.{Refusal}
 use Rattle.swi_dispatch_answers.specs.declared.refusal.Refusal.TheVariants as refusal
-use Rattle.swi_dispatch_plans.specs.flex.Calls.{flex_called, state_in}
-use Rattle.swi_dispatch_plans.specs.modules.Calls.{module_called_for, result_of_module_call}
-use Rattle.swi_dispatch_plans.specs.modules.Naming.{looked_for, place_asked, with_found, with_shown}
-use Rattle.swi_dispatch_plans.specs.store.Areas.{area_called, area_called_for, area_read, with_area_shown, with_extent}
-use Rattle.swi_dispatch_plans.specs.store.Heaps.{heap_called, heap_called_for}
-use Rattle.swi_dispatch_guest.proofs.Kept.{short_name}
-use Rattle.swi_dispatch_guest.specs.Answers.{Answer, refusal_answer, went_on}
-use Rattle.swi_dispatch_guest.specs.Calls.{call_answer, machine_flex, on_area_store, on_flex, on_store, on_module_state, printable_at, wrote_text_after, wrote_text_at}
-use Rattle.swi_dispatch_guest.specs.MachineState.{MachineState, StepOutcome, machine_area_store, machine_module_state, silent}
-use Rattle.swi_dispatch_guest.specs.Returns.{outcome_of_halt}
-use Rattle.swi_dispatch_guest.specs.Step.{call_of, call_refused, called_by, handler_entered, is_exit, machine_step, os_module_called, os_module_called_for, outcome_of_answer, outcome_of_call, outcome_of_end, outcome_of_module_swi, outcome_of_turn, result_of_instruction, swi_called, unless_halted, without_x}
-use Rattle.swi_dispatch_guest.specs.declared.halt.Halt.{Halt}
-use Rattle.swi_dispatch_guest.specs.declared.halt.Halt.TheVariants as halt
+use Rattle.law_machine.specs.SwiDispatchPlansCalls.{flex_called, state_in}
+use Rattle.law_machine.specs.SwiDispatchPlansModulesCalls.{module_called_for, result_of_module_call}
+use Rattle.law_machine.specs.Naming.{looked_for, place_asked, with_found, with_shown}
+use Rattle.law_machine.specs.Areas.{area_called, area_called_for, area_read, with_area_shown, with_extent}
+use Rattle.law_machine.specs.Heaps.{heap_called, heap_called_for}
+use Rattle.law_machine.proofs.Kept.{short_name}
+use Rattle.law_machine.specs.Answers.{Answer, refusal_answer, went_on}
+use Rattle.law_machine.specs.Calls.{call_answer, machine_flex, on_area_store, on_flex, on_store, on_module_state, printable_at, wrote_text_after, wrote_text_at}
+use Rattle.trace_store_text.specs.MachineState.{MachineState, StepOutcome, machine_area_store, machine_module_state, silent}
+use Rattle.law_machine.specs.Returns.{outcome_of_halt}
+use Rattle.trace_store_text.specs.Step.{call_of, call_refused, called_by, handler_entered, is_exit, machine_step, os_module_called, os_module_called_for, outcome_of_answer, outcome_of_call, outcome_of_end, outcome_of_module_swi, outcome_of_turn, result_of_instruction, swi_called, unless_halted, without_x}
+use Rattle.law_machine.specs.Halt.{Halt}
+use Rattle.law_machine.specs.Halt.TheVariants as halt
 use Rattle.law_machine.proofs.HeapAloneLemmas.HeapAnswers.{overflow_back}
 use Rattle.trace_effects.specs.Leaving.{area_asks, call_leaves, heap_asks, module_asks, named_call_leaves}
 use Rattle.trace_moments.specs.law_trace.Laws.{CallsLeaveStore, IsOfError, IsStoreLeft}

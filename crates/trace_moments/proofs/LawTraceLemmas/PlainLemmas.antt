@@ -18,13 +18,13 @@ use Rattle.arm_decode.specs.declared.action.Action.TheVariants as action
 use Rattle.arm_decode.specs.declared.action.BlockTransfer.{BlockTransfer}
 use Rattle.arm_decode.specs.declared.action.Transfer.{Transfer}
 use Rattle.arm_decode.specs.declared.condition.Condition.{Condition}
-use Rattle.arm_step.specs.Blocks.{result_of_block_transfer}
-use Rattle.arm_step.specs.Step.{acted_if_decoded, executed_if_fetched, or_fault, result_of_action, result_of_step, result_of_word}
-use Rattle.arm_step.specs.Transfers.{result_of_transfer}
+use Rattle.law_machine.specs.Blocks.{result_of_block_transfer}
+use Rattle.law_machine.specs.Step.{acted_if_decoded, executed_if_fetched, or_fault, result_of_action, result_of_step, result_of_word}
+use Rattle.law_machine.specs.Transfers.{result_of_transfer}
 use Rattle.os_heap.specs.Store.{owned_in}
-use Rattle.swi_dispatch_guest.specs.MachineState.{MachineState, StepOutcome}
-use Rattle.swi_dispatch_guest.specs.Step.{machine_step, outcome_of_turn, result_of_instruction, unless_halted}
-use Rattle.swi_dispatch_guest.specs.declared.halt.Halt.{Halt}
+use Rattle.trace_store_text.specs.MachineState.{MachineState, StepOutcome}
+use Rattle.trace_store_text.specs.Step.{machine_step, outcome_of_turn, result_of_instruction, unless_halted}
+use Rattle.law_machine.specs.Halt.{Halt}
 use Rattle.trace_effects.specs.Cause.{cause_if_fetched, cause_of, swi_if_decoded, swi_of_action}
 use Rattle.trace_effects.specs.Stored.{stored_words, words_if_decoded, words_of_action, words_of_block, words_of_transfer}
 use Rattle.trace_effects.specs.declared.cause.Cause.{Cause}

@@ -13,16 +13,16 @@ use Rattle.arm_decode.specs.declared.action.Action.TheVariants as action
 use Rattle.arm_decode.specs.declared.action.BlockTransfer.{BlockTransfer}
 use Rattle.arm_decode.specs.declared.action.Transfer.{Transfer}
 use Rattle.arm_decode.specs.declared.condition.Condition.{Condition}
-use Rattle.arm_step.specs.Blocks.{block_start, transferred_count}
-use Rattle.arm_step.specs.Step.{result_of_step}
-use Rattle.arm_step.specs.Transfers.{transfer_address}
+use Rattle.law_machine.specs.Blocks.{block_start, transferred_count}
+use Rattle.law_machine.specs.Step.{result_of_step}
+use Rattle.law_machine.specs.Transfers.{transfer_address}
 use Rattle.arm_core.specs.Conditions.{condition_holds}
 use Rattle.arm_core.specs.State.{State}
 use Rattle.arm_core.specs.declared.turn.StepEnd.{StepEnd}
 use Rattle.os_heap.specs.Store.{owned_in}
-use Rattle.swi_dispatch_guest.specs.MachineState.{MachineState, StepOutcome}
-use Rattle.swi_dispatch_guest.specs.Step.{machine_step, moved_on, outcome_of_turn, result_of_instruction, unless_halted}
-use Rattle.swi_dispatch_guest.specs.declared.halt.Halt.{Halt}
+use Rattle.trace_store_text.specs.MachineState.{MachineState, StepOutcome}
+use Rattle.trace_store_text.specs.Step.{machine_step, moved_on, outcome_of_turn, result_of_instruction, unless_halted}
+use Rattle.law_machine.specs.Halt.{Halt}
 use Rattle.law_machine.specs.heap_alone.Storing.{StepsLeaveBytes, is_stored, is_stored_at, stores_by, stores_if_decoded, stores_if_fetched}
 use Rattle.trace_effects.specs.Cause.{cause_if_fetched, cause_of}
 use Rattle.trace_effects.specs.Stored.{stored_words, words_if_decoded, words_of_action, words_of_block, words_of_transfer}

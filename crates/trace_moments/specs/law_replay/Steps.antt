@@ -2,8 +2,8 @@
 use Rattle.std.specs.Prelude.{◌≡◌, ℕ, ◌-◌, ◌==◌, ◌&&◌, min, is_none, List, length, None, if◌then◌else◌}
 use Rattle.profile.specs.MemoryMap.{return_gate}
 use Rattle.profile.specs.images.Entries.{Entry}
-use Rattle.swi_dispatch_guest.specs.MachineState.{MachineState}
-use Rattle.swi_dispatch_guest.specs.Step.{machine_step, module_loaded, store_called}
+use Rattle.trace_store_text.specs.MachineState.{MachineState}
+use Rattle.trace_store_text.specs.Step.{machine_step, module_loaded, store_called}
 use Rattle.trace_moments.specs.Frames.{AreKept, shown_frames}
 
 -- As many as are open before and after are kept; but a step from the address that module code returns

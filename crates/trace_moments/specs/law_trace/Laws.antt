@@ -6,8 +6,8 @@ use Rattle.profile.specs.images.Entries.{Entry}
 use Rattle.address_map.specs.Bytes.{Bytes, in_range, word_at}
 use Rattle.arm_core.specs.State.{State, register_of}
 use Rattle.arm_core.specs.declared.turn.StepEnd.TheVariants as turn
-use Rattle.swi_dispatch_guest.specs.MachineState.{MachineState}
-use Rattle.swi_dispatch_guest.specs.Step.{machine_step, result_of_instruction, without_x}
+use Rattle.trace_store_text.specs.MachineState.{MachineState}
+use Rattle.trace_store_text.specs.Step.{machine_step, result_of_instruction, without_x}
 use Rattle.trace_effects.specs.Cause.{cause_of, swi_of_cause}
 use Rattle.trace_effects.specs.Leaving.{call_leaves}
 use Rattle.trace_effects.specs.Stored.{stored_words}

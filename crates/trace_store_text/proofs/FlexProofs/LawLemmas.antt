@@ -3,7 +3,7 @@ use Rattle.std.proofs.Common.{◌≡◌, ◌≢◌, ◌⊎◌, ℕ, ◌==◌, �
 use Rattle.std.proofs.lemmas.Bool.{and_parts, cases_Bool, eq-eqb, eqb-true, false≢true}
 use Rattle.std.proofs.lemmas.List.Elements.{Contains-append_cases, Contains-append_left, Contains-append_right, Contains-push}
 use Rattle.std.specs.List.{flat_map}
-use Rattle.flex_store.specs.declared.blocks.FlexBlock.{FlexBlock}
+use Rattle.store_copies.specs.FlexBlock.{FlexBlock}
 use Rattle.trace_store_text.specs.flex.Changes.{BlockChange, block_changes, block_of_anchor, gone_block, gone_block_by, is_same_block, kept_block, kept_block_by}
 use Rattle.trace_store_text.specs.flex.Laws.{ExplainsFlex, IsBlockChange, IsBlockExplained, IsGoneBlock, IsKeptBlock, ListsBlocks}
 use Rattle.trace_store_text.proofs.ItemsLemmas.MadeLemmas.{first_or_later, in_all, made_of, none_in}

@@ -4,9 +4,9 @@ use Rattle.std.specs.Prelude.{IfSome, IsSome}
 use Rattle.std.specs.Option.{option_map}
 use Rattle.address_map.specs.declared.item.Item.{Item}
 use Rattle.address_map.specs.Items.{size_of}
-use Rattle.os_heap.specs.Calls.{items_of}
-use Rattle.os_heap.specs.Store.{Store, find_heap}
-use Rattle.os_heap_words.specs.lists.Heap.{HeapList}
+use Rattle.store_copies.specs.Calls.{items_of}
+use Rattle.store_copies.specs.Store.{Store, find_heap}
+use Rattle.store_copies.specs.Heap.{HeapList}
 use Rattle.trace_store_text.specs.declared.heaps.limits.HeapLimits.{HeapLimits}
 use Rattle.trace_store_text.specs.heaps.Limits.{limits_in, limits_of_heap}
 

@@ -2,7 +2,7 @@
 use Rattle.std.proofs.Common.{◌≡◌, ℕ, zero, suc, ◌+◌, ◌*◌, ◌<◌, ◌≤◌, ◌^◌, Bool, true, false, List, [], ◌∷◌, ◌++◌, length, take, Option, Some, None, refl, sym, ap, subst, ◌∙◌, arith, length-append, if◌then◌else◌}
 use Rattle.std.proofs.lemmas.List.{append-nil, length-take, take-append-le, take_all}
 use Rattle.address_map.specs.declared.item.Item.{Item}
-use Rattle.os_heap.specs.Store.{Store}
+use Rattle.store_copies.specs.Store.{Store}
 use Rattle.trace_store_text.specs.items.Changes.{IsItemSummary, changes_between, is_same_item, item_change_at, item_changes, item_changes_below, item_shown}
 use Rattle.trace_store_text.specs.items.Places.{PlacedItems, item_there, placed_items}
 use Rattle.trace_store_text.specs.declared.items.changes.ItemChange.{ItemChange}

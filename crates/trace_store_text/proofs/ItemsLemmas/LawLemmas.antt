@@ -4,7 +4,7 @@ use Rattle.std.proofs.lemmas.Bool.{cases_Bool, cases_lt, eq-eqb, eqb-true, ne_eq
 use Rattle.std.proofs.lemmas.List.Elements.{Contains-append_cases}
 use Rattle.address_map.specs.declared.item.Item.{Item}
 use Rattle.address_map.specs.declared.item.Item.TheVariants.{Free, Live}
-use Rattle.os_heap.specs.Store.{Store}
+use Rattle.store_copies.specs.Store.{Store}
 use Rattle.trace_store_text.specs.items.Changes.{changes_between, is_same_item, item_change_at, item_changes, item_changes_below, item_shown}
 use Rattle.trace_store_text.specs.items.Laws.{ExplainsHeaps, IsItemChange, ListsItems, with_item_change, with_item_changes}
 use Rattle.trace_store_text.specs.items.Places.{PlacedItems, item_there, placed_items}

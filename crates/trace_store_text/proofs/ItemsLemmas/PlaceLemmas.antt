@@ -7,10 +7,10 @@ use Rattle.address_map.specs.Items.{size_of}
 use Rattle.address_map.specs.Memory.{bytes_of}
 use Rattle.address_map.specs.declared.item.Item.{Item}
 use Rattle.address_map.specs.declared.map.AddressMap.{AddressMap}
-use Rattle.os_heap.proofs.Found.{found_heap, found_start}
-use Rattle.os_heap.specs.Calls.{items_of}
-use Rattle.os_heap.specs.Store.{IsSound, Store, find_heap, store_of}
-use Rattle.os_heap_words.specs.lists.Heap.{AreTotals, HeapList, IsHeapIn}
+use Rattle.store_copies.proofs.Found.{found_heap, found_start}
+use Rattle.store_copies.specs.Calls.{items_of}
+use Rattle.store_copies.specs.Store.{IsSound, Store, find_heap, store_of}
+use Rattle.store_copies.specs.Heap.{AreTotals, HeapList, IsHeapIn}
 use Rattle.trace_store_text.specs.items.Places.{IsWalk, PlacedItems, first_item, items_with_next, no_items, placed_items, rest_of}
 
 pub none_placed : (s : Store) (heap : ℕ) → items_of s heap ≡ None → no_items ≡ placed_items s heap

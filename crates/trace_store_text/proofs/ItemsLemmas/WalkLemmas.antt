@@ -7,9 +7,9 @@ use Rattle.std.specs.Prelude.{nat_le}
 use Rattle.address_map.specs.Items.{size_of, total_of}
 use Rattle.address_map.specs.declared.item.Item.{Item}
 use Rattle.address_map.specs.declared.item.Item.TheVariants.{Free, Live}
-use Rattle.os_heap_words.proofs.ListsLemmas.Reading.{total_facts}
-use Rattle.os_heap_words.specs.lists.Heap.{AreTotals}
-use Rattle.os_heap.specs.Store.{Store}
+use Rattle.store_copies.proofs.Reading.{total_facts}
+use Rattle.store_copies.specs.Heap.{AreTotals}
+use Rattle.store_copies.specs.Store.{Store}
 use Rattle.trace_store_text.specs.items.Changes.{IsItemSummary, changes_between, item_change_at, item_changes, item_changes_below}
 use Rattle.trace_store_text.specs.items.Places.{PlacedItems, after_taking_by, first_item, item_placed, item_taken, item_there, items_after_taking, lower_place, place_next, placed_items, taken_by}
 use Rattle.trace_store_text.specs.declared.items.changes.ItemChange.{ItemChange}

@@ -3,11 +3,11 @@
 use Rattle.std.specs.Prelude.{ℕ, Bool, ◌+◌, ◌==◌, ◌&&◌, List, [], ◌∷◌, ◌++◌, Option, Some, None, if◌then◌else◌}
 use Rattle.std.specs.List.{flat_map}
 use Rattle.address_map.specs.Bytes.{Bytes}
-use Rattle.flex_store.specs.Listed.{blocks_with_places}
-use Rattle.flex_store.specs.Memory.{blocks_in}
-use Rattle.flex_store.specs.declared.blocks.FlexBlock.{FlexBlock}
-use Rattle.flex_store.specs.declared.flex.Extent.{Extent}
-use Rattle.flex_store.specs.declared.flex.Flex.{Flex}
+use Rattle.store_copies.specs.Listed.{blocks_with_places}
+use Rattle.store_copies.specs.Memory.{blocks_in}
+use Rattle.store_copies.specs.FlexBlock.{FlexBlock}
+use Rattle.store_copies.specs.Extent.{Extent}
+use Rattle.store_copies.specs.Flex.{Flex}
 
 -- the blocks that memory spells, by address
 abbrev pub blocks_in_extent : Bytes → Option Extent → List FlexBlock

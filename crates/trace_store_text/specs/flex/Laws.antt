@@ -1,6 +1,6 @@
 -- What the list of the blocks that differ is good for.
 use Rattle.std.specs.Prelude.{◌≡◌, ◌≢◌, ◌⊎◌, ℕ, List, Contains, Option, Some, None}
-use Rattle.flex_store.specs.declared.blocks.FlexBlock.{FlexBlock}
+use Rattle.store_copies.specs.FlexBlock.{FlexBlock}
 use Rattle.trace_store_text.specs.flex.Changes.{BlockChange, block_changes, block_of_anchor}
 
 -- Complete: the anchor of a block that was there has a block still, or the block is shown as gone; and a

@@ -3,8 +3,8 @@
 use Rattle.std.specs.Prelude.{ℕ, ◌+◌, ◌/◌, nat_lt, Option, Some, None, if◌then◌else◌}
 use Rattle.std.specs.Option.{option_map}
 use Rattle.address_map.specs.Items.{size_of}
-use Rattle.os_heap.specs.Store.{Store, find_heap}
-use Rattle.os_heap_words.specs.lists.Heap.{HeapList}
+use Rattle.store_copies.specs.Store.{Store, find_heap}
+use Rattle.store_copies.specs.Heap.{HeapList}
 use Rattle.store_copies.specs.declared.changes.PageRange.{PageRange}
 use Rattle.trace_store_text.specs.declared.heaps.limits.HeapLimits.{HeapLimits}
 

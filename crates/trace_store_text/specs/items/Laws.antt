@@ -1,7 +1,7 @@
 -- What the lists of items are good for.
 use Rattle.std.specs.Prelude.{◌≡◌, ◌≢◌, ℕ, ◌<◌, ◌^◌, ◌==◌, Bool, true, false, List, [], ◌∷◌, Contains, Option, Some, None, if◌then◌else◌}
 use Rattle.address_map.specs.declared.item.Item.{Item}
-use Rattle.os_heap.specs.Store.{Store}
+use Rattle.store_copies.specs.Store.{Store}
 use Rattle.trace_store_text.specs.items.Changes.{item_changes}
 use Rattle.trace_store_text.specs.items.Places.{item_there, placed_items}
 use Rattle.trace_store_text.specs.declared.items.changes.ItemChange.{ItemChange}

@@ -4,9 +4,9 @@
 use Rattle.std.specs.Prelude.{◌≡◌, ◌≤◌, ℕ, ◌+◌, ◌^◌, ◌==◌, nat_le, List, [], ◌∷◌, Option, Some, None, option_map, unwrap_or, if◌then◌else◌}
 use Rattle.address_map.specs.Items.{size_of, total_of}
 use Rattle.address_map.specs.declared.item.Item.{Item}
-use Rattle.os_heap.specs.Calls.{items_of}
-use Rattle.os_heap.specs.Store.{Store}
-use Rattle.os_heap_words.specs.lists.Heap.{AreTotals}
+use Rattle.store_copies.specs.Calls.{items_of}
+use Rattle.store_copies.specs.Store.{Store}
+use Rattle.store_copies.specs.Heap.{AreTotals}
 
 -- items one after another, the first of them at an address
 pub record PlacedItems : Type 0 where

@@ -3,7 +3,7 @@
 ghost use Rattle.std.specs.Prelude.{◌≡◌};
 ghost use Rattle.trace_store_text.specs.flex.Changes.{block_of_anchor, is_same_block};
 
-use flex_store::{FlexBlock, FlexBlocks};
+use store_copies::{FlexBlock, FlexBlocks};
 
 /// The block of an anchor among some blocks, if one has it.
 pub fn find_block(blocks: FlexBlocks, anchor: u32) -> Option<FlexBlock>

@@ -2,14 +2,13 @@
 
 ghost use Rattle.std.specs.Prelude.{◌≡◌, ◌+◌, IsSome, IfSome};
 ghost use Rattle.address_map.specs.Items.{size_of};
-ghost use Rattle.os_heap.specs.Store.{IsSound, find_heap, store_of};
+ghost use Rattle.store_copies.specs.Store.{IsSound, find_heap, store_of};
 ghost use Rattle.trace_store_text.specs.heaps.Limits.{end_shown, heap_pages, limits_in};
 ghost use Rattle.trace_store_text.specs.Sound.{AreBothSound};
 
 use address_map::AddressMap;
-use os_heap::Heaps;
 use profile::memory_map::PAGE_SIZE;
-use store_copies::PageRange;
+use store_copies::{Heaps, PageRange};
 
 /// Where the words of a heap's descriptor stand that show its base and its end.
 const BASE: u32 = 8;

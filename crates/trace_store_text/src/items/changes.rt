@@ -1,7 +1,7 @@
 //! The items that differ.
 
 ghost use Rattle.std.specs.Prelude.{◌≡◌, ◌<◌, ◌≤◌, ◌^◌, ◌+◌, ◌∷◌, ◌++◌, [], List};
-ghost use Rattle.os_heap.specs.Store.{store_of};
+ghost use Rattle.store_copies.specs.Store.{store_of};
 ghost use Rattle.trace_store_text.specs.items.Changes.{IsItemSummary, is_same_item, item_change_at, item_changes, item_shown};
 ghost use Rattle.trace_store_text.specs.Sound.{AreBothSound};
 

@@ -2,14 +2,14 @@
 
 ghost use Rattle.std.specs.Prelude.{◌≡◌, ◌≤◌, ◌+◌, ◌^◌, [], unwrap_or};
 ghost use Rattle.address_map.specs.Items.{size_of};
-ghost use Rattle.os_heap.specs.Store.{IsSound, store_of};
-ghost use Rattle.os_heap_words.specs.lists.Heap.{AreTotals};
+ghost use Rattle.store_copies.specs.Store.{IsSound, store_of};
+ghost use Rattle.store_copies.specs.Heap.{AreTotals};
 ghost use Rattle.trace_store_text.specs.items.Places.{first_item, lower_place, rest_of};
 
 use address_map::{AddressMap, Item};
-use os_heap::{Blocks, Heaps};
 use profile::memory_map::HEAP_DESCRIPTOR;
 use std::marker::Model;
+use store_copies::{Blocks, Heaps};
 
 /// The items of a heap that are left of a walk over them, and where the first of these stands.
 #[derive(Drop)]

@@ -1,5 +1,5 @@
 use Rattle.std.proofs.Common.{◌+◌, false}
-use Rattle.address_map.specs.Memory.{bytes_of, is_owned}
+use Rattle.arm_step.specs.Memory.{bytes_of, is_owned}
 use Rattle.arm_run.proofs.Blocked.{loads_block}
 use Rattle.arm_run.proofs.blocks.load_block.Goals as goal
 

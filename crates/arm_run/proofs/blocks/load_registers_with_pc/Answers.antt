@@ -1,5 +1,5 @@
 use Rattle.std.proofs.Common.{◌≡◌, ◌+◌, ◌∙◌, ℕ, sym, ap, length, true}
-use Rattle.address_map.specs.Memory.{bytes_of}
+use Rattle.arm_step.specs.Memory.{bytes_of}
 use Rattle.arm_core.specs.Listed.{registers_of_list}
 use Rattle.arm_core.specs.State.{State, with_register}
 use Rattle.arm_predecode.specs.OpValue.{OpValue}

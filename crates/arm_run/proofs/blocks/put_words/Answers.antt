@@ -1,6 +1,6 @@
 use Rattle.std.proofs.Common.{◌<◌, ◌+◌, ◌%◌, ℕ, ap, sym, ◌∙◌, arith, length}
-use Rattle.address_map.proofs.Lending.{page_fits, place_ahead}
-use Rattle.address_map.specs.Memory.{bytes_of}
+use Rattle.arm_step.proofs.Lending.{page_fits, place_ahead}
+use Rattle.arm_step.specs.Memory.{bytes_of}
 use Rattle.arm_core.specs.Listed.{registers_of_list}
 use Rattle.arm_core.specs.State.{register_in}
 use Rattle.arm_core.proofs.Listing.{few_of_all}

@@ -1,5 +1,5 @@
 use Rattle.std.proofs.Common.{◌≡◌, ◌<◌, ◌+◌, ◌*◌, ◌^◌, length, map}
-use Rattle.address_map.specs.Memory.{bytes_of, layout, class_of}
+use Rattle.arm_step.specs.Memory.{bytes_of, layout, class_of}
 use Rattle.arm_core.specs.Listed.{registers_of_list}
 use Rattle.arm_core.specs.State.{register_in}
 use Rattle.arm_step.specs.Words.{with_words}

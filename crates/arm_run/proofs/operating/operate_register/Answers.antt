@@ -1,5 +1,5 @@
 use Rattle.std.proofs.Common.{◌∙◌, ap}
-use Rattle.arm_decode.specs.declared.shifted.Shifted.{Shifted}
+use Rattle.arm_step.specs.Shifted.{Shifted}
 use Rattle.arm_core.specs.Operand.{unshifted_value}
 use Rattle.arm_core.specs.State.{register_in}
 use Rattle.arm_core.specs.declared.psr.Psr.{Psr}

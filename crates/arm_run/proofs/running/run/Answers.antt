@@ -1,6 +1,6 @@
 use Rattle.std.proofs.Common.{◌≡◌, ◌<◌, ◌≤◌, ◌⊎◌, ◌+◌, ◌-◌, ◌*◌, ◌%◌, ◌^◌, ◌∙◌, ℕ, [], false, inl, inr, refl, sym, ap, subst, arith}
-use Rattle.address_map.specs.Memory.{bytes_of, is_owned}
-use Rattle.address_map.proofs.Words.{is_owned-same}
+use Rattle.arm_step.specs.Memory.{bytes_of, is_owned}
+use Rattle.arm_step.proofs.AddressMapWords.{is_owned-same}
 use Rattle.arm_core.specs.State.{State}
 use Rattle.arm_core.specs.declared.turn.StepEnd.TheVariants as turn
 use Rattle.arm_core.specs.breaks.Breaks.{is_among}

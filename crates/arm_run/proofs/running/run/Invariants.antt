@@ -1,5 +1,5 @@
 use Rattle.std.proofs.Common.{◌≡◌, ◌≤◌, ◌<◌, ◌⊎◌, ◌+◌, ◌-◌, ◌*◌, ◌%◌, ◌^◌, false, []}
-use Rattle.address_map.specs.Memory.{bytes_of, class_of, is_owned, layout, place}
+use Rattle.arm_step.specs.Memory.{bytes_of, class_of, is_owned, layout, place}
 use Rattle.arm_core.specs.breaks.Breaks.{is_among}
 use Rattle.arm_run.specs.Runs.{AreDone}
 use Rattle.arm_run.specs.Standing.{core_at}

@@ -1,5 +1,5 @@
-use Rattle.address_map.specs.Memory.{bytes_of, is_owned}
-use Rattle.address_map.proofs.Words.{is_owned-same}
+use Rattle.arm_step.specs.Memory.{bytes_of, is_owned}
+use Rattle.arm_step.proofs.AddressMapWords.{is_owned-same}
 use Rattle.arm_run.proofs.Transferred.{acts_from}
 use Rattle.arm_run.proofs.transferring.store_by_register.Goals as goal
 

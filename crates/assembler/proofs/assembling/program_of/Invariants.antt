@@ -1,5 +1,5 @@
 use Rattle.std.proofs.Common.{◌≡◌, ◌+◌, ◌-◌, ◌≤◌, length, take, []}
-use Rattle.assembler_text.specs.naming.Labels.{address_of}
+use Rattle.assembler_reading.specs.Labels.{address_of}
 use Rattle.assembler.specs.Passes.{second_pass}
 use Rattle.assembler.proofs.assembling.program_of.Given as goal
 

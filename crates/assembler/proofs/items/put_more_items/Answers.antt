@@ -1,6 +1,6 @@
 use Rattle.std.proofs.Common.{◌≡◌, Some, sym, ◌∙◌, arith}
-use Rattle.assembler_text.specs.naming.Labels.{address_of}
-use Rattle.assembler_text.specs.naming.Words.{comma}
+use Rattle.assembler_reading.specs.Labels.{address_of}
+use Rattle.assembler_reading.specs.Words.{comma}
 use Rattle.assembler.specs.Directives.{with_item_read}
 use Rattle.assembler.proofs.ItemLemmas.{one_item, item_steps}
 use Rattle.assembler.proofs.items.put_more_items.Goals as goal

@@ -1,5 +1,5 @@
 use Rattle.std.proofs.Common.{◌≡◌, ◌-◌}
-use Rattle.assembler_text.specs.naming.Labels.{address_of}
+use Rattle.assembler_reading.specs.Labels.{address_of}
 use Rattle.assembler.specs.Directives.{more_items}
 use Rattle.assembler.proofs.items.put_more_items.Given as goal
 

@@ -1,5 +1,5 @@
 use Rattle.std.proofs.Common.{◌≡◌, drop}
-use Rattle.address_map.specs.Memory.{bytes_of}
+use Rattle.debugger.specs.AddressMapMemory.{bytes_of}
 use Rattle.profile.specs.Firsts.{first_of}
 use Rattle.command_shell.specs.WordWatches.{change_of_word}
 use Rattle.command_shell.proofs.watches.first_change.Given as goal

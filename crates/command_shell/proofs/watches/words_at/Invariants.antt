@@ -1,5 +1,5 @@
 use Rattle.std.proofs.Common.{◌≡◌, length, take}
-use Rattle.address_map.specs.Memory.{bytes_of}
+use Rattle.debugger.specs.AddressMapMemory.{bytes_of}
 use Rattle.command_shell.specs.WordWatches.{watched_words}
 use Rattle.command_shell.proofs.watches.words_at.Given as goal
 

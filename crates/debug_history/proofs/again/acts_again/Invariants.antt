@@ -1,5 +1,5 @@
 use Rattle.std.proofs.Common.{drop}
-use Rattle.command_shell.specs.Session.{script_state}
+use Rattle.debug_tables.specs.Session.{script_state}
 use Rattle.debug_history.proofs.AgainLemmas.{AreUnderWay}
 use Rattle.debug_history.proofs.again.acts_again.Given as goal
 

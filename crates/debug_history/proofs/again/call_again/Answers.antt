@@ -1,8 +1,8 @@
 use Rattle.std.proofs.Common.{◌≡◌, ap, arith}
-use Rattle.command_shell.specs.MachineState.{MachineState}
-use Rattle.command_shell.specs.Calls.{outside_called}
-use Rattle.command_shell.specs.Session.{script_state}
-use Rattle.command_shell.specs.State.{ScriptState}
+use Rattle.debug_tables.specs.MachineState.{MachineState}
+use Rattle.debug_tables.specs.Calls.{outside_called}
+use Rattle.debug_tables.specs.Session.{script_state}
+use Rattle.debug_tables.specs.State.{ScriptState}
 use Rattle.debug_history.proofs.AgainLemmas.{one_step_at}
 use Rattle.debug_history.proofs.again.call_again.Goals as goal
 

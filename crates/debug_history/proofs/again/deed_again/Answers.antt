@@ -1,8 +1,8 @@
 use Rattle.std.proofs.Common.{◌≡◌, ◌∙◌, ℕ, List, ap, subst, sym}
-use Rattle.command_shell.specs.Writes.{machine_after_poke, machine_at, machine_unhalted, machine_with_bank_register, machine_with_register, machine_with_status}
-use Rattle.command_shell.specs.Value.{MachineValue}
-use Rattle.command_shell.specs.Memory.{script_at}
-use Rattle.command_shell.specs.Session.{script_state}
+use Rattle.debug_labels.specs.Writes.{machine_after_poke, machine_at, machine_unhalted, machine_with_bank_register, machine_with_register, machine_with_status}
+use Rattle.debug_labels.specs.Value.{MachineValue}
+use Rattle.debug_tables.specs.Memory.{script_at}
+use Rattle.debug_tables.specs.Session.{script_state}
 use Rattle.debug_history.specs.Acts.{changed_moment, moment_after_deed, moment_after_put, moment_after_word, moment_of_script}
 use Rattle.debug_history.specs.Again.{IsAtMoment}
 use Rattle.debug_history.specs.declared.act.PastDeed.{PastDeed}

@@ -1,8 +1,8 @@
 use Rattle.std.proofs.Common.{◌≡◌, ◌∙◌, List, ap, arith}
 use Rattle.command_shell_lines.specs.declared.debug_words.stubs.Stub.{Stub}
-use Rattle.command_shell.specs.Calls.{step_made}
-use Rattle.command_shell.specs.Session.{script_state}
-use Rattle.command_shell.specs.State.{ScriptState}
+use Rattle.debug_tables.specs.Calls.{step_made}
+use Rattle.debug_tables.specs.Session.{script_state}
+use Rattle.debug_tables.specs.State.{ScriptState}
 use Rattle.debug_tables.specs.Stubs.{stubbed_step}
 use Rattle.debug_history.proofs.AgainLemmas.{stub_goes_on, way_begins, way_ends}
 use Rattle.debug_history.proofs.again.steps_again.Goals as goal

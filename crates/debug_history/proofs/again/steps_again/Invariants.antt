@@ -1,4 +1,4 @@
-use Rattle.command_shell.specs.Session.{script_state}
+use Rattle.debug_tables.specs.Session.{script_state}
 use Rattle.debug_history.proofs.AgainLemmas.{IsUnderWay}
 use Rattle.debug_history.proofs.again.steps_again.Given as goal
 

@@ -1,8 +1,8 @@
 use Rattle.std.proofs.Common.{◌≡◌, [], None, Some, Option, ap, arith, sym, ◌∙◌}
 use Rattle.std.specs.Prelude.{is_some}
 use Rattle.profile.specs.declared.stop.Stop.{Stop}
-use Rattle.command_shell.specs.Value.{MachineValue}
-use Rattle.command_shell.specs.Session.{script_state}
+use Rattle.debug_labels.specs.Value.{MachineValue}
+use Rattle.debug_tables.specs.Session.{script_state}
 use Rattle.debug_history.proofs.AgainLemmas.{halted_is, halted_none, way_ends, way_goes_on, way_halts, way_shrinks, way_takes}
 use Rattle.debug_history.proofs.again.take_again.Goals as goal
 

@@ -1,5 +1,5 @@
 use Rattle.std.proofs.Common.{◌+◌, []}
-use Rattle.command_shell.specs.Session.{script_state}
+use Rattle.debug_tables.specs.Session.{script_state}
 use Rattle.debug_history.proofs.AgainLemmas.{IsUnderWay, unhalted}
 use Rattle.debug_history.proofs.again.take_again.Given as goal
 

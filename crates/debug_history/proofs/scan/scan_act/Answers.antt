@@ -1,7 +1,7 @@
 use Rattle.std.proofs.Common.{◌≡◌, List, [], ◌∷◌, ap, subst, sym, ◌∙◌}
-use Rattle.command_shell.specs.Value.{MachineValue}
-use Rattle.command_shell.specs.GuestState.{state_of}
-use Rattle.command_shell.specs.Session.{script_state}
+use Rattle.debug_labels.specs.Value.{MachineValue}
+use Rattle.debug_tables.specs.GuestState.{state_of}
+use Rattle.debug_tables.specs.Session.{script_state}
 use Rattle.debug_history.specs.Acts.{PastMoment, moment_after_acts, moment_of_script}
 use Rattle.debug_history.specs.Again.{IsAtMoment}
 use Rattle.debug_history.specs.Scan.{scan_past}

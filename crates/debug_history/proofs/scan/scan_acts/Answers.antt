@@ -1,5 +1,5 @@
 use Rattle.std.proofs.Common.{◌<◌, ◌≤◌, ◌^◌, ℕ, List, drop, length, arith}
-use Rattle.command_shell.specs.Session.{script_state}
+use Rattle.debug_tables.specs.Session.{script_state}
 use Rattle.debug_history.specs.Search.{units}
 use Rattle.debug_history.specs.declared.act.Act.{Act}
 use Rattle.debug_history.proofs.ScanLemmas.{act_fits, act_goes_on, scan_begins, scan_ends, units_end}

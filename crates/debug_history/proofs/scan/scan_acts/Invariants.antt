@@ -1,5 +1,5 @@
 use Rattle.std.proofs.Common.{drop}
-use Rattle.command_shell.specs.Session.{script_state}
+use Rattle.debug_tables.specs.Session.{script_state}
 use Rattle.debug_history.specs.Search.{units}
 use Rattle.debug_history.proofs.ScanLemmas.{IsScanning}
 use Rattle.debug_history.proofs.scan.scan_acts.Given as goal

@@ -1,11 +1,11 @@
 use Rattle.std.proofs.Common.{◌≡◌, ◌∙◌, ◌^◌, ap, refl, arith}
-use Rattle.command_shell.specs.Session.{script_state}
-use Rattle.command_shell.specs.State.{ScriptState}
-use Rattle.command_shell.specs.MachineState.{MachineState}
+use Rattle.debug_tables.specs.Session.{script_state}
+use Rattle.debug_tables.specs.State.{ScriptState}
+use Rattle.debug_tables.specs.MachineState.{MachineState}
 use Rattle.debug_tables.specs.Stubs.{stubbed_step}
 use Rattle.std.specs.Option.{option_or}
-use Rattle.command_shell.specs.Value.{MachineValue}
-use Rattle.command_shell.specs.GuestState.{state_of}
+use Rattle.debug_labels.specs.Value.{MachineValue}
+use Rattle.debug_tables.specs.GuestState.{state_of}
 use Rattle.debug_history.specs.Search.{found_between, value_in, single_steps}
 use Rattle.debug_history.proofs.AgainLemmas.{one_step_at}
 use Rattle.debug_history.proofs.ScanLemmas.{scan_begins, scan_ends, singles_end, step_fits, step_goes_on}

@@ -1,4 +1,4 @@
-use Rattle.command_shell.specs.Session.{script_state}
+use Rattle.debug_tables.specs.Session.{script_state}
 use Rattle.debug_history.specs.Search.{single_steps}
 use Rattle.debug_history.proofs.ScanLemmas.{IsScanning}
 use Rattle.debug_history.proofs.scan.scan_steps.Given as goal

@@ -1,5 +1,5 @@
 use Rattle.std.proofs.Common.{◌≡◌, ◌≤◌, ◌-◌, ◌^◌}
-use Rattle.address_map.specs.Memory.{bytes_of}
+use Rattle.debugger.specs.AddressMapMemory.{bytes_of}
 use Rattle.debug_labels.specs.ModuleSwis.{number_from}
 use Rattle.debug_labels.proofs.module_swis.number_from.Given as goal
 

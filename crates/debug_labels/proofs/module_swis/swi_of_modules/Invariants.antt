@@ -1,6 +1,6 @@
 use Rattle.std.proofs.Common.{◌≡◌, drop}
-use Rattle.address_map.specs.Memory.{bytes_of}
-use Rattle.instances_table.specs.Lookup.{shown_of_module}
+use Rattle.debugger.specs.AddressMapMemory.{bytes_of}
+use Rattle.debugger.specs.Lookup.{shown_of_module}
 use Rattle.profile.specs.Firsts.{first_of}
 use Rattle.debug_labels.specs.ModuleSwis.{swi_of_module, swi_of_modules}
 use Rattle.debug_labels.proofs.module_swis.swi_of_modules.Given as goal

@@ -1,6 +1,6 @@
 -- The error stands below.
 use Rattle.std.proofs.Common.{◌++◌, ◌∙◌, List, ℕ, ap}
-use Rattle.command_shell.specs.Session.{script_state}
+use Rattle.debug_modes.specs.Session.{script_state}
 use Rattle.debug_modules.specs.Answers.{code_error_text}
 use Rattle.debug_modules.proofs.EnteringLemmas.{error_shown}
 use Rattle.debug_modules.proofs.answering.call_command.Goals as goal

@@ -1,6 +1,6 @@
 -- The tail is written.
 use Rattle.std.proofs.Common.{◌∙◌, List, ℕ, ap}
-use Rattle.command_shell.specs.Session.{script_state}
+use Rattle.debug_modes.specs.Session.{script_state}
 use Rattle.debug_history.specs.Noted.{past_with_deed}
 use Rattle.debug_history.specs.declared.act.PastDeed.TheVariants.{Bytes}
 use Rattle.debug_modules.specs.Plans.{tail_address}

@@ -1,6 +1,6 @@
 -- The code has gone back, or not.
 use Rattle.std.proofs.Common.{◌∙◌, ap, sym}
-use Rattle.command_shell.specs.Session.{script_state}
+use Rattle.debug_modes.specs.Session.{script_state}
 use Rattle.debug_history.specs.Noted.{has_returned}
 use Rattle.debug_modules.specs.Entering.{status_gone_back}
 use Rattle.debug_modules.proofs.EnteringLemmas.{code_back, code_left}

@@ -1,7 +1,7 @@
 -- The status, and one register after another.
 use Rattle.std.proofs.Common.{◌≡◌, ◌∙◌, ap, subst}
 use Rattle.std.specs.Prelude.{OnOk}
-use Rattle.command_shell.specs.Session.{script_state}
+use Rattle.debug_modes.specs.Session.{script_state}
 use Rattle.debug_history.specs.Past.{PastState}
 use Rattle.debug_modules.specs.Entering.{supervisor}
 use Rattle.debug_modules.proofs.EnteringLemmas.{anyhow, past_at, stands_at}

@@ -1,6 +1,6 @@
 -- Place by place.
 use Rattle.std.proofs.Common.{◌≡◌, ◌+◌, ◌-◌, ◌<◌, ◌∙◌, ap, arith, sym}
-use Rattle.command_shell.specs.Session.{script_state}
+use Rattle.debug_modes.specs.Session.{script_state}
 use Rattle.debug_modules.specs.Services.{ServiceState, served_from, service_state}
 use Rattle.debug_modules.proofs.ServiceLemmas.{begun_so, served_next, served_past}
 use Rattle.debug_modules.proofs.services.call_service.Goals as goal

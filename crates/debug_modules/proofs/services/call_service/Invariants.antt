@@ -1,5 +1,5 @@
 use Rattle.std.proofs.Common.{◌≡◌, ◌-◌}
-use Rattle.command_shell.specs.Session.{script_state}
+use Rattle.debug_modes.specs.Session.{script_state}
 use Rattle.debug_modules.specs.Services.{served_from, service_begun, service_state}
 use Rattle.debug_modules.proofs.services.call_service.Given as goal
 

@@ -1,7 +1,7 @@
 -- What the code left, and whether the call is over.
 use Rattle.std.proofs.Common.{◌≡◌, ◌++◌, ◌∙◌, List, ℕ, ap, subst}
 use Rattle.std.specs.Prelude.{OnOk}
-use Rattle.command_shell.specs.Session.{script_state}
+use Rattle.debug_modes.specs.Session.{script_state}
 use Rattle.debug_modules.specs.Entering.{module_code_entered}
 use Rattle.debug_modules.specs.Services.{ServiceState, service_ended, service_state}
 use Rattle.debug_modules.specs.Taking.{HasLineSteps}

@@ -1,9 +1,9 @@
 -- The line's answer, and what is kept of it.
 use Rattle.std.proofs.Common.{◌-◌, ◌∙◌, ℕ, Option, ap}
-use Rattle.command_shell.specs.Session.{script_state}
-use Rattle.command_shell.specs.State.{ScriptState}
+use Rattle.debug_modes.specs.Session.{script_state}
+use Rattle.debug_modes.specs.State.{ScriptState}
 use Rattle.debug_history.specs.Noted.{has_returned, is_faulted}
-use Rattle.debug_lines.specs.SteppingRequests.{stepping_request_of}
+use Rattle.debug_modes.specs.SteppingRequests.{stepping_request_of}
 use Rattle.debug_modes.specs.declared.modes.DebugModes.{DebugModes}
 use Rattle.debug_modules.proofs.EnteringLemmas.{note_same}
 use Rattle.debug_modules.proofs.taking.take_steps.Goals as goal

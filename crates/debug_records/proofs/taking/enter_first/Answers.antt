@@ -1,6 +1,6 @@
 -- A routine is entered by the core alone.
 use Rattle.std.proofs.Common.{[]}
-use Rattle.command_shell.specs.Session.{script_state}
+use Rattle.debug_session.specs.CommandShellSession.{script_state}
 use Rattle.debug_records.proofs.TakingLemmas.{routine_set}
 use Rattle.debug_records.proofs.taking.enter_first.Goals as goal
 

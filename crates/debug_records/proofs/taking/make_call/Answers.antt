@@ -1,7 +1,7 @@
 -- A call from outside has the one step that it takes.
 use Rattle.std.proofs.Common.{ap, arith}
-use Rattle.command_shell.specs.State.{ScriptState}
-use Rattle.command_shell.specs.Session.{script_state}
+use Rattle.debug_session.specs.State.{ScriptState}
+use Rattle.debug_session.specs.CommandShellSession.{script_state}
 use Rattle.debug_records.proofs.TakingLemmas.{call_made}
 use Rattle.debug_records.proofs.taking.make_call.Goals as goal
 

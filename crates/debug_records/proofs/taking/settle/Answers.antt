@@ -1,6 +1,6 @@
 -- Each of the session's registers is set, and then its status and its program counter.
 use Rattle.std.proofs.Common.{[], refl}
-use Rattle.command_shell.specs.Session.{script_state}
+use Rattle.debug_session.specs.CommandShellSession.{script_state}
 use Rattle.debug_records.proofs.TakingLemmas.{none_set, set_by, then_set}
 use Rattle.debug_records.proofs.taking.settle.Goals as goal
 

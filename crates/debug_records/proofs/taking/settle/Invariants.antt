@@ -1,4 +1,4 @@
-use Rattle.command_shell.specs.GuestState.{state_of}
+use Rattle.trace_json.specs.GuestState.{state_of}
 use Rattle.debug_records.specs.Moments.{IsSet}
 use Rattle.debug_records.proofs.taking.settle.Given as goal
 

@@ -1,7 +1,7 @@
 -- One step is left before it.
 use Rattle.std.proofs.Common.{ap, arith}
-use Rattle.command_shell.specs.State.{ScriptState}
-use Rattle.command_shell.specs.Session.{script_state}
+use Rattle.debug_session.specs.State.{ScriptState}
+use Rattle.debug_session.specs.CommandShellSession.{script_state}
 use Rattle.debug_records.proofs.TakingLemmas.{deed_made, step_taken}
 use Rattle.debug_records.proofs.taking.take_or_let.Goals as goal
 

@@ -1,6 +1,6 @@
 use Rattle.std.proofs.Common.{◌≡◌, ◌<◌, ◌≤◌, ◌+◌, ◌-◌, ◌*◌, ◌%◌, ◌^◌, ℕ, false}
 use Rattle.address_map.specs.Memory.{bytes_of}
-use Rattle.swi_dispatch_guest.specs.GuestState.{state_of}
+use Rattle.debug_tables.specs.GuestState.{state_of}
 use Rattle.debug_tables.specs.declared.step_words.WordFlow.TheVariants.{Straight}
 use Rattle.debug_runs.specs.BasicBlocks.{HasFlow}
 use Rattle.debug_runs.proofs.basic_blocks.basic_block_ahead.Given as goal

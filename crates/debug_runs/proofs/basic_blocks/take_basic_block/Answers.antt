@@ -1,8 +1,8 @@
 -- By the lemmas that are named.
 use Rattle.std.proofs.Common.{◌≡◌, ◌<◌, ◌≤◌, ◌+◌, ◌*◌, true, sym, ap, ◌∙◌, arith}
-use Rattle.command_shell.specs.Session.{script_state}
-use Rattle.command_shell.specs.Value.{MachineValue}
-use Rattle.swi_dispatch_guest.specs.GuestState.{state_of}
+use Rattle.debug_tables.specs.Session.{script_state}
+use Rattle.law_machine.specs.Value.{MachineValue}
+use Rattle.debug_tables.specs.GuestState.{state_of}
 use Rattle.debug_runs.specs.BasicBlocks.{stays_short}
 use Rattle.debug_runs.proofs.BasicBlockLemmas.{loop_taken, none_taken, row_taken}
 use Rattle.debug_runs.proofs.basic_blocks.take_basic_block.Goals as goal

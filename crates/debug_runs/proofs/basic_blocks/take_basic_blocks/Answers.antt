@@ -1,8 +1,8 @@
 -- By the lemmas that are named.
 use Rattle.std.proofs.Common.{◌≡◌, ◌⊎◌, inl, inr, ◌-◌, ◌+◌, ◌<◌, ◌≤◌, ℕ, true, false, not, [], None, Some, refl, sym, ap, subst, ◌∙◌, arith}
-use Rattle.swi_dispatch_guest.specs.GuestState.{state_of}
-use Rattle.command_shell.specs.Session.{script_state}
-use Rattle.command_shell.specs.State.{ScriptState}
+use Rattle.debug_tables.specs.GuestState.{state_of}
+use Rattle.debug_tables.specs.Session.{script_state}
+use Rattle.debug_tables.specs.State.{ScriptState}
 use Rattle.debug_runs.specs.BasicBlocks.{RunsOnBehind}
 use Rattle.debug_runs.proofs.BasicBlockLemmas.{block_more, block_there, calm_if_empty, none_more}
 use Rattle.debug_runs.proofs.BlockRunLemmas.{none_behind}

@@ -1,8 +1,8 @@
 use Rattle.std.proofs.Common.{◌≡◌, ◌≤◌, ◌-◌, ℕ, false, List, Option, None}
 use Rattle.debug_labels.specs.Labels.{ImageLabels}
 use Rattle.profile.specs.images.Entries.{Entry}
-use Rattle.swi_dispatch_guest.specs.GuestState.{state_of}
-use Rattle.command_shell.specs.Session.{script_state}
+use Rattle.debug_tables.specs.GuestState.{state_of}
+use Rattle.debug_tables.specs.Session.{script_state}
 use Rattle.debug_runs.specs.BasicBlocks.{RunsOnBehind}
 use Rattle.debug_runs.specs.TraceWriter.{is_step_shown}
 use Rattle.debug_runs.proofs.basic_blocks.take_basic_blocks.Given as goal

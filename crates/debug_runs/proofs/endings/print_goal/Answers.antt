@@ -1,6 +1,6 @@
 use Rattle.std.proofs.Common.{ap}
-use Rattle.command_shell.specs.Session.{script_state}
-use Rattle.command_shell.proofs.AnswerLemmas.{shows_same}
+use Rattle.debug_tables.specs.Session.{script_state}
+use Rattle.debug_tables.proofs.AnswerLemmas.{shows_same}
 use Rattle.debug_runs.specs.Endings.{goal_answer, routine_answer}
 use Rattle.debug_runs.specs.declared.endings.EndKind.{EndKind}
 use Rattle.debug_runs.proofs.endings.print_goal.Goals as goal

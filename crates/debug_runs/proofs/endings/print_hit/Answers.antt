@@ -1,10 +1,10 @@
 use Rattle.std.proofs.Common.{ℕ, ap, ◌∙◌}
 use Rattle.profile.specs.declared.stop.Stop.TheVariants as stop
 use Rattle.arm_core.specs.State.{State}
-use Rattle.command_shell.specs.Value.{MachineValue}
-use Rattle.swi_dispatch_guest.specs.GuestState.{state_of}
-use Rattle.command_shell.specs.Memory.{script_with_last}
-use Rattle.command_shell.specs.Session.{script_state}
+use Rattle.law_machine.specs.Value.{MachineValue}
+use Rattle.debug_tables.specs.GuestState.{state_of}
+use Rattle.debug_tables.specs.Memory.{script_with_last}
+use Rattle.debug_tables.specs.Session.{script_state}
 use Rattle.debug_tables.specs.WordWatches.{watch_text}
 use Rattle.debug_runs.proofs.TraceWriterLemmas.{shows_at}
 use Rattle.debug_runs.proofs.endings.print_hit.Goals as goal

@@ -1,6 +1,6 @@
 use Rattle.std.proofs.Common.{ap}
-use Rattle.command_shell.specs.Session.{script_state}
-use Rattle.command_shell.proofs.AnswerLemmas.{shows_same}
+use Rattle.debug_tables.specs.Session.{script_state}
+use Rattle.debug_tables.proofs.AnswerLemmas.{shows_same}
 use Rattle.debug_runs.specs.Endings.{line_end_answer, watch_answer}
 use Rattle.debug_runs.proofs.endings.print_line_end.Goals as goal
 

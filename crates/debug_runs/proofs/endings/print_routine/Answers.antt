@@ -1,7 +1,7 @@
 use Rattle.std.proofs.Common.{ℕ, ◌-◌, subst, ◌∙◌}
 use Rattle.std.specs.Prelude.{OnOk}
 use Rattle.std.specs.Io.KnownBytes.{Appends}
-use Rattle.command_shell.specs.Session.{script_state}
+use Rattle.debug_tables.specs.Session.{script_state}
 use Rattle.debug_tables.specs.Routines.{returned_text, script_back}
 use Rattle.debug_runs.proofs.TraceWriterLemmas.{shows_at}
 use Rattle.debug_runs.proofs.endings.print_routine.Goals as goal

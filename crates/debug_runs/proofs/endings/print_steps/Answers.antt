@@ -2,11 +2,11 @@ use Rattle.std.proofs.Common.{ℕ, ap, subst, ◌∙◌}
 use Rattle.std.specs.Prelude.{OnOk}
 use Rattle.std.specs.Io.KnownBytes.{Appends}
 use Rattle.arm_core.specs.State.{State}
-use Rattle.command_shell.specs.Value.{MachineValue}
-use Rattle.swi_dispatch_guest.specs.GuestState.{state_of}
-use Rattle.command_shell.specs.Answers.{stepped_text}
-use Rattle.command_shell.specs.Memory.{script_with_last}
-use Rattle.command_shell.specs.Session.{script_state}
+use Rattle.law_machine.specs.Value.{MachineValue}
+use Rattle.debug_tables.specs.GuestState.{state_of}
+use Rattle.debug_tables.specs.Answers.{stepped_text}
+use Rattle.debug_tables.specs.Memory.{script_with_last}
+use Rattle.debug_tables.specs.Session.{script_state}
 use Rattle.debug_runs.proofs.TraceWriterLemmas.{shows_at}
 use Rattle.debug_runs.proofs.endings.print_steps.Goals as goal
 

@@ -1,5 +1,5 @@
 use Rattle.std.proofs.Common.{}
-use Rattle.command_shell.specs.Session.{script_state}
+use Rattle.debug_tables.specs.Session.{script_state}
 use Rattle.debug_runs.proofs.LastLemmas.{last_run_answer}
 use Rattle.debug_runs.proofs.last.run_last.Goals as goal
 

@@ -1,9 +1,9 @@
 -- By the lemmas that are named.
 use Rattle.std.proofs.Common.{◌≡◌, ◌<◌, ◌-◌, ◌^◌, None, Some, sym, ap, ◌∙◌, arith}
 use Rattle.arm_core.specs.State.{State}
-use Rattle.command_shell.specs.Value.{MachineValue}
-use Rattle.swi_dispatch_guest.specs.GuestState.{state_of}
-use Rattle.command_shell.specs.Session.{script_state}
+use Rattle.law_machine.specs.Value.{MachineValue}
+use Rattle.debug_tables.specs.GuestState.{state_of}
+use Rattle.debug_tables.specs.Session.{script_state}
 use Rattle.debug_runs.specs.LastSteps.{text_of_step}
 use Rattle.debug_runs.specs.Runs.{end_after, next_step, steps_run}
 use Rattle.debug_runs.specs.declared.running.RunGoal.TheVariants.{Nowhere}

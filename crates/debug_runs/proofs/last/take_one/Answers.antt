@@ -1,6 +1,6 @@
 -- By the lemmas that are named.
 use Rattle.std.proofs.Common.{ℕ, List, ◌++◌, ap, ◌∙◌}
-use Rattle.command_shell.specs.Session.{script_state}
+use Rattle.debug_tables.specs.Session.{script_state}
 use Rattle.debug_runs.specs.LastSteps.{StepText, text_of_step}
 use Rattle.profile.specs.text_sink.TextSink.{sink_text_of}
 use Rattle.debug_runs.proofs.LastLemmas.{one_kept}

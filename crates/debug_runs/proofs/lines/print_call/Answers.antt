@@ -1,10 +1,10 @@
 -- By the lemmas that are named.
 use Rattle.std.proofs.Common.{◌≡◌, Some, None, length, sym, ap, ◌∙◌}
-use Rattle.command_shell.specs.Value.{MachineValue}
-use Rattle.swi_dispatch_guest.specs.GuestState.{state_of}
-use Rattle.command_shell.specs.Calls.{first_step, stop_before_step_by}
-use Rattle.command_shell.specs.Session.{script_state}
-use Rattle.command_shell.proofs.CallLemmas.{can_step}
+use Rattle.law_machine.specs.Value.{MachineValue}
+use Rattle.debug_tables.specs.GuestState.{state_of}
+use Rattle.debug_tables.specs.Calls.{first_step, stop_before_step_by}
+use Rattle.debug_tables.specs.Session.{script_state}
+use Rattle.debug_tables.proofs.CallLemmas.{can_step}
 use Rattle.debug_runs.specs.Calls.{outside_start_text, outside_text}
 use Rattle.debug_runs.specs.Endings.{line_end_answer}
 use Rattle.debug_runs.specs.Lines.{call_line_answer, steps_line_answer, answer_at_once}

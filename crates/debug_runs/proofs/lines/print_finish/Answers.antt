@@ -1,8 +1,8 @@
 -- By the lemmas that are named.
 use Rattle.std.proofs.Common.{◌≡◌, ◌-◌, ◌<◌, ap, arith, length, sym, subst, ℕ, ◌∙◌}
-use Rattle.command_shell.specs.Value.{MachineValue}
-use Rattle.swi_dispatch_guest.specs.GuestState.{state_of}
-use Rattle.command_shell.specs.Session.{script_state}
+use Rattle.law_machine.specs.Value.{MachineValue}
+use Rattle.debug_tables.specs.GuestState.{state_of}
+use Rattle.debug_tables.specs.Session.{script_state}
 use Rattle.debug_runs.specs.Lines.{finish_answer, answer_if_unhalted}
 use Rattle.debug_runs.specs.Runs.{steps_run}
 use Rattle.debug_runs.specs.declared.endings.EndKind.TheVariants as kind

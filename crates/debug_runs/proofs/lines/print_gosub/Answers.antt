@@ -1,11 +1,11 @@
 -- By the lemmas that are named.
 use Rattle.std.proofs.Common.{◌≡◌, Some, None, length, sym, ap, subst, ◌∙◌, arith}
 use Rattle.std.specs.Prelude.{OnOk}
-use Rattle.command_shell.specs.Value.{MachineValue}
-use Rattle.swi_dispatch_guest.specs.GuestState.{state_of}
-use Rattle.command_shell.specs.Calls.{stop_before_step_by}
-use Rattle.command_shell.specs.Session.{script_state}
-use Rattle.command_shell.specs.State.{ScriptState}
+use Rattle.law_machine.specs.Value.{MachineValue}
+use Rattle.debug_tables.specs.GuestState.{state_of}
+use Rattle.debug_tables.specs.Calls.{stop_before_step_by}
+use Rattle.debug_tables.specs.Session.{script_state}
+use Rattle.debug_tables.specs.State.{ScriptState}
 use Rattle.debug_runs.specs.Endings.{line_end_answer}
 use Rattle.debug_lines.specs.SteppingRequests.{Gosub}
 use Rattle.debug_runs.specs.Lines.{steps_line_answer, stepping_answer, answer_at_once}

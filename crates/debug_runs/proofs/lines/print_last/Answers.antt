@@ -1,7 +1,7 @@
 -- By the lemmas that are named.
 use Rattle.std.proofs.Common.{◌≡◌, ℕ, Some, None, false, sym, ap, ◌∙◌}
-use Rattle.command_shell.specs.Calls.{stop_before_step_by}
-use Rattle.command_shell.specs.Session.{script_state}
+use Rattle.debug_tables.specs.Calls.{stop_before_step_by}
+use Rattle.debug_tables.specs.Session.{script_state}
 use Rattle.debug_tables.specs.counts.Counts.{steps_counted}
 use Rattle.debug_lines.specs.SteppingRequests.{RunLast}
 use Rattle.debug_runs.specs.Endings.{line_end_answer}

@@ -1,8 +1,8 @@
 -- By each line's equation.
 use Rattle.std.proofs.Common.{◌≡◌, ℕ, false, ap, length, sym, ◌∙◌}
 use Rattle.std.specs.Prelude.{min, nat_le}
-use Rattle.swi_dispatch_guest.specs.Step.{module_loaded, store_called}
-use Rattle.command_shell.specs.Session.{script_state}
+use Rattle.debug_tables.specs.Step.{module_loaded, store_called}
+use Rattle.debug_tables.specs.Session.{script_state}
 use Rattle.trace_text.specs.Step.{call_start_text, load_start_text}
 use Rattle.debug_lines.specs.SteppingRequests.{stepping_request_of}
 use Rattle.debug_lines.specs.declared.stepping.SteppingCommand.{SteppingCommand}

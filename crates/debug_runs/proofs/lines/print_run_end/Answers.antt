@@ -1,6 +1,6 @@
 -- By the lemmas that are named.
 use Rattle.std.proofs.Common.{ℕ, ◌-◌, [], ap, subst, ◌∙◌}
-use Rattle.command_shell.specs.Session.{script_state}
+use Rattle.debug_tables.specs.Session.{script_state}
 use Rattle.debug_runs.specs.Endings.{line_end_answer}
 use Rattle.debug_runs.specs.TraceWriter.{more_text}
 use Rattle.debug_runs.specs.Reported.{IsAnswerOn}

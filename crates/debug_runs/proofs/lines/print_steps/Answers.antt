@@ -1,7 +1,7 @@
 -- By the lemmas that are named.
 use Rattle.std.proofs.Common.{◌≡◌, Some, None, sym, ◌∙◌}
-use Rattle.command_shell.specs.Calls.{stop_before_step_by}
-use Rattle.command_shell.specs.Session.{script_state}
+use Rattle.debug_tables.specs.Calls.{stop_before_step_by}
+use Rattle.debug_tables.specs.Session.{script_state}
 use Rattle.debug_runs.specs.Endings.{line_end_answer}
 use Rattle.debug_runs.specs.Lines.{steps_line_answer, answer_at_once, answer_if_unhalted}
 use Rattle.debug_runs.specs.Runs.{steps_run}

@@ -2,13 +2,13 @@
 use Rattle.std.proofs.Common.{Option, sym, ap, ◌∙◌}
 use Rattle.std.specs.Option.{option_map}
 use Rattle.profile.specs.Firsts.{first_of}
-use Rattle.command_shell.specs.Value.{MachineValue}
-use Rattle.swi_dispatch_guest.specs.MachineState.{stop_of}
-use Rattle.swi_dispatch_guest.specs.GuestState.{state_of}
-use Rattle.command_shell.specs.Session.{script_state}
+use Rattle.law_machine.specs.Value.{MachineValue}
+use Rattle.debug_tables.specs.MachineState.{stop_of}
+use Rattle.debug_tables.specs.GuestState.{state_of}
+use Rattle.debug_tables.specs.Session.{script_state}
 use Rattle.debug_runs.specs.Runs.{end_after, is_reached, watched_end}
 use Rattle.debug_tables.specs.WordWatches.{change_of_word}
-use Rattle.command_shell.specs.declared.watches.WatchHit.{WatchHit}
+use Rattle.debug_tables.specs.WatchHit.{WatchHit}
 use Rattle.debug_runs.proofs.RunLemmas.{end_halted, end_reached, end_watched, hits}
 use Rattle.debug_runs.proofs.running.end_after.Goals as goal
 

@@ -1,6 +1,6 @@
 -- By the lemmas that are named.
 use Rattle.std.proofs.Common.{◌<◌, [], sym, arith, refl, ◌∙◌}
-use Rattle.command_shell.specs.Session.{script_state}
+use Rattle.debug_tables.specs.Session.{script_state}
 use Rattle.debug_runs.proofs.SilentLemmas.{end_of_some, no_end_of_none}
 use Rattle.debug_runs.proofs.running.end_of_unseen.Goals as goal
 

@@ -1,5 +1,5 @@
 use Rattle.std.proofs.Common.{◌≡◌, ◌≤◌}
-use Rattle.command_shell.specs.Session.{script_state}
+use Rattle.debug_tables.specs.Session.{script_state}
 use Rattle.debug_tables.specs.counts.Counts.{steps_counted}
 use Rattle.debug_runs.specs.Places.{places_of_run}
 use Rattle.debug_runs.specs.Runs.{steps_run}

@@ -1,9 +1,9 @@
 -- By the lemmas that are named.
 use Rattle.std.proofs.Common.{◌≡◌, ◌-◌, None, Some, sym, ap, refl, ◌∙◌}
-use Rattle.command_shell.specs.Value.{MachineValue}
-use Rattle.swi_dispatch_guest.specs.GuestState.{state_of}
-use Rattle.command_shell.specs.Calls.{first_step}
-use Rattle.command_shell.specs.Session.{script_state}
+use Rattle.law_machine.specs.Value.{MachineValue}
+use Rattle.debug_tables.specs.GuestState.{state_of}
+use Rattle.debug_tables.specs.Calls.{first_step}
+use Rattle.debug_tables.specs.Session.{script_state}
 use Rattle.debug_runs.specs.Calls.{outside_text}
 use Rattle.debug_runs.specs.Runs.{end_after}
 use Rattle.debug_tables.specs.WordWatches.{watched_words}

@@ -1,6 +1,6 @@
 -- By the lemmas that are named.
 use Rattle.std.proofs.Common.{◌≡◌, ◌-◌, ◌==◌, ◌&&◌, [], List, ℕ, true, false, not, Option, length, refl, sym, ap, ◌∙◌}
-use Rattle.command_shell.specs.Session.{script_state}
+use Rattle.debug_tables.specs.Session.{script_state}
 use Rattle.debug_runs.specs.Runs.{are_unseen, run_unless, steps_run}
 use Rattle.debug_runs.specs.declared.running.RunEnd.{RunEnd}
 use Rattle.debug_runs.specs.TraceWriter.{is_step_shown}

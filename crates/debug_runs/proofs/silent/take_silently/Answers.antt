@@ -1,7 +1,7 @@
 -- By the lemmas that are named.
 use Rattle.std.proofs.Common.{◌≡◌, true, sym, ap, subst, ◌∙◌}
-use Rattle.command_shell.specs.Session.{script_state}
-use Rattle.command_shell.specs.State.{ScriptState}
+use Rattle.debug_tables.specs.Session.{script_state}
+use Rattle.debug_tables.specs.State.{ScriptState}
 use Rattle.debug_runs.specs.Silent.{stay_open}
 use Rattle.debug_runs.specs.declared.running.RunGoal.{RunGoal}
 use Rattle.debug_runs.proofs.SilentLemmas.{GoesOnAfter, frames_run, none_unseen, nowhere_run, routine_run}

@@ -1,7 +1,7 @@
 -- By the lemmas that are named.
 use Rattle.std.proofs.Common.{ap, ◌∙◌}
-use Rattle.command_shell.specs.Session.{script_state}
-use Rattle.command_shell.specs.State.{ScriptState}
+use Rattle.debug_tables.specs.Session.{script_state}
+use Rattle.debug_tables.specs.State.{ScriptState}
 use Rattle.debug_runs.proofs.BreakLemmas.{removed, up_to_last_break}
 use Rattle.debug_runs.proofs.silent.take_to_break.Goals as goal
 

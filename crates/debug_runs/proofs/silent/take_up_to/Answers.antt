@@ -1,9 +1,9 @@
 -- By the lemmas that are named.
 use Rattle.std.proofs.Common.{◌≡◌, ◌++◌, ◌∷◌, ℕ, [], List, true, false, sym, ap, arith, ◌∙◌}
-use Rattle.swi_dispatch_guest.specs.Run.{is_among}
-use Rattle.command_shell.specs.Session.{script_state}
-use Rattle.command_shell.specs.State.{ScriptState}
-use Rattle.command_shell.specs.Stepping.{script_with_break}
+use Rattle.debug_tables.specs.Run.{is_among}
+use Rattle.debug_tables.specs.Session.{script_state}
+use Rattle.debug_tables.specs.State.{ScriptState}
+use Rattle.debug_tables.specs.Stepping.{script_with_break}
 use Rattle.debug_runs.proofs.BreakLemmas.{added, none_up_to, not_added, same_breaks, up_to_its_break}
 use Rattle.debug_runs.proofs.silent.take_up_to.Goals as goal
 

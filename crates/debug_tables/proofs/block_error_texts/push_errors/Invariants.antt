@@ -1,5 +1,5 @@
 use Rattle.std.proofs.Common.{◌≡◌, ◌-◌, ◌≤◌, ◌++◌, length}
-use Rattle.command_shell_lines.specs.Blocks.{block_lines}
+use Rattle.command_shell.specs.CommandShellLinesBlocks.{block_lines}
 use Rattle.debug_tables.specs.BlockErrorTexts.{errors_text}
 use Rattle.debug_tables.proofs.block_error_texts.push_errors.Given as goal
 

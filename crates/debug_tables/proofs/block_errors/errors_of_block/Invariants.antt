@@ -1,5 +1,5 @@
 use Rattle.std.proofs.Common.{◌≡◌, ◌-◌, ◌++◌, []}
-use Rattle.command_shell_lines.specs.Blocks.{block_lines}
+use Rattle.command_shell.specs.CommandShellLinesBlocks.{block_lines}
 use Rattle.debug_tables.specs.BlockErrors.{further_errors}
 use Rattle.debug_tables.proofs.block_errors.errors_of_block.Given as goal
 

@@ -1,5 +1,5 @@
 use Rattle.std.proofs.Common.{◌≡◌, ap, ◌∙◌}
-use Rattle.arm_core.specs.State.{State, register_of}
+use Rattle.command_shell.specs.ArmCoreState.{State, register_of}
 use Rattle.command_shell.specs.Value.{MachineValue}
 use Rattle.command_shell.specs.GuestState.{state_of}
 use Rattle.command_shell.specs.Session.{script_state}

@@ -1,6 +1,6 @@
 use Rattle.std.proofs.Common.{◌≡◌, ℕ, ◌+◌, ap, ◌∙◌}
-use Rattle.arm_core.specs.Psr.{psr_bits}
-use Rattle.arm_core.specs.State.{State}
+use Rattle.command_shell.specs.Psr.{psr_bits}
+use Rattle.command_shell.specs.ArmCoreState.{State}
 use Rattle.command_shell.specs.Value.{MachineValue}
 use Rattle.command_shell.specs.GuestState.{state_of}
 use Rattle.command_shell.specs.Memory.{script_at, script_with_register}

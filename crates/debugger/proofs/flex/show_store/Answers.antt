@@ -2,7 +2,7 @@ use Rattle.std.proofs.Common.{refl, ◌≡◌, ◌∙◌, [], ◌++◌, sym, sub
 use Rattle.std.specs.Prelude.{unwrap_or}
 use Rattle.std.specs.Io.KnownBytes.{Appends}
 use Rattle.profile.proofs.OutputLemmas.{Appends-join}
-use Rattle.address_map.specs.Memory.{bytes_of}
+use Rattle.swi_dispatch_guest.specs.AddressMapMemory.{bytes_of}
 use Rattle.swi_dispatch_guest.specs.Listed.{all_listed}
 use Rattle.swi_dispatch_guest.specs.State.{flex_in}
 use Rattle.debugger.specs.Flex.{flex_blocks_text, flex_text, range_text}

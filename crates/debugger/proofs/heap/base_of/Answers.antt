@@ -1,9 +1,9 @@
 use Rattle.std.proofs.Common.{◌≡◌, ◌+◌, ℕ, Result, Ok, ap, ◌∙◌, arith}
 use Rattle.std.specs.Result.{result_unwrap_or}
 use Rattle.profile.specs.declared.fault.Fault.{Fault}
-use Rattle.address_map.specs.Bytes.{word_loaded}
-use Rattle.address_map.specs.Items.{size_of}
-use Rattle.address_map.specs.Memory.{bytes_of}
+use Rattle.swi_dispatch_guest.specs.Bytes.{word_loaded}
+use Rattle.swi_dispatch_guest.specs.Items.{size_of}
+use Rattle.swi_dispatch_guest.specs.AddressMapMemory.{bytes_of}
 use Rattle.swi_dispatch_guest.specs.Store.{store_of, find_heap}
 use Rattle.debugger.proofs.HeapLemmas.{low_heap, base_is, if_then}
 use Rattle.debugger.proofs.heap.base_of.Goals as goal

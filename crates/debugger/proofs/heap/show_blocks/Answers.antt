@@ -2,7 +2,7 @@ use Rattle.std.proofs.Common.{◌≡◌, ◌+◌, ℕ, List, [], ◌++◌, Optio
 use Rattle.std.specs.Prelude.{is_some, unwrap_or}
 use Rattle.std.specs.Io.KnownBytes.{Appends}
 use Rattle.profile.proofs.OutputLemmas.{Appends-join, Appends-nothing}
-use Rattle.address_map.specs.Items.{size_of}
+use Rattle.swi_dispatch_guest.specs.Items.{size_of}
 use Rattle.swi_dispatch_guest.specs.Store.{Store, store_of}
 use Rattle.swi_dispatch_guest.specs.HeapCalls.{items_of}
 use Rattle.debugger.specs.Heap.{limits_text, heap_items_text, heap_blocks_text}

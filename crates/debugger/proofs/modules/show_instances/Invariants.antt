@@ -1,7 +1,7 @@
 use Rattle.std.proofs.Common.{◌≡◌}
 use Rattle.std.specs.Prelude.{slice_get}
 use Rattle.profile.specs.Output.{AddsAllBut}
-use Rattle.address_map.specs.Memory.{bytes_of}
+use Rattle.swi_dispatch_guest.specs.AddressMapMemory.{bytes_of}
 use Rattle.debugger.specs.Modules.{one_text, instances_text}
 use Rattle.debugger.proofs.ModuleLemmas.{instances_from}
 use Rattle.debugger.proofs.modules.show_instances.Given as goal

@@ -1,6 +1,6 @@
 use Rattle.std.proofs.Common.{◌≡◌, List, ℕ, subst}
 use Rattle.profile.specs.Output.{Writes}
-use Rattle.address_map.specs.Memory.{bytes_of}
+use Rattle.swi_dispatch_guest.specs.AddressMapMemory.{bytes_of}
 use Rattle.debugger.specs.Modules.{modules_text}
 use Rattle.debugger.proofs.modules.show_modules.Goals as goal
 use Rattle.swi_dispatch_guest.specs.GuestState.{state_of}

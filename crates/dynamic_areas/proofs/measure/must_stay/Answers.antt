@@ -1,7 +1,7 @@
 use Rattle.std.proofs.Common.{Bool, true, false, ◌≡◌, ◌∙◌, ◌||◌, ap, rules}
 use Rattle.std.proofs.lemmas.Bool.{ne_eqb}
-use Rattle.address_map.specs.Memory.{anchor_of}
-use Rattle.address_map.specs.Records.{anchor_among}
+use Rattle.os_heap.specs.Memory.{anchor_of}
+use Rattle.os_heap.specs.Records.{anchor_among}
 use Rattle.os_heap.specs.Ranges.{meets_any}
 use Rattle.os_heap.specs.Store.{store_of}
 use Rattle.os_heap.proofs.RangeTests.{meets_recorded}

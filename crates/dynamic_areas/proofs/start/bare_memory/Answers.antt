@@ -1,6 +1,6 @@
 use Rattle.std.proofs.Common.{◌∙◌, ℕ, ap}
-use Rattle.address_map.proofs.Bytes.{byte_at-unmapped}
-use Rattle.address_map.specs.declared.class.Class.{Class}
+use Rattle.os_heap.proofs.Bytes.{byte_at-unmapped}
+use Rattle.os_heap.specs.Class.{Class}
 use Rattle.dynamic_areas.proofs.start.bare_memory.Goals as goal
 
 pub returns-clause-bytes : goal.returns-clause-bytes

@@ -1,9 +1,9 @@
 use Rattle.std.proofs.Common.{ℕ, Bool, true, ◌≡◌, ◌&&◌, ◌||◌, not, List, arith, ap, refl, ◌∙◌, sym}
 use Rattle.std.specs.List.{list_any}
-use Rattle.address_map.specs.Bytes.{shares_address}
-use Rattle.address_map.specs.Memory.{regions}
-use Rattle.address_map.specs.Records.{is_heap_kind}
-use Rattle.address_map.specs.declared.region.Region.{Region}
+use Rattle.os_heap.specs.Bytes.{shares_address}
+use Rattle.os_heap.specs.Memory.{regions}
+use Rattle.os_heap.specs.Records.{is_heap_kind}
+use Rattle.os_heap.specs.Region.{Region}
 use Rattle.os_heap.specs.Store.{is_flex_store, store_of}
 use Rattle.os_heap.specs.Payloads.{is_other, payload_of}
 use Rattle.flex_store.specs.Calls.{may_stand}

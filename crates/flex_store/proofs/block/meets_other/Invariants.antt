@@ -1,7 +1,7 @@
 use Rattle.std.proofs.Common.{◌≡◌, false, take, ◌&&◌, not}
 use Rattle.std.specs.List.{list_any}
-use Rattle.address_map.specs.Bytes.{shares_address}
-use Rattle.address_map.specs.Records.{is_heap_kind}
+use Rattle.os_heap.specs.Bytes.{shares_address}
+use Rattle.os_heap.specs.Records.{is_heap_kind}
 use Rattle.os_heap.specs.Store.{is_flex_store}
 use Rattle.flex_store.proofs.block.meets_other.Given as goal
 

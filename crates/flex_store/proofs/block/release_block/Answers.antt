@@ -1,7 +1,7 @@
 use Rattle.std.proofs.Common.{ℕ, Bool, true, false, ◌≡◌, ◌+◌, ◌-◌, arith, refl, sym, ap, ◌∙◌}
-use Rattle.address_map.specs.declared.map.AddressMap.{AddressMap}
-use Rattle.address_map.specs.Memory.{anchor_of}
-use Rattle.address_map.specs.Records.{anchor_among}
+use Rattle.os_heap.specs.AddressMap.{AddressMap}
+use Rattle.os_heap.specs.Memory.{anchor_of}
+use Rattle.os_heap.specs.Records.{anchor_among}
 use Rattle.flex_store.specs.Blocks.{bytes_taken_by}
 use Rattle.flex_store.specs.Relaid.{first_at}
 use Rattle.flex_store.proofs.Finding.{header_word, placed}

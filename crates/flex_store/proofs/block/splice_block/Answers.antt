@@ -1,6 +1,6 @@
 use Rattle.std.proofs.Common.{ℕ, Bool, true, false, ◌≡◌, ◌+◌, ◌-◌, arith, refl, sym, ◌∙◌, ap}
-use Rattle.address_map.specs.declared.map.AddressMap.{AddressMap}
-use Rattle.address_map.specs.Memory.{anchor_of}
+use Rattle.os_heap.specs.AddressMap.{AddressMap}
+use Rattle.os_heap.specs.Memory.{anchor_of}
 use Rattle.flex_store.specs.declared.splice.Splice.{Splice}
 use Rattle.flex_store.specs.Blocks.{bytes_taken_by}
 use Rattle.flex_store.specs.Calls.{breaks_anchor}

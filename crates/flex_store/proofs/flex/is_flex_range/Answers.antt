@@ -1,6 +1,6 @@
 use Rattle.std.proofs.Common.{arith, ap, sym, ◌∙◌, refl, ◌-◌, ◌&&◌, not, Bool}
-use Rattle.address_map.specs.Records.{meets_record}
-use Rattle.address_map.specs.Memory.{regions}
+use Rattle.os_heap.specs.Records.{meets_record}
+use Rattle.os_heap.specs.Memory.{regions}
 use Rattle.flex_store.proofs.Starting.{range_tested}
 use Rattle.flex_store.proofs.flex.is_flex_range.Goals as goal
 

@@ -1,7 +1,7 @@
 use Rattle.std.proofs.Common.{◌∙◌, sym}
-use Rattle.address_map.proofs.Marking.{without_word}
+use Rattle.os_heap_words.proofs.AddressMapMarking.{without_word}
 use Rattle.os_heap_words.proofs.Marking.{same_parts}
-use Rattle.address_map.specs.Memory.{regions}
+use Rattle.os_heap.specs.Memory.{regions}
 use Rattle.flex_store.proofs.marks.clear_mark.Goals as goal
 
 pub returns-clause-kept : goal.returns-clause-kept

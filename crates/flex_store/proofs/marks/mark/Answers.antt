@@ -1,6 +1,6 @@
 use Rattle.std.proofs.Common.{◌∙◌}
 use Rattle.os_heap_words.proofs.Marking.{same_parts, word_below}
-use Rattle.address_map.specs.Memory.{regions}
+use Rattle.os_heap.specs.Memory.{regions}
 use Rattle.flex_store.proofs.Walks.{with_word_region}
 use Rattle.flex_store.proofs.marks.mark.Goals as goal
 

@@ -1,6 +1,6 @@
 use Rattle.std.proofs.Common.{ℕ, ◌≡◌, ◌+◌, [], ◌∷◌, arith, ap, ◌∙◌}
-use Rattle.address_map.specs.Memory.{bytes_of}
-use Rattle.address_map.specs.declared.class.Class.{Class}
+use Rattle.os_heap.specs.Memory.{bytes_of}
+use Rattle.os_heap.specs.Class.{Class}
 use Rattle.flex_store.specs.Blocks.{new_block, bytes_taken_by, whole_words}
 use Rattle.flex_store.proofs.Sliding.{IsWrittenText, appended_step, as_read, lie_low, relaid_from}
 use Rattle.flex_store.proofs.slide.append.Goals as goal

@@ -1,7 +1,7 @@
 use Rattle.std.proofs.Common.{ℕ, ◌≡◌, ◌+◌, ◌-◌, List, ◌∷◌, arith, ap, refl, sym, subst, ◌∙◌}
-use Rattle.address_map.specs.Memory.{byte_at, bytes_of, class_of, is_mapped}
-use Rattle.address_map.specs.declared.class.Class.{Class}
-use Rattle.address_map.specs.declared.class.Class.TheVariants as class
+use Rattle.os_heap.specs.Memory.{byte_at, bytes_of, class_of, is_mapped}
+use Rattle.os_heap.specs.Class.{Class}
+use Rattle.os_heap.specs.Class.TheVariants as class
 use Rattle.flex_store.specs.Blocks.{Block, contents, block_holding, bytes_after_splice, bytes_taken_by}
 use Rattle.flex_store.specs.declared.shift.Shift.{Shift}
 use Rattle.flex_store.specs.Marks.{with_marks}

@@ -1,6 +1,6 @@
 use Rattle.std.proofs.Common.{ℕ, ◌≡◌, ◌≤◌, ◌<◌, ◌+◌, ◌-◌, List, arith, ap, refl, ◌∙◌}
-use Rattle.address_map.specs.Bytes.{bytes_between, with_bytes_at, with_moved_at}
-use Rattle.address_map.specs.Memory.{byte_at}
+use Rattle.os_heap.specs.Bytes.{bytes_between, with_bytes_at, with_moved_at}
+use Rattle.os_heap.specs.Memory.{byte_at}
 use Rattle.flex_store.specs.Blocks.{whole_words_of_bytes, bytes_after_splice, whole_words}
 use Rattle.flex_store.proofs.Laying.{respaced_down, respaced_up}
 use Rattle.flex_store.proofs.slide.respace.Goals as goal

@@ -1,5 +1,5 @@
 use Rattle.std.proofs.Common.{ℕ, ◌+◌, ◌-◌, ◌∙◌, ap}
-use Rattle.address_map.specs.Memory.{byte_at}
+use Rattle.os_heap.specs.Memory.{byte_at}
 use Rattle.flex_store.specs.Blocks.{whole_words}
 use Rattle.flex_store.proofs.Splicing.{three_writes}
 use Rattle.flex_store.proofs.splice.splice_bytes.Goals as goal

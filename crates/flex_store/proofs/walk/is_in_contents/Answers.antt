@@ -1,7 +1,7 @@
 use Rattle.std.proofs.Common.{ℕ, ◌≡◌, ◌+◌, ◌&&◌, ◌∙◌, ap, arith, refl, sym}
 use Rattle.std.specs.Prelude.{nat_le}
-use Rattle.address_map.specs.Bytes.{word_at}
-use Rattle.address_map.specs.Memory.{byte_at}
+use Rattle.os_heap.specs.Bytes.{word_at}
+use Rattle.os_heap.specs.Memory.{byte_at}
 use Rattle.flex_store.specs.Blocks.{bytes_taken_by}
 use Rattle.flex_store.specs.Memory.{blocks_in}
 use Rattle.flex_store.proofs.Contents.{looked_at, sought_all}

@@ -1,9 +1,9 @@
 use Rattle.std.proofs.Common.{ℕ, ◌≡◌, ◌+◌, true, arith, ◌∙◌, ap, Bool, sym}
-use Rattle.address_map.proofs.Bytes.{is_mapped-layout}
-use Rattle.address_map.specs.Bytes.{word_at, with_word_at}
-use Rattle.address_map.specs.Memory.{byte_at, class_of, is_mapped}
-use Rattle.address_map.specs.declared.class.Class.{Class}
-use Rattle.address_map.specs.declared.class.Class.TheVariants as class
+use Rattle.os_heap.proofs.Bytes.{is_mapped-layout}
+use Rattle.os_heap.specs.Bytes.{word_at, with_word_at}
+use Rattle.os_heap.specs.Memory.{byte_at, class_of, is_mapped}
+use Rattle.os_heap.specs.Class.{Class}
+use Rattle.os_heap.specs.Class.TheVariants as class
 use Rattle.flex_store.specs.Blocks.{bytes_taken_by}
 use Rattle.flex_store.specs.Marks.{with_block_marks}
 use Rattle.flex_store.specs.Shifts.{gone_to}

@@ -1,7 +1,7 @@
 use Rattle.std.proofs.Common.{ℕ, ◌≡◌, ◌+◌, arith, ◌∙◌, ap, sym}
-use Rattle.address_map.specs.Bytes.{word_at}
-use Rattle.address_map.specs.Memory.{byte_at, class_of}
-use Rattle.address_map.specs.declared.class.Class.TheVariants as class
+use Rattle.os_heap.specs.Bytes.{word_at}
+use Rattle.os_heap.specs.Memory.{byte_at, class_of}
+use Rattle.os_heap.specs.Class.TheVariants as class
 use Rattle.flex_store.specs.Blocks.{bytes_taken_by}
 use Rattle.flex_store.specs.Marks.{with_block_marks}
 use Rattle.flex_store.proofs.Walks.{ahead, anchor_ahead, marking_all, marking_more}

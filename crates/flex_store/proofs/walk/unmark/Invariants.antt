@@ -1,5 +1,5 @@
 use Rattle.std.proofs.Common.{◌-◌}
-use Rattle.address_map.specs.declared.class.Class.TheVariants as class
+use Rattle.os_heap.specs.Class.TheVariants as class
 use Rattle.flex_store.proofs.Walks.{IsMarking}
 use Rattle.flex_store.proofs.walk.unmark.Given as goal
 

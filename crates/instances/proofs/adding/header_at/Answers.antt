@@ -1,7 +1,7 @@
-use Rattle.address_map.specs.Bytes.{bytes_between}
-use Rattle.address_map.specs.Memory.{byte_at}
+use Rattle.rma.specs.Bytes.{bytes_between}
+use Rattle.rma.specs.Memory.{byte_at}
 use Rattle.instances_table.specs.plans.ModuleHeaderHeader.{header_of}
-use Rattle.dynamic_areas.specs.Store.{store_of}
+use Rattle.rma.specs.Store.{store_of}
 use Rattle.instances.proofs.AddingLemmas.{header_good}
 use Rattle.instances.proofs.adding.header_at.Goals as goal
 

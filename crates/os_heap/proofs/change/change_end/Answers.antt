@@ -1,6 +1,6 @@
 use Rattle.std.proofs.Common.{◌≡◌, true, false, Err, Ok, Some, refl, sym, subst, arith, ◌∙◌}
 use Rattle.os_heap_words.specs.ErrorNumber.TheVariants.{HeapBadRegion}
-use Rattle.address_map.specs.Memory.{bytes_of}
+use Rattle.os_heap_words.specs.Memory.{bytes_of}
 use Rattle.os_heap.specs.Calls.{store_after_change, end_changed, ending, has_own_size}
 use Rattle.os_heap_words.specs.lists.Heap.{HeapList}
 use Rattle.os_heap_words.specs.lists.Lists.{changed_by}

@@ -1,7 +1,7 @@
 use Rattle.std.proofs.Common.{◌≡◌, ◌+◌, ◌≤◌, true, false, arith, ◌∙◌, sym}
 use Rattle.std.proofs.lemmas.Bool.{le-ltb}
-use Rattle.address_map.specs.Items.{size_of}
-use Rattle.address_map.specs.Memory.{bytes_of}
+use Rattle.os_heap_words.specs.Items.{size_of}
+use Rattle.os_heap_words.specs.Memory.{bytes_of}
 use Rattle.os_heap_words.specs.Outcomes.{items_at}
 use Rattle.os_heap.specs.Store.{store_of, heap_in}
 use Rattle.os_heap.specs.Ranges.{is_heap_region, overgrows}

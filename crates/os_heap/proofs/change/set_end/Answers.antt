@@ -1,6 +1,6 @@
 use Rattle.std.proofs.Common.{◌∙◌, ap, ◌≡◌, ◌+◌, is_some, refl, arith}
-use Rattle.address_map.specs.Memory.{bytes_of}
-use Rattle.address_map.proofs.Stores.{layout-mapping}
+use Rattle.os_heap_words.specs.Memory.{bytes_of}
+use Rattle.os_heap_words.proofs.Stores.{layout-mapping}
 use Rattle.os_heap_words.specs.lists.Heap.{HeapList}
 use Rattle.os_heap_words.specs.Outcomes.{IsHeapAt}
 use Rattle.os_heap.specs.Store.{store_of, heap_in}

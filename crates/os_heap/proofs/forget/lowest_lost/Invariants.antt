@@ -1,5 +1,5 @@
 use Rattle.std.proofs.Common.{◌≡◌, ◌≤◌, drop, min}
-use Rattle.address_map.specs.Bytes.{Bytes}
+use Rattle.os_heap_words.specs.Bytes.{Bytes}
 use Rattle.os_heap.specs.Forgetting.{lowest_lost}
 use Rattle.os_heap.specs.Store.{heaps_in}
 use Rattle.os_heap.proofs.forget.lowest_lost.Given as goal

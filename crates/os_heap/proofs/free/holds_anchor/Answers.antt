@@ -1,6 +1,6 @@
 use Rattle.std.proofs.Common.{ℕ, ◌≡◌, ◌-◌, Option, ap, sym, ◌∙◌, arith}
-use Rattle.address_map.specs.Memory.{anchor_of}
-use Rattle.address_map.specs.Records.{anchor_among}
+use Rattle.os_heap_words.specs.Memory.{anchor_of}
+use Rattle.os_heap_words.specs.Records.{anchor_among}
 use Rattle.os_heap.specs.Calls.{holds_anchor}
 use Rattle.os_heap_words.specs.Outcomes.{end_at}
 use Rattle.os_heap_words.proofs.Freeing.{block_facts}

@@ -1,6 +1,6 @@
 use Rattle.std.proofs.Common.{true, ◌∙◌, refl, sym}
-use Rattle.address_map.specs.Bytes.{word_at}
-use Rattle.address_map.specs.Memory.{byte_at}
+use Rattle.os_heap_words.specs.Bytes.{word_at}
+use Rattle.os_heap_words.specs.Memory.{byte_at}
 use Rattle.os_heap.specs.Store.{store_of}
 use Rattle.os_heap.proofs.Calls.{free_counted, free_unfound, image_recorded, part_at}
 use Rattle.os_heap.proofs.Resizing.{anchor_shown, block_here, held_released, is_there, there_heap}

@@ -1,5 +1,5 @@
 use Rattle.std.proofs.Common.{◌≡◌, drop}
-use Rattle.address_map.specs.Memory.{bytes_of}
+use Rattle.os_heap_words.specs.Memory.{bytes_of}
 use Rattle.os_heap.specs.Store.{find_heap, heaps_in}
 use Rattle.os_heap.proofs.heaps.find.Given as goal
 

@@ -1,5 +1,5 @@
 use Rattle.std.proofs.Common.{◌≡◌, ◌+◌, ◌≤◌, drop}
-use Rattle.address_map.specs.Bytes.{Bytes}
+use Rattle.os_heap_words.specs.Bytes.{Bytes}
 use Rattle.os_heap.specs.Store.{heaps_in, guest_count}
 use Rattle.os_heap.proofs.init.count_guests.Given as goal
 

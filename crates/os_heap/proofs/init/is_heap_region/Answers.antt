@@ -1,5 +1,5 @@
 use Rattle.std.proofs.Common.{arith}
-use Rattle.address_map.specs.Memory.{bytes_of}
+use Rattle.os_heap_words.specs.Memory.{bytes_of}
 use Rattle.os_heap.proofs.RangeTests.{region_tested}
 use Rattle.os_heap.proofs.init.is_heap_region.Goals as goal
 

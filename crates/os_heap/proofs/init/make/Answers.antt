@@ -1,13 +1,13 @@
 use Rattle.std.proofs.Common.{ℕ, cond, ◌≡◌, [], ◌∷◌, ◌++◌, is_some, ap, sym, subst, ◌∙◌, arith}
 use Rattle.std.proofs.lemmas.Bool.{both_ways}
-use Rattle.address_map.specs.declared.region.Region.{Region}
-use Rattle.address_map.specs.Bytes.{in_range, word_start}
-use Rattle.address_map.specs.Memory.{byte_at, bytes_of, class_of, regions}
-use Rattle.address_map.specs.declared.class.Class.{Class}
-use Rattle.address_map.specs.declared.class.Class.TheVariants as class
-use Rattle.address_map.proofs.Equations.{same_bytes}
-use Rattle.address_map.proofs.Marking.{heap_is_no_word}
-use Rattle.address_map.proofs.Stores.{layout-mapping}
+use Rattle.os_heap_words.specs.Region.{Region}
+use Rattle.os_heap_words.specs.Bytes.{in_range, word_start}
+use Rattle.os_heap_words.specs.Memory.{byte_at, bytes_of, class_of, regions}
+use Rattle.os_heap_words.specs.Class.{Class}
+use Rattle.os_heap_words.specs.Class.TheVariants as class
+use Rattle.os_heap_words.proofs.Equations.{same_bytes}
+use Rattle.os_heap_words.proofs.AddressMapMarking.{heap_is_no_word}
+use Rattle.os_heap_words.proofs.Stores.{layout-mapping}
 use Rattle.os_heap_words.specs.lists.Heap.{with_heap}
 use Rattle.os_heap.specs.Store.{store_of, IsSound}
 use Rattle.os_heap.specs.Calls.{store_with_new_heap}

@@ -1,6 +1,6 @@
 use Rattle.std.proofs.Common.{◌≡◌, ◌<◌, true, false, leb, sym, ◌∙◌, arith}
 use Rattle.std.proofs.lemmas.Bool.{le-leb, lt-leb}
-use Rattle.address_map.specs.Memory.{bytes_of}
+use Rattle.os_heap_words.specs.Memory.{bytes_of}
 use Rattle.os_heap.specs.Store.{store_of, guest_count}
 use Rattle.os_heap.specs.Ranges.{is_heap_region, overlaps}
 use Rattle.os_heap.proofs.Added.{begun_bad, begun_full, begun_over, init_looked, init_unlooked}

@@ -1,7 +1,7 @@
 use Rattle.std.proofs.Common.{Bool, List, Option, ℕ, ◌≡◌, ◌∷◌, ◌+◌, ◌||◌, ◌∙◌, drop, suc, slice_index_or, drop-cons, subst, sym, ap, option_map, arith}
 use Rattle.std.specs.List.{list_any}
-use Rattle.address_map.specs.declared.region.Kind.TheVariants as kind
-use Rattle.address_map.specs.declared.region.Region.{Region}
+use Rattle.os_heap_words.specs.Kind.TheVariants as kind
+use Rattle.os_heap_words.specs.Region.{Region}
 use Rattle.os_heap_words.specs.lists.Heap.{HeapList}
 use Rattle.os_heap.specs.Bars.{bars_record}
 use Rattle.os_heap.specs.Nesting.{innermost_heap, later_heap}

@@ -1,6 +1,6 @@
 use Rattle.std.proofs.Common.{◌≡◌, drop, option_map}
 use Rattle.std.specs.List.{list_any}
-use Rattle.address_map.specs.Bytes.{Bytes}
+use Rattle.os_heap_words.specs.Bytes.{Bytes}
 use Rattle.os_heap.specs.Bars.{bars_record}
 use Rattle.os_heap.specs.Nesting.{innermost_heap, later_heap}
 use Rattle.os_heap.specs.Store.{heap_in, heaps_in}

@@ -1,8 +1,8 @@
 use Rattle.std.proofs.Common.{Bool, ◌≡◌, ◌+◌, ◌∙◌, None, Some, not, true, sym, ap}
 use Rattle.std.proofs.lemmas.Bool.{or_left, or_right}
 use Rattle.std.specs.List.{list_any}
-use Rattle.address_map.specs.Memory.{anchor_of, bytes_of, regions}
-use Rattle.address_map.specs.Records.{anchor_among}
+use Rattle.os_heap_words.specs.Memory.{anchor_of, bytes_of, regions}
+use Rattle.os_heap_words.specs.Records.{anchor_among}
 use Rattle.os_heap.proofs.Innermost.{last_spelled}
 use Rattle.os_heap.proofs.Obstructions.{barred_probes, obstructed_barred, obstructed_shown, walk_probes_of}
 use Rattle.os_heap.specs.Bars.{bars_record}

@@ -1,5 +1,5 @@
 use Rattle.std.proofs.Common.{ℕ, ◌+◌, ◌-◌, ◌∙◌, leb, refl, sym, ap, arith}
-use Rattle.address_map.specs.Items.{total_of}
+use Rattle.os_heap_words.specs.Items.{total_of}
 use Rattle.os_heap.proofs.Holding.{range_decided, walk_ends}
 use Rattle.os_heap.proofs.obstacles.range_among.Goals as goal
 

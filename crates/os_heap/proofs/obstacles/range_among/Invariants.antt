@@ -1,5 +1,5 @@
 use Rattle.std.proofs.Common.{◌≡◌, ◌≤◌, ◌+◌, ◌^◌, length}
-use Rattle.address_map.specs.Items.{size_of}
+use Rattle.os_heap_words.specs.Items.{size_of}
 use Rattle.os_heap_words.specs.lists.Heap.{AreTotals}
 use Rattle.os_heap.specs.Nesting.{holds_range}
 use Rattle.os_heap.specs.Probes.{walked_to}

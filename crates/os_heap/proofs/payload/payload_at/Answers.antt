@@ -1,5 +1,5 @@
 use Rattle.std.proofs.Common.{arith, ap}
-use Rattle.address_map.specs.Items.{size_of}
+use Rattle.os_heap_words.specs.Items.{size_of}
 use Rattle.os_heap_words.proofs.Tally.{heap_below}
 use Rattle.os_heap.proofs.payload.payload_at.Goals as goal
 

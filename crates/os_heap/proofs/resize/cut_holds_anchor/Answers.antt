@@ -1,6 +1,6 @@
 use Rattle.std.proofs.Common.{◌+◌, ◌-◌, sym, arith}
-use Rattle.address_map.proofs.Anchors.{among_none}
-use Rattle.address_map.specs.Memory.{anchor_of}
+use Rattle.os_heap_words.proofs.Anchors.{among_none}
+use Rattle.os_heap_words.specs.Memory.{anchor_of}
 use Rattle.os_heap.proofs.resize.cut_holds_anchor.Goals as goal
 
 pub returns-then-needed-from : goal.returns-then-needed-from

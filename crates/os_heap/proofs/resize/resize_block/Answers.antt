@@ -2,7 +2,7 @@ use Rattle.std.proofs.Common.{true, false, ◌≡◌, ◌+◌, Some, refl, sym, 
 use Rattle.os_heap_words.specs.Outcomes.{items_at, end_at}
 use Rattle.os_heap_words.specs.lists.Lists.{round_up_8, changed_by, live_total}
 use Rattle.os_heap.proofs.Resizing.{there_heap, block_here, resize_refused, resize_freed, resize_refitted, larger_where_none, resize_moved, move_few, anchor_shown, cut_shown, below_all, held_freed, held_cut, held_moved}
-use Rattle.address_map.specs.Memory.{regions}
+use Rattle.os_heap_words.specs.Memory.{regions}
 use Rattle.os_heap.proofs.Sized.{unheld}
 use Rattle.os_heap_words.proofs.Walking.{begun_few}
 use Rattle.os_heap.proofs.LostRecords.{rest_kept}

@@ -1,5 +1,5 @@
 use Rattle.std.proofs.Common.{◌∙◌, sym, arith}
-use Rattle.address_map.specs.Memory.{regions}
+use Rattle.os_heap_words.specs.Memory.{regions}
 use Rattle.os_heap_words.specs.Outcomes.{end_at, items_at}
 use Rattle.os_heap_words.proofs.Replace.{heap_mapped}
 use Rattle.os_heap_words.proofs.Freeing.{block_facts}

@@ -1,6 +1,6 @@
 use Rattle.profile.specs.MemoryMap.{module_area_start}
 use Rattle.std.proofs.Common.{◌≡◌, ◌+◌, Ok, arith}
-use Rattle.os_heap_words.specs.lists.Lists.{total_for}
+use Rattle.dynamic_areas.specs.OsHeapWordsLists.{total_for}
 use Rattle.dynamic_areas.specs.Calls.{store_after_get}
 use Rattle.dynamic_areas.specs.Store.{store_of}
 use Rattle.dynamic_areas.specs.Ground.{AreaStore, area_store_of}

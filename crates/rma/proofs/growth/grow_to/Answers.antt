@@ -1,5 +1,5 @@
 use Rattle.std.proofs.Common.{◌≡◌, ◌<◌, ◌-◌, ◌*◌, true, refl, sym, ap, ◌∙◌, arith}
-use Rattle.address_map.specs.Memory.{free_pages, is_mapped}
+use Rattle.dynamic_areas.specs.Memory.{free_pages, is_mapped}
 use Rattle.dynamic_areas.specs.Store.{store_of}
 use Rattle.dynamic_areas.specs.Creating.{pages_for}
 use Rattle.dynamic_areas.specs.Ground.{AreaStore, area_store_of}

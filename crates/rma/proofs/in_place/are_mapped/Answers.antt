@@ -1,7 +1,7 @@
 use Rattle.dynamic_areas.specs.Ranges.{are_bytes_mapped}
 use Rattle.dynamic_areas.specs.Store.{store_of}
 use Rattle.dynamic_areas.proofs.RangeTests.{are_mapped_all, are_mapped_from, same_tests}
-use Rattle.address_map.specs.Memory.{is_mapped}
+use Rattle.dynamic_areas.specs.Memory.{is_mapped}
 use Rattle.rma.proofs.in_place.are_mapped.Goals as goal
 
 pub returns : goal.returns

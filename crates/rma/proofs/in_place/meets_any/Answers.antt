@@ -1,6 +1,6 @@
 use Rattle.std.proofs.Common.{◌||◌, sym, ◌∙◌, ap, Bool}
-use Rattle.address_map.specs.Memory.{anchor_of}
-use Rattle.address_map.specs.Records.{anchor_among}
+use Rattle.dynamic_areas.specs.Memory.{anchor_of}
+use Rattle.dynamic_areas.specs.Records.{anchor_among}
 use Rattle.dynamic_areas.proofs.RangeTests.{meets_recorded}
 use Rattle.rma.proofs.in_place.meets_any.Goals as goal
 

@@ -1,15 +1,15 @@
 use Rattle.std.proofs.Common.{◌-◌, length, sym, ap, subst, arith, ℕ}
-use Rattle.os_heap_words.specs.lists.Lists.{total_for}
+use Rattle.dynamic_areas.specs.OsHeapWordsLists.{total_for}
 use Rattle.dynamic_areas.proofs.Frame.{classes_same}
 use Rattle.dynamic_areas.specs.Store.{Store, store_of}
 use Rattle.dynamic_areas.proofs.HeapCalls.{areas_written}
 use Rattle.rma.specs.NewImages.{store_with_image_bytes}
 use Rattle.rma.specs.flex_frame.Keeping.{RangeHasNoAnchor, KeepsFlex}
 use Rattle.rma.proofs.FlexFrameLemmas.Writes.{unanchored_written}
-use Rattle.address_map.specs.Bytes.{with_bytes}
+use Rattle.dynamic_areas.specs.Bytes.{with_bytes}
 use Rattle.rma.proofs.FlexLemmas.{filled_keeps}
 use Rattle.rma.proofs.NewImageLemmas.{IsFilled, is_filled, payload_mapped}
-use Rattle.address_map.specs.declared.map.AddressMap.{AddressMap}
+use Rattle.dynamic_areas.specs.AddressMap.{AddressMap}
 use Rattle.rma.proofs.new_images.fill.Goals as goal
 
 pub returns-clause-kept : goal.returns-clause-kept

@@ -1,7 +1,7 @@
 use Rattle.std.proofs.Common.{◌<◌, ◌≤◌, ◌^◌, take}
 use Rattle.std.specs.List.{All}
 use Rattle.profile.specs.MemoryMap.{application_start, system_start}
-use Rattle.dynamic_areas.specs.declared.area.Area.{Area}
+use Rattle.swi_dispatch_guest.specs.Area.{Area}
 use Rattle.store_copies.specs.Pages.{IsNotBetween}
 use Rattle.store_copies.proofs.pages.next_start.Given as goal
 

@@ -1,8 +1,8 @@
 use Rattle.std.proofs.Common.{◌≡◌, ◌*◌, List, false, is_some, sym, ap, subst, ◌∙◌, refl}
 use Rattle.address_map.specs.Memory.{is_mapped}
 use Rattle.address_map.specs.declared.map.AddressMap.{AddressMap}
-use Rattle.dynamic_areas.specs.Areas.{AreaTable}
-use Rattle.dynamic_areas.specs.declared.area.Area.{Area}
+use Rattle.swi_dispatch_guest.specs.DynamicAreasAreas.{AreaTable}
+use Rattle.swi_dispatch_guest.specs.Area.{Area}
 use Rattle.store_copies.specs.Pages.{IsNoStartBetween}
 use Rattle.store_copies.proofs.PageLemmas.{passed}
 use Rattle.store_copies.proofs.pages.past_unmapped.Goals as goal

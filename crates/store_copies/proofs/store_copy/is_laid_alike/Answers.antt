@@ -5,8 +5,8 @@ use Rattle.address_map.specs.contracts.region.Kind.{the_type}
 use Rattle.address_map.specs.declared.region.Region.{Region}
 use Rattle.address_map.specs.Memory.{free_pages, page_total}
 use Rattle.address_map.specs.declared.map.AddressMap.{AddressMap}
-use Rattle.flex_store.specs.State.{IsFlex}
-use Rattle.flex_store.specs.declared.flex.Flex.{Flex}
+use Rattle.swi_dispatch_guest.specs.State.{IsFlex}
+use Rattle.swi_dispatch_guest.specs.Flex.{Flex}
 use Rattle.store_copies.specs.Copies.{IsLaidAlike}
 use Rattle.store_copies.proofs.CopyLemmas.{AreAmong, all_counted, mapped_alike}
 use Rattle.store_copies.proofs.RenewLemmas.{no_flex, same_elements}

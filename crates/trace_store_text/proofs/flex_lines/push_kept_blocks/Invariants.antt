@@ -1,8 +1,8 @@
 use Rattle.std.proofs.Common.{◌≡◌, length}
 use Rattle.std.specs.List.{flat_map}
 use Rattle.profile.specs.Output.{AddsAllBut}
-use Rattle.flex_store.specs.Listed.{all_listed}
-use Rattle.flex_store.specs.State.{flex_in}
+use Rattle.store_copies.specs.Listed.{all_listed}
+use Rattle.store_copies.specs.State.{flex_in}
 use Rattle.trace_store_text.specs.FlexLines.{kept_block_lines}
 use Rattle.trace_store_text.proofs.flex_lines.push_kept_blocks.Given as goal
 

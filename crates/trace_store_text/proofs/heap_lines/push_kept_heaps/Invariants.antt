@@ -1,6 +1,6 @@
 use Rattle.std.proofs.Common.{◌≡◌, drop}
 use Rattle.std.specs.List.{flat_map}
-use Rattle.os_heap.specs.Store.{store_of}
+use Rattle.store_copies.specs.Store.{store_of}
 use Rattle.profile.specs.Output.{AddsAllBut}
 use Rattle.trace_store_text.specs.HeapLines.{kept_heap_lines, lines_of_region}
 use Rattle.trace_store_text.proofs.heap_lines.push_kept_heaps.Given as goal

@@ -1,4 +1,4 @@
-use Rattle.os_heap.specs.Store.{store_of}
+use Rattle.store_copies.specs.Store.{store_of}
 use Rattle.trace_store_text.specs.items.Changes.{item_changes}
 use Rattle.trace_store_text.proofs.LineLemmas.{item_lines_kept}
 use Rattle.trace_store_text.proofs.item_lines.push_items.Goals as goal

@@ -1,6 +1,6 @@
 use Rattle.std.proofs.Common.{sym, subst}
-use Rattle.flex_store.specs.State.{IsFlex}
-use Rattle.flex_store.specs.declared.flex.Flex.{Flex}
+use Rattle.store_copies.specs.State.{IsFlex}
+use Rattle.store_copies.specs.Flex.{Flex}
 use Rattle.trace_store_text.proofs.store_lines.push_changed_flex.Goals as goal
 
 pub push_flex-requires-clause-old : goal.push_flex-requires-clause-old

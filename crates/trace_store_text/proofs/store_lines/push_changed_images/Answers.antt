@@ -1,5 +1,5 @@
 use Rattle.std.proofs.Common.{ap, sym}
-use Rattle.os_heap.specs.Store.{store_of}
+use Rattle.store_copies.specs.Store.{store_of}
 use Rattle.trace_store_text.proofs.store_lines.push_changed_images.Goals as goal
 
 pub returns : goal.returns

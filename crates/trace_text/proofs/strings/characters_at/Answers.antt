@@ -1,7 +1,7 @@
 -- By the lemmas that are named.
 use Rattle.std.proofs.Common.{arith, refl, sym, ◌∙◌}
 use Rattle.std.proofs.lemmas.Grind.{common_steps}
-use Rattle.address_map.specs.Memory.{bytes_of}
+use Rattle.trace_effects.specs.Memory.{bytes_of}
 use Rattle.profile.specs.Sums.{address_further}
 use Rattle.trace_text.specs.Strings.{characters_at}
 use Rattle.trace_text.proofs.StringLemmas.{character_ends, character_more, characters_done}

@@ -1,5 +1,5 @@
 use Rattle.std.proofs.Common.{◌≡◌, ◌-◌, ◌++◌, length}
-use Rattle.address_map.specs.Memory.{bytes_of}
+use Rattle.trace_effects.specs.Memory.{bytes_of}
 use Rattle.trace_text.specs.Strings.{characters_at}
 use Rattle.trace_text.proofs.strings.characters_at.Given as goal
 

@@ -1,5 +1,5 @@
 use Rattle.std.proofs.Common.{◌≡◌, ap, refl, ◌∙◌, sym}
-use Rattle.arm_decode.specs.declared.shift.ShiftedRegister.{ShiftedRegister}
+use Rattle.arm_core.specs.ShiftedRegister.{ShiftedRegister}
 use Rattle.arm_predecode.proofs.Known.{by_shift}
 use Rattle.arm_predecode.proofs.op.Op.by_shift.Goals as goal
 

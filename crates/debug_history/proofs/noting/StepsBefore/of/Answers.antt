@@ -2,11 +2,11 @@ use Rattle.std.proofs.Common.{◌≡◌, Option, ap, ◌∙◌}
 use Rattle.std.specs.Prelude.{is_some}
 use Rattle.std.specs.Option.{option_map}
 use Rattle.arm_core.specs.State.{State, register_of}
-use Rattle.command_shell.specs.Value.{MachineValue}
-use Rattle.command_shell.specs.GuestState.{state_of}
-use Rattle.command_shell.specs.MachineState.{MachineState, stop_of}
-use Rattle.command_shell.specs.Halt.{Halt}
-use Rattle.command_shell.specs.Session.{script_state}
+use Rattle.debug_labels.specs.Value.{MachineValue}
+use Rattle.debug_tables.specs.GuestState.{state_of}
+use Rattle.debug_tables.specs.MachineState.{MachineState, stop_of}
+use Rattle.debug_labels.specs.Halt.{Halt}
+use Rattle.debug_tables.specs.Session.{script_state}
 use Rattle.debug_history.proofs.NotedLemmas.{some_stop}
 use Rattle.debug_history.proofs.noting.StepsBefore.of.Goals as goal
 

@@ -1,5 +1,5 @@
 use Rattle.std.proofs.Common.{ℕ, List, ap, ◌∙◌}
-use Rattle.command_shell.specs.State.{ScriptState}
+use Rattle.debug_tables.specs.State.{ScriptState}
 use Rattle.debug_labels.specs.place_views.Places.{where_text}
 use Rattle.command_shell_lines.specs.debug_words.PastTexts.{text_with_step}
 use Rattle.debug_history.proofs.past.Past.back.Goals as goal

@@ -1,7 +1,7 @@
 use Rattle.std.proofs.Common.{◌≡◌, ◌+◌, ◌≤◌, ◌<◌, ◌^◌, ℕ, List, None, take, drop, refl, ap, ◌∙◌, arith}
 use Rattle.profile.specs.images.Entries.{Entry}
-use Rattle.command_shell.specs.Session.{script_state}
-use Rattle.command_shell.specs.State.{ScriptState}
+use Rattle.debug_tables.specs.Session.{script_state}
+use Rattle.debug_tables.specs.State.{ScriptState}
 use Rattle.debug_history.specs.Acts.{fresh_moment, moment_after_acts, steps_of_acts}
 use Rattle.debug_history.specs.Search.{last_found, units}
 use Rattle.debug_history.specs.declared.act.Act.{Act}

@@ -1,5 +1,5 @@
 use Rattle.std.proofs.Common.{◌≡◌, drop}
-use Rattle.instances_table.specs.Lookup.{shown_of_module}
+use Rattle.debugger.specs.Lookup.{shown_of_module}
 use Rattle.debug_labels.specs.Standing.{module_start, start_as}
 use Rattle.profile.specs.Firsts.{first_of}
 use Rattle.debug_labels.proofs.labels.LabelledImage.module_start.Given as goal

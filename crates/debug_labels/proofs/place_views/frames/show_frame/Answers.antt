@@ -1,6 +1,6 @@
 use Rattle.std.proofs.Common.{◌≡◌, List, ℕ, ap, subst, sym, ◌∙◌}
 use Rattle.profile.specs.Output.{Writes}
-use Rattle.address_map.specs.Memory.{bytes_of}
+use Rattle.debugger.specs.AddressMapMemory.{bytes_of}
 use Rattle.debugger.specs.Modules.{one_text}
 use Rattle.debug_labels.specs.place_views.Frames.{frame_line, open_frame_numbered, frame_text}
 use Rattle.debug_labels.proofs.place_views.frames.show_frame.Goals as goal

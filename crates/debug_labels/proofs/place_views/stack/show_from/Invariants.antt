@@ -1,6 +1,6 @@
 use Rattle.std.proofs.Common.{◌≡◌}
 use Rattle.profile.specs.Output.{AddsAllBut}
-use Rattle.address_map.specs.Memory.{bytes_of}
+use Rattle.debugger.specs.AddressMapMemory.{bytes_of}
 use Rattle.debug_labels.specs.place_views.Stack.{stack_words_text_at}
 use Rattle.debug_labels.proofs.place_views.stack.show_from.Given as goal
 

@@ -1,6 +1,6 @@
 -- By the lemmas of `byte_steps`.
 use Rattle.std.proofs.Common.{arith}
-use Rattle.debugger.proofs.MemoryLemmas.{byte_steps}
+use Rattle.debug_labels.proofs.MemoryLemmas.{byte_steps}
 use Rattle.debug_modes.proofs.expectations.dump.show_bytes.Goals as goal
 
 pub loop-left-preserved : goal.loop-left-preserved

@@ -1,7 +1,7 @@
 use Rattle.std.proofs.Common.{◌≡◌}
 use Rattle.profile.specs.Output.{AddsAllBut}
 use Rattle.address_map.specs.Memory.{bytes_of}
-use Rattle.debugger.specs.Memory.{bytes_text}
+use Rattle.debug_labels.specs.Memory.{bytes_text}
 use Rattle.debug_modes.proofs.expectations.dump.show_bytes.Given as goal
 
 abbrev pub invariant-loop-left : goal.invariant-loop-left

@@ -3,7 +3,7 @@ use Rattle.std.proofs.Common.{◌≡◌, Ok, Err, ap, subst, ◌∙◌}
 use Rattle.std.specs.Prelude.{codes}
 use Rattle.profile.specs.Outcome.{Leaves}
 use Rattle.command_shell.specs.GuestState.{state_of}
-use Rattle.command_shell_lines.specs.declared.debug_words.stubs.Stub.{Stub}
+use Rattle.debug_lines.specs.Stub.{Stub}
 use Rattle.debug_modes.specs.Changes.{change_text, stub_number, with_stub_number}
 use Rattle.debug_tables.specs.Stubs.{with_stub}
 use Rattle.debug_modes.proofs.ChangeLemmas.{on_err, stubs_changed, stubs_refused_if, stubs_stay}

@@ -2,7 +2,7 @@
 use Rattle.std.proofs.Common.{◌≡◌, ◌∙◌, ◌++◌, ◌==◌, ℕ, List, is_some, ap, subst, sym}
 use Rattle.debug_lines.specs.DebugRequests.{debug_opens_block}
 use Rattle.debug_session.specs.DebugScript.{line_opens}
-use Rattle.command_shell.specs.MachineState.{MachineState}
+use Rattle.trace_json.specs.MachineState.{MachineState}
 use Rattle.debug_session.specs.DebugState.{DebugAnswered, DebugState}
 use Rattle.debug_session.specs.Session.{debug_state}
 use Rattle.profile.specs.text_sink.TextSink.{sink_text_of}

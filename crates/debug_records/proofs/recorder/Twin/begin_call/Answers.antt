@@ -1,6 +1,6 @@
 -- The call was made, and all was copied before it.
 use Rattle.std.proofs.Common.{[], refl, subst}
-use Rattle.command_shell.specs.MachineState.{MachineState}
+use Rattle.trace_json.specs.MachineState.{MachineState}
 use Rattle.debug_records.specs.Moments.{of_caller}
 use Rattle.debug_records.specs.Recording.{twin_machine}
 use Rattle.debug_records.specs.Taking.{IsMadeBefore}

@@ -1,8 +1,8 @@
 -- A step was taken, or a stub did what it does in its place.
 use Rattle.std.proofs.Common.{[], ◌≡◌, ◌∙◌, ap, refl, subst}
 use Rattle.std.specs.Prelude.{◌||◌, not}
-use Rattle.command_shell.specs.MachineState.{MachineState}
-use Rattle.debug_tables.specs.Stubs.{deed_ahead}
+use Rattle.trace_json.specs.MachineState.{MachineState}
+use Rattle.debug_session.specs.Stubs.{deed_ahead}
 use Rattle.trace_effects.specs.Cause.{cause_of}
 use Rattle.trace_json.specs.Moments.{IsKeptBefore}
 use Rattle.trace_json.specs.PlainSteps.{is_plain}

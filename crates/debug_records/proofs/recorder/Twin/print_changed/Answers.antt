@@ -1,7 +1,7 @@
 -- What differs of the machine from the copy was written, and then the record.
 use Rattle.std.proofs.Common.{[], subst}
 use Rattle.std.specs.Prelude.{codes}
-use Rattle.command_shell.specs.MachineState.{MachineState}
+use Rattle.trace_json.specs.MachineState.{MachineState}
 use Rattle.trace_json.specs.Moments.{IsCopy, ShowsChanges}
 use Rattle.debug_records.specs.Recording.{session_machine, twin_machine}
 use Rattle.debug_records.proofs.MomentLemmas.{moment_recorded}

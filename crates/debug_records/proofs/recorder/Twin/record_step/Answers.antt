@@ -1,7 +1,7 @@
 -- What differs was written, of the machines before the step and behind it.
 use Rattle.std.proofs.Common.{[], ◌≡◌, ◌∙◌, ◌==◌, false, ap, subst, sym}
-use Rattle.command_shell.specs.GuestState.{state_of}
-use Rattle.command_shell.specs.MachineState.{MachineState}
+use Rattle.trace_json.specs.GuestState.{state_of}
+use Rattle.trace_json.specs.MachineState.{MachineState}
 use Rattle.debug_session.specs.declared.session.DebugSession.{DebugSession}
 use Rattle.debug_records.specs.LineRecords.{Adds}
 use Rattle.debug_records.specs.Moments.{IsSet, IsStepRecord}

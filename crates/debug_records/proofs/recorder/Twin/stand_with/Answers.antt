@@ -1,6 +1,6 @@
 -- The cores are the same, and no word differs.
 use Rattle.std.proofs.Common.{[], ◌≡◌, ◌∙◌, ◌==◌, List, length, ap, sym}
-use Rattle.command_shell.specs.MachineState.{MachineState}
+use Rattle.trace_json.specs.MachineState.{MachineState}
 use Rattle.trace_effects.specs.declared.shown_words.words.ShownWord.{ShownWord}
 use Rattle.debug_records.specs.Recording.{session_machine, twin_machine}
 use Rattle.debug_records.proofs.StandingLemmas.{alike_by}

@@ -1,6 +1,6 @@
 -- By the lemmas that are named.
 use Rattle.std.proofs.Common.{}
-use Rattle.command_shell.specs.Session.{script_state}
+use Rattle.debug_tables.specs.Session.{script_state}
 use Rattle.debug_runs.proofs.LastLemmas.{kept_is}
 use Rattle.debug_runs.proofs.last_steps.KeptStep.take.Goals as goal
 

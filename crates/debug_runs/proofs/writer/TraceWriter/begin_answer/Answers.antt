@@ -1,10 +1,10 @@
 -- By the lemmas that are named.
 use Rattle.std.proofs.Common.{ℕ, List, ◌++◌, ◌∙◌, ap}
-use Rattle.command_shell.specs.Calls.{first_step}
-use Rattle.swi_dispatch_guest.specs.MachineState.{outcome_with}
-use Rattle.swi_dispatch_guest.specs.GuestState.{state_of}
-use Rattle.command_shell.specs.Value.{MachineValue}
-use Rattle.command_shell.specs.Session.{script_state}
+use Rattle.debug_tables.specs.Calls.{first_step}
+use Rattle.debug_tables.specs.MachineState.{outcome_with}
+use Rattle.debug_tables.specs.GuestState.{state_of}
+use Rattle.law_machine.specs.Value.{MachineValue}
+use Rattle.debug_tables.specs.Session.{script_state}
 use Rattle.profile.specs.text_sink.TextSink.{sink_text_of}
 use Rattle.trace_text.specs.Start.{known_in}
 use Rattle.trace_text.specs.Step.{known_outside, step_end_text}

@@ -1,7 +1,7 @@
 -- By the lemmas that are named.
 use Rattle.std.proofs.Common.{ℕ, List, ◌++◌, ◌∙◌, ap}
-use Rattle.command_shell.specs.Calls.{first_step}
-use Rattle.command_shell.specs.Session.{script_state}
+use Rattle.debug_tables.specs.Calls.{first_step}
+use Rattle.debug_tables.specs.Session.{script_state}
 use Rattle.debug_runs.proofs.TraceWriterLemmas.{untold_pushed}
 use Rattle.debug_runs.proofs.writer.TraceWriter.begin_untold.Goals as goal
 

@@ -1,13 +1,13 @@
 -- By the lemmas that are named.
 use Rattle.std.proofs.Common.{◌≡◌, [], ◌++◌, Option, Some, None, ap, subst, sym, refl, ◌∙◌}
 use Rattle.std.specs.Prelude.{OnOk}
-use Rattle.command_shell.specs.Value.{MachineValue}
-use Rattle.swi_dispatch_guest.specs.MachineState.{StepOutcome}
-use Rattle.swi_dispatch_guest.specs.GuestState.{state_of}
-use Rattle.swi_dispatch_guest.specs.Step.{machine_step}
-use Rattle.command_shell.specs.Calls.{step_made}
-use Rattle.command_shell.specs.Session.{script_state}
-use Rattle.command_shell.specs.State.{ScriptState}
+use Rattle.law_machine.specs.Value.{MachineValue}
+use Rattle.debug_tables.specs.MachineState.{StepOutcome}
+use Rattle.debug_tables.specs.GuestState.{state_of}
+use Rattle.debug_tables.specs.Step.{machine_step}
+use Rattle.debug_tables.specs.Calls.{step_made}
+use Rattle.debug_tables.specs.Session.{script_state}
+use Rattle.debug_tables.specs.State.{ScriptState}
 use Rattle.trace_text.specs.Step.{step_text}
 use Rattle.profile.specs.text_sink.TextSink.{sink_text_of}
 use Rattle.debug_runs.specs.Runs.{next_step}

@@ -1,11 +1,11 @@
 -- By the lemmas that are named.
 use Rattle.std.proofs.Common.{◌≡◌, ℕ, List, ◌++◌, ◌∙◌, ap, sym, subst}
-use Rattle.swi_dispatch_guest.specs.Step.{machine_step}
-use Rattle.swi_dispatch_guest.specs.MachineState.{MachineState, outcome_with}
-use Rattle.swi_dispatch_guest.specs.GuestState.{IsState, state_of}
-use Rattle.command_shell.specs.Value.{MachineValue}
-use Rattle.command_shell.specs.Session.{script_state}
-use Rattle.command_shell.specs.State.{ScriptState}
+use Rattle.debug_tables.specs.Step.{machine_step}
+use Rattle.debug_tables.specs.MachineState.{MachineState, outcome_with}
+use Rattle.debug_tables.specs.GuestState.{IsState, state_of}
+use Rattle.law_machine.specs.Value.{MachineValue}
+use Rattle.debug_tables.specs.Session.{script_state}
+use Rattle.debug_tables.specs.State.{ScriptState}
 use Rattle.profile.specs.text_sink.TextSink.{sink_text_of}
 use Rattle.trace_text.specs.Start.{known_in}
 use Rattle.trace_text.specs.Step.{Known, ListsInside, known_of, start_text, step_end_text, step_text}

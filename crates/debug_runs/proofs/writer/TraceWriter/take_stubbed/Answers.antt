@@ -1,10 +1,10 @@
 -- By the lemmas that are named.
 use Rattle.std.proofs.Common.{◌≡◌, ◌/◌, length, ap, refl, ◌∙◌}
-use Rattle.trace_effects.specs.word_text.Stored.{word_values_from}
-use Rattle.command_shell.specs.Value.{MachineValue}
-use Rattle.swi_dispatch_guest.specs.GuestState.{state_of}
-use Rattle.trace_effects.specs.Cause.{cause_of}
-use Rattle.command_shell.specs.Session.{script_state}
+use Rattle.trace_text.specs.Stored.{word_values_from}
+use Rattle.law_machine.specs.Value.{MachineValue}
+use Rattle.debug_tables.specs.GuestState.{state_of}
+use Rattle.trace_text.specs.Cause.{cause_of}
+use Rattle.debug_tables.specs.Session.{script_state}
 use Rattle.debug_runs.specs.TraceWriter.{stub_line, stub_step_text}
 use Rattle.debug_runs.proofs.TraceWriterLemmas.{text_alone}
 use Rattle.debug_runs.proofs.writer.TraceWriter.take_stubbed.Goals as goal

@@ -1,6 +1,6 @@
 -- By the lemmas that are named.
 use Rattle.std.proofs.Common.{ℕ, List, ◌++◌, ◌∙◌, ap}
-use Rattle.command_shell.specs.Session.{script_state}
+use Rattle.debug_tables.specs.Session.{script_state}
 use Rattle.debug_runs.specs.Runs.{next_step}
 use Rattle.debug_runs.proofs.TraceWriterLemmas.{untold_pushed}
 use Rattle.debug_runs.proofs.writer.TraceWriter.take_untold.Goals as goal

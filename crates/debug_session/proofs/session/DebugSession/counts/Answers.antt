@@ -1,6 +1,6 @@
 use Rattle.std.proofs.Common.{◌∙◌, ap}
-use Rattle.debug_modes.specs.Counting.{counts_text}
-use Rattle.debug_labels.specs.place_views.Places.{naming_on}
+use Rattle.debug_modules.specs.Counting.{counts_text}
+use Rattle.debug_modules.specs.Places.{naming_on}
 use Rattle.debug_tables.specs.run_meter.Value.{MachineValue}
 use Rattle.debug_tables.specs.run_meter.GuestState.{state_of}
 use Rattle.debug_session.specs.Session.{debug_state}

@@ -1,8 +1,8 @@
 use Rattle.std.proofs.Common.{◌≡◌, ℕ, Bool, List, Option, ◌∙◌, ap, refl}
 use Rattle.std.specs.Prelude.{is_some}
 use Rattle.profile.specs.images.Entries.{bytes_of_image}
-use Rattle.debug_history.specs.Past.{past_with_images}
-use Rattle.debug_modes.specs.OwnAnswers.{forget_text}
+use Rattle.debug_modules.specs.Past.{past_with_images}
+use Rattle.debug_modules.specs.OwnAnswers.{forget_text}
 use Rattle.debug_session.specs.Session.{debug_state}
 use Rattle.debug_session.specs.declared.session.DebugSession.{DebugSession}
 use Rattle.debug_session.proofs.OwnLemmas.{mapped_some, view_after, without_image}

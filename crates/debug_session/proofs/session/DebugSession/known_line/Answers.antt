@@ -4,8 +4,8 @@ use Rattle.std.specs.Prelude.{OnOk}
 use Rattle.command_shell_lines.specs.Blocks.{block_lines, lines_after, lines_taken}
 use Rattle.debug_lines.specs.DebugRequests.{DebugRequest, debug_opens_block, debug_request_of_command}
 use Rattle.debug_lines.specs.SteppingRequests.{stepping_request_of}
-use Rattle.debug_history.specs.declared.act.PastDeed.TheVariants.{Status}
-use Rattle.debug_modes.specs.expectations.Checks.{status_after_pattern}
+use Rattle.debug_modules.specs.PastDeed.TheVariants.{Status}
+use Rattle.debug_modules.specs.Checks.{status_after_pattern}
 use Rattle.debug_tables.specs.run_meter.Memory.{script_with_status}
 use Rattle.debug_session.specs.DebugScript.{past_line_answer, put_answer, reset_answer, set_pc_answer, set_psr_answer, stepping_line_answer, write_answer}
 use Rattle.debug_session.specs.DebugState.{IsDebugged}

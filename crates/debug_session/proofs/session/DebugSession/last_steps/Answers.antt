@@ -1,10 +1,10 @@
 -- What the acts show one after another is what all of them show.
 use Rattle.std.proofs.Common.{◌≡◌, ◌<◌, ◌≤◌, ◌-◌, ◌==◌, ◌∙◌, ℕ, List, length, ap, arith}
 use Rattle.std.specs.Prelude.{vec_len}
-use Rattle.debug_history.specs.Acts.{moment_of_script}
-use Rattle.debug_history.specs.Noted.{is_faulted}
-use Rattle.debug_history.specs.declared.act.Act.{Act}
-use Rattle.debug_history.proofs.AgainLemmas.{beside_at, beside_both, beside_itself, beside_same}
+use Rattle.debug_modules.specs.Acts.{moment_of_script}
+use Rattle.debug_modules.specs.Noted.{is_faulted}
+use Rattle.debug_modules.specs.Act.{Act}
+use Rattle.debug_modules.proofs.AgainLemmas.{beside_at, beside_both, beside_itself, beside_same}
 use Rattle.debug_tables.specs.run_meter.Session.{script_state}
 use Rattle.debug_tables.specs.run_meter.State.{script_start_state}
 use Rattle.debug_session.specs.Session.{debug_state}

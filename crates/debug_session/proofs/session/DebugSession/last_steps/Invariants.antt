@@ -1,8 +1,8 @@
 use Rattle.std.proofs.Common.{◌≡◌, drop}
-use Rattle.debug_history.specs.Acts.{moment_of_script}
+use Rattle.debug_modules.specs.Acts.{moment_of_script}
 use Rattle.debug_tables.specs.run_meter.Session.{script_state}
 use Rattle.debug_tables.specs.run_meter.State.{script_start_state}
-use Rattle.debug_history.proofs.AgainLemmas.{IsBeside}
+use Rattle.debug_modules.proofs.AgainLemmas.{IsBeside}
 use Rattle.debug_session.specs.LastSteps.{last_steps_text, text_of_acts}
 use Rattle.debug_session.specs.Session.{debug_state}
 use Rattle.debug_session.proofs.session.DebugSession.last_steps.Given as goal

@@ -4,7 +4,7 @@ use Rattle.std.specs.Prelude.{OnOk}
 use Rattle.command_shell_lines.specs.Blocks.{block_lines, lines_after, lines_taken}
 use Rattle.command_shell_lines.specs.Requests.{request_of_command}
 use Rattle.debug_lines.specs.SteppingRequests.{SteppingRequest, stepping_request_of}
-use Rattle.debug_modes.specs.Modes.{takes_over}
+use Rattle.debug_modules.specs.Modes.{takes_over}
 use Rattle.debug_session.specs.DebugScript.{script_line_answer_in, stepping_line_answer}
 use Rattle.debug_session.specs.DebugState.{IsDebugged}
 use Rattle.debug_session.specs.Session.{debug_state}

@@ -1,6 +1,6 @@
 use Rattle.std.proofs.Common.{◌∙◌, ap}
 use Rattle.debug_lines.specs.DebugRequests.{view_request_of}
-use Rattle.debug_modes.specs.ViewTexts.{view_text}
+use Rattle.debug_modules.specs.ViewTexts.{view_text}
 use Rattle.debug_tables.specs.run_meter.Value.{MachineValue}
 use Rattle.debug_tables.specs.run_meter.GuestState.{state_of}
 use Rattle.debug_session.specs.Session.{debug_state}

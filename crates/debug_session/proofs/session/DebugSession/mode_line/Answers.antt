@@ -1,7 +1,7 @@
 use Rattle.std.proofs.Common.{◌∙◌, ap, refl}
 use Rattle.debug_lines.specs.ModeRequests.{mode_request_of}
-use Rattle.debug_modes.specs.Changes.{mode_answer}
-use Rattle.debug_modes.specs.declared.modes.DebugModes.{DebugModes}
+use Rattle.debug_modules.specs.Changes.{mode_answer}
+use Rattle.debug_modules.specs.DebugModes.{DebugModes}
 use Rattle.debug_tables.specs.run_meter.Value.{MachineValue}
 use Rattle.debug_tables.specs.run_meter.GuestState.{state_of}
 use Rattle.debug_session.specs.DebugState.{DebugState}

@@ -2,13 +2,13 @@
 use Rattle.std.proofs.Common.{◌++◌, ◌∙◌, ℕ, List, Option, ap, subst}
 use Rattle.std.specs.Option.{option_map}
 use Rattle.arm_core.specs.State.{State}
-use Rattle.debug_modes.specs.expectations.Halted.{halted_at_text, halting_fault}
+use Rattle.debug_modules.specs.Halted.{halted_at_text, halting_fault}
 use Rattle.debug_tables.specs.run_meter.GuestState.{state_of}
 use Rattle.debug_tables.specs.run_meter.MachineState.{stop_of}
 use Rattle.debug_tables.specs.run_meter.Value.{MachineValue}
 use Rattle.profile.specs.declared.fault.Fault.{Fault}
 use Rattle.debug_tables.specs.run_meter.Memory.{script_at}
-use Rattle.debug_history.specs.declared.act.PastDeed.TheVariants.{Place}
+use Rattle.debug_modules.specs.PastDeed.TheVariants.{Place}
 use Rattle.debug_session.specs.DebugScript.{set_pc_by}
 use Rattle.debug_session.specs.DebugState.{IsDebugged}
 use Rattle.debug_session.specs.Session.{debug_state}

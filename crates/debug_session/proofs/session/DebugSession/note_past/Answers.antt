@@ -1,7 +1,7 @@
 use Rattle.std.proofs.Common.{◌≡◌, ◌-◌, ℕ, Bool, subst, sym, if◌then◌else◌}
 use Rattle.std.specs.Prelude.{OnOk}
 use Rattle.command_shell_lines.specs.Requests.{request_of_command}
-use Rattle.debug_history.specs.Noted.{is_faulted, past_after_request}
+use Rattle.debug_modules.specs.Noted.{is_faulted, past_after_request}
 use Rattle.debug_tables.specs.run_meter.Session.{script_state}
 use Rattle.debug_session.proofs.session.DebugSession.note_past.Goals as goal
 

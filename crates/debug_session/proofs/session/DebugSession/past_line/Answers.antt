@@ -2,8 +2,8 @@
 use Rattle.std.proofs.Common.{List, Option, ℕ, ap, subst, sym, ◌∙◌}
 use Rattle.std.specs.Prelude.{OnOk}
 use Rattle.profile.specs.images.Entries.{Entry}
-use Rattle.debug_history.specs.Answers.{past_line_answered}
-use Rattle.debug_history.specs.Lines.{last_steps_asked}
+use Rattle.debug_modules.specs.DebugHistoryAnswers.{past_line_answered}
+use Rattle.debug_modules.specs.DebugHistoryLines.{last_steps_asked}
 use Rattle.debug_session.specs.DebugScript.{past_line_or_steps}
 use Rattle.debug_session.specs.DebugState.{DebugAnswered, IsDebugged}
 use Rattle.debug_session.specs.Session.{debug_state}

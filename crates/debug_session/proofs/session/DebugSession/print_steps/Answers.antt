@@ -2,8 +2,8 @@
 use Rattle.std.proofs.Common.{ℕ, List, ap, subst, ◌∙◌, ◌++◌}
 use Rattle.std.specs.Io.KnownBytes.{Appends}
 use Rattle.debug_session.specs.DebugState.{DebugState}
-use Rattle.debug_modes.specs.expectations.Why.{why_below}
-use Rattle.debug_modes.specs.expectations.reports.Reports.{answer_in}
+use Rattle.debug_modules.specs.Why.{why_below}
+use Rattle.debug_modules.specs.Reports.{answer_in}
 use Rattle.debug_tables.specs.run_meter.GuestState.{state_of}
 use Rattle.debug_tables.specs.run_meter.Value.{MachineValue}
 use Rattle.debug_session.specs.Session.{debug_state}

@@ -4,10 +4,10 @@ use Rattle.std.specs.Prelude.{Ok, Err, OnOk}
 use Rattle.std.specs.Io.KnownBytes.{Appends}
 use Rattle.command_shell_lines.specs.Requests.{words}
 use Rattle.command_shell_lines.specs.debug_words.Forms.{form_of_line}
-use Rattle.debug_labels.specs.Lines.{line_with_numbers, unnumbered_word}
-use Rattle.debug_labels.specs.Reasons.{form_text, reason_by_word}
-use Rattle.debug_labels.specs.Words.{Naming}
-use Rattle.debug_labels.specs.place_views.Places.{line_naming_on}
+use Rattle.debug_modules.specs.DebugLabelsLines.{line_with_numbers, unnumbered_word}
+use Rattle.debug_modules.specs.Reasons.{form_text, reason_by_word}
+use Rattle.debug_modules.specs.Words.{Naming}
+use Rattle.debug_modules.specs.Places.{line_naming_on}
 use Rattle.debug_tables.specs.run_meter.Value.{MachineValue}
 use Rattle.debug_tables.specs.run_meter.GuestState.{state_of}
 use Rattle.debug_session.specs.Session.{debug_state}

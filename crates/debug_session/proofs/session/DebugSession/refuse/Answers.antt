@@ -2,10 +2,10 @@
 use Rattle.std.proofs.Common.{◌≡◌, ℕ, List, ap, refl, subst, ◌∙◌}
 use Rattle.std.specs.Io.KnownBytes.{Appends}
 use Rattle.debug_tables.specs.run_meter.Answers.{unknown_text}
-use Rattle.debug_modes.specs.declared.expectations.reports.reports.CheckTally.{CheckTally}
-use Rattle.debug_modes.specs.expectations.reports.Reports.{report_of_refusal, with_refusal}
+use Rattle.debug_modules.specs.CheckTally.{CheckTally}
+use Rattle.debug_modules.specs.Reports.{report_of_refusal, with_refusal}
 use Rattle.debug_session.specs.DebugState.{DebugState}
-use Rattle.debug_modes.specs.OwnAnswers.{reasoned_text}
+use Rattle.debug_modules.specs.OwnAnswers.{reasoned_text}
 use Rattle.debug_session.specs.Session.{debug_state}
 use Rattle.debug_session.proofs.session.DebugSession.refuse.Goals as goal
 

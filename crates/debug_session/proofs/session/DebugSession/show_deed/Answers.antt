@@ -2,12 +2,12 @@
 use Rattle.std.proofs.Common.{◌≡◌, ◌++◌, ◌∙◌, ℕ, true, List, Option, Some, ap, subst, sym}
 use Rattle.std.specs.Prelude.{is_some}
 use Rattle.std.specs.Option.{option_map}
-use Rattle.debug_history.proofs.NotedLemmas.{some_stop}
-use Rattle.debug_history.specs.Acts.{is_anew, moment_after_deed, moment_after_steps, moment_of_script, stubs_of_deed, taken_steps}
-use Rattle.debug_history.specs.Again.{IsAtMoment}
+use Rattle.debug_modules.proofs.NotedLemmas.{some_stop}
+use Rattle.debug_modules.specs.Acts.{is_anew, moment_after_deed, moment_after_steps, moment_of_script, stubs_of_deed, taken_steps}
+use Rattle.debug_modules.specs.Again.{IsAtMoment}
 use Rattle.command_shell_lines.specs.declared.debug_words.stubs.Stub.{Stub}
 use Rattle.debug_lines.specs.SteppingRequests.{stepping_request_of}
-use Rattle.debug_runs.specs.Lines.{stepping_answer}
+use Rattle.debug_modules.specs.Lines.{stepping_answer}
 use Rattle.debug_tables.specs.declared.modes.StepModes.{StepModes}
 use Rattle.debug_tables.specs.run_meter.MachineState.{stop_of}
 use Rattle.debug_tables.specs.run_meter.Session.{script_state}

@@ -1,7 +1,7 @@
 -- The bytes are written or refused.
 use Rattle.std.proofs.Common.{ℕ, List, ap, ◌∙◌}
-use Rattle.debug_history.specs.Noted.{past_with_deed}
-use Rattle.debug_history.specs.declared.act.PastDeed.TheVariants.{Bytes}
+use Rattle.debug_modules.specs.Noted.{past_with_deed}
+use Rattle.debug_modules.specs.PastDeed.TheVariants.{Bytes}
 use Rattle.debug_tables.specs.byte_writes.Put.{script_after_put}
 use Rattle.debug_tables.specs.run_meter.Answers.{refused_text}
 use Rattle.debug_tables.specs.run_meter.Session.{script_state}

@@ -1,8 +1,8 @@
 use Rattle.std.proofs.Common.{◌≡◌, sym, subst}
 use Rattle.address_map.specs.Memory.{is_owned}
 use Rattle.address_map.specs.declared.map.AddressMap.{AddressMap}
-use Rattle.os_heap.specs.Store.{AreClasses, owned_in, store_of}
-use Rattle.os_heap.proofs.Owned.{owned_marks}
+use Rattle.command_shell.specs.Store.{AreClasses, owned_in, store_of}
+use Rattle.command_shell.proofs.Owned.{owned_marks}
 use Rattle.debug_tables.proofs.byte_writes.put.put_fault.Goals as goal
 
 pub returns : goal.returns

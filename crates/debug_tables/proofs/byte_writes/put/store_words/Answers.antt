@@ -2,7 +2,7 @@ use Rattle.std.proofs.Common.{◌<◌, ◌^◌, ℕ, ap, subst, ◌∙◌, arith
 use Rattle.address_map.specs.Bytes.{Bytes, with_bytes_at}
 use Rattle.command_shell.specs.Session.{script_state}
 use Rattle.command_shell.specs.Value.{MachineValue}
-use Rattle.os_heap.specs.Store.{Store, owned_in}
+use Rattle.command_shell.specs.Store.{Store, owned_in}
 use Rattle.command_shell.specs.GuestState.{state_of}
 use Rattle.debug_tables.specs.byte_writes.Put.{IsWordOf}
 use Rattle.debug_tables.proofs.ByteWritesLemmas.PutLemmas.{free_inside, free_next, puts_end, puts_more}

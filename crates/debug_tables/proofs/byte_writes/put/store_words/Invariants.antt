@@ -4,7 +4,7 @@ use Rattle.address_map.specs.Bytes.{word_start}
 use Rattle.debug_tables.specs.byte_writes.Put.{words_fault}
 use Rattle.command_shell.specs.Session.{script_state}
 use Rattle.profile.specs.images.Entries.{Entry}
-use Rattle.os_heap.specs.Store.{owned_in}
+use Rattle.command_shell.specs.Store.{owned_in}
 use Rattle.command_shell.specs.GuestState.{state_of}
 use Rattle.debug_tables.proofs.ByteWritesLemmas.PutLemmas.{script_put_below}
 use Rattle.debug_tables.proofs.byte_writes.put.store_words.Given as goal

@@ -1,10 +1,10 @@
 use Rattle.std.proofs.Common.{◌≡◌, Option, Some, None, ap, sym, ◌∙◌}
 use Rattle.std.specs.Prelude.{option_map}
 use Rattle.std.specs.Option.{option_copied}
-use Rattle.arm_core.specs.State.{State}
+use Rattle.command_shell.specs.ArmCoreState.{State}
 use Rattle.command_shell.specs.GuestState.{state_of}
 use Rattle.command_shell.specs.Step.{without_x}
-use Rattle.command_shell_lines.specs.declared.debug_words.stubs.Stub.{Stub}
+use Rattle.command_shell.specs.Stub.{Stub}
 use Rattle.debug_tables.specs.Stubs.{deed_of_stub, stub_end, stub_unless_known, swi_next}
 use Rattle.debug_tables.proofs.StubLemmas.{next_by_swi}
 use Rattle.debug_tables.proofs.stubs.Stubs.deed_next.Goals as goal

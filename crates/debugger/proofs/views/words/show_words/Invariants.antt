@@ -1,7 +1,7 @@
 use Rattle.std.proofs.Common.{◌≡◌}
 use Rattle.profile.specs.Output.{AddsAllBut}
-use Rattle.address_map.specs.Bytes.{word_start}
-use Rattle.address_map.specs.Memory.{bytes_of}
+use Rattle.swi_dispatch_guest.specs.Bytes.{word_start}
+use Rattle.swi_dispatch_guest.specs.AddressMapMemory.{bytes_of}
 use Rattle.debugger.specs.views.Words.{memory_words_text_at}
 use Rattle.debugger.proofs.views.words.show_words.Given as goal
 

@@ -1,5 +1,5 @@
 use Rattle.std.proofs.Common.{◌≡◌, ℕ, ◌+◌, ◌*◌, ◌≤◌, Some, refl, sym, ap, subst, ◌∙◌, List, zero-add, arith, rules}
-use Rattle.address_map.specs.Memory.{free_pages}
+use Rattle.os_heap.specs.Memory.{free_pages}
 use Rattle.os_heap.specs.Store.{Store, store_of}
 use Rattle.dynamic_areas.specs.declared.area.Area.{Area}
 use Rattle.dynamic_areas.specs.Areas.{find_area, area_with_pages, with_area, with_areas}

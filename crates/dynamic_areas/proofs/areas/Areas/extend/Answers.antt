@@ -1,6 +1,6 @@
 use Rattle.profile.specs.MemoryMap.{module_area_start}
 use Rattle.std.proofs.Common.{◌≡◌, ℕ, ◌+◌, ◌*◌, ◌∙◌, Some, refl, sym, ap, subst, arith}
-use Rattle.address_map.specs.Memory.{Mapping, free_pages}
+use Rattle.os_heap.specs.Memory.{Mapping, free_pages}
 use Rattle.os_heap.specs.Calls.{ending}
 use Rattle.os_heap.proofs.Order.{order_kept}
 use Rattle.os_heap.specs.Store.{Store, store_of, find_heap, IsSound}

@@ -1,5 +1,5 @@
 use Rattle.std.proofs.Common.{◌≡◌, ◌+◌, ◌-◌, ◌*◌, refl, sym, ap, arith}
-use Rattle.address_map.specs.Memory.{free_pages}
+use Rattle.os_heap.specs.Memory.{free_pages}
 use Rattle.os_heap.specs.Store.{Store, store_of}
 use Rattle.os_heap.proofs.Frame.{classes_same}
 use Rattle.dynamic_areas.specs.Remapped.{with_pages_at}

@@ -1,5 +1,5 @@
 use Rattle.std.proofs.Common.{sym, rules}
-use Rattle.address_map.specs.Memory.{free_pages}
+use Rattle.os_heap.specs.Memory.{free_pages}
 use Rattle.os_heap.specs.Store.{store_of}
 use Rattle.dynamic_areas.proofs.KeptLemmas.{area_heap}
 use Rattle.dynamic_areas.proofs.RoomLemmas.{found_room}

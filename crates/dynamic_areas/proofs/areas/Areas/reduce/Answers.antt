@@ -1,6 +1,6 @@
 use Rattle.profile.specs.MemoryMap.{module_area_start}
 use Rattle.std.proofs.Common.{◌≡◌, ℕ, ◌-◌, ◌*◌, ◌≤◌, Some, refl, sym, ap, subst, ◌∙◌, arith}
-use Rattle.address_map.specs.Memory.{free_pages, mapping}
+use Rattle.os_heap.specs.Memory.{free_pages, mapping}
 use Rattle.os_heap.specs.Calls.{ending}
 use Rattle.os_heap.specs.Order.{KeepsOrder}
 use Rattle.os_heap.proofs.Order.{order_kept}

@@ -1,5 +1,5 @@
 use Rattle.std.proofs.Common.{◌≡◌, ◌+◌, ◌-◌, ◌*◌, ◌≤◌, refl, sym, ap, arith}
-use Rattle.address_map.specs.Memory.{bytes_of, regions, free_pages}
+use Rattle.os_heap.specs.Memory.{bytes_of, regions, free_pages}
 use Rattle.os_heap.specs.Store.{Store, store_of}
 use Rattle.dynamic_areas.specs.Changing.{AreLoose}
 use Rattle.dynamic_areas.specs.Remapped.{without_pages_at}

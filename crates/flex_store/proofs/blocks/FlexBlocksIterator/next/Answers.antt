@@ -1,6 +1,6 @@
 use Rattle.std.proofs.Common.{◌≡◌, ◌+◌, ℕ, length, ap, sym, ◌∙◌, arith}
-use Rattle.address_map.specs.Bytes.{word_at}
-use Rattle.address_map.specs.Memory.{byte_at}
+use Rattle.os_heap.specs.Bytes.{word_at}
+use Rattle.os_heap.specs.Memory.{byte_at}
 use Rattle.flex_store.specs.Blocks.{bytes_taken_by}
 use Rattle.flex_store.specs.Memory.{blocks_in}
 use Rattle.flex_store.proofs.Listing.{next_listed, none_listed}

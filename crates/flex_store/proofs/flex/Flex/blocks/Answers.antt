@@ -1,5 +1,5 @@
 use Rattle.std.proofs.Common.{Option, ap, subst, sym, ◌∙◌, arith}
-use Rattle.address_map.specs.Memory.{byte_at}
+use Rattle.os_heap.specs.Memory.{byte_at}
 use Rattle.flex_store.specs.declared.flex.Extent.{Extent}
 use Rattle.flex_store.specs.Listed.{all_listed}
 use Rattle.flex_store.specs.State.{flex_in, IsFlexAt, IsRecordedStore}

@@ -1,5 +1,5 @@
 use Rattle.std.proofs.Common.{◌≡◌, sym, ◌∙◌, arith}
-use Rattle.address_map.specs.Memory.{class_of}
+use Rattle.os_heap.specs.Memory.{class_of}
 use Rattle.os_heap.proofs.Limits.{range_room}
 use Rattle.flex_store.proofs.Recording.{begun_store}
 use Rattle.flex_store.proofs.Starting.{begins_gives, good_range, no_flex, range_low, starts_empty}

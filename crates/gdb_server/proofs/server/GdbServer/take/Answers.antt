@@ -1,6 +1,6 @@
 use Rattle.std.proofs.Common.{◌≡◌, ℕ, ◌+◌, false, true, List, ◌++◌, get_or, drop, ap, sym, ◌∙◌, arith}
 use Rattle.std.proofs.lemmas.List.{drop_all}
-use Rattle.command_shell.proofs.ImageLemmas.{at_err}
+use Rattle.debug_session.proofs.ImageLemmas.{at_err}
 use Rattle.profile.proofs.OutputLemmas.{AddsAllBut-more}
 use Rattle.gdb_server.specs.Server.{server_state}
 use Rattle.gdb_server.specs.Serving.{ServerState, Served, byte_served, bytes_served}

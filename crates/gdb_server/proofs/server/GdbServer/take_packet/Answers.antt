@@ -1,6 +1,6 @@
 use Rattle.std.proofs.Common.{◌≡◌, ℕ, List, ap, subst, ◌∙◌}
-use Rattle.command_shell.proofs.FrontLemmas.{AddsFront-start}
-use Rattle.command_shell.proofs.ImageLemmas.{at_err}
+use Rattle.debug_session.proofs.FrontLemmas.{AddsFront-start}
+use Rattle.debug_session.proofs.ImageLemmas.{at_err}
 use Rattle.std.specs.Io.KnownBytes.{Appends}
 use Rattle.profile.specs.Output.{AddsPart}
 use Rattle.profile.proofs.OutputLemmas.{Appends-join}

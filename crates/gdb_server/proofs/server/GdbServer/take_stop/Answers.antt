@@ -1,7 +1,7 @@
 use Rattle.std.proofs.Common.{◌≡◌, ℕ, Bool, false, true, List, ap, subst, sym, ◌∙◌, arith}
 use Rattle.std.specs.Prelude.{is_some}
-use Rattle.command_shell.proofs.FrontLemmas.{AddsFront-start}
-use Rattle.command_shell.proofs.ImageLemmas.{at_err}
+use Rattle.debug_session.proofs.FrontLemmas.{AddsFront-start}
+use Rattle.debug_session.proofs.ImageLemmas.{at_err}
 use Rattle.std.specs.Io.KnownBytes.{Appends}
 use Rattle.profile.specs.Output.{AddsFront, AddsPart}
 use Rattle.gdb_server.specs.Server.{IsServed, server_state}

@@ -1,5 +1,5 @@
 use Rattle.std.proofs.Common.{◌≡◌, sym, subst, []}
-use Rattle.dynamic_areas.specs.Ground.{AreaStore, IsAreaStore, area_store_of}
+use Rattle.rma.specs.Ground.{AreaStore, IsAreaStore, area_store_of}
 use Rattle.instances.specs.module_state.Sound.{IsModuleState}
 use Rattle.instances.specs.module_state.ModuleState.{image_gone, module_state_of}
 use Rattle.instances.proofs.ModuleStateLemmas.Removals.{module_state_given_up}

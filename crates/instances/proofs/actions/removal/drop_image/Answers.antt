@@ -1,9 +1,9 @@
 use Rattle.std.proofs.Common.{sym, subst, ◌∙◌}
-use Rattle.address_map.specs.Memory.{regions}
-use Rattle.address_map.specs.Records.{without_region}
-use Rattle.address_map.specs.declared.region.Kind.TheVariants as kind
-use Rattle.dynamic_areas.specs.Order.{stays}
-use Rattle.dynamic_areas.specs.Store.{store_of}
+use Rattle.rma.specs.Memory.{regions}
+use Rattle.rma.specs.Records.{without_region}
+use Rattle.rma.specs.Kind.TheVariants as kind
+use Rattle.rma.specs.Order.{stays}
+use Rattle.rma.specs.Store.{store_of}
 use Rattle.rma.specs.Images.{image_dropped, image_freed}
 use Rattle.instances.specs.module_state.Records.{LosesRecords}
 use Rattle.instances.specs.module_state.ModuleState.{image_gone}

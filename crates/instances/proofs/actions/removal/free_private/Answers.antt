@@ -1,12 +1,12 @@
 use Rattle.std.proofs.Common.{List, [], ◌≡◌, ap, sym, ◌∙◌, refl, arith}
 use Rattle.std.specs.List.{filter}
-use Rattle.address_map.specs.Memory.{mapping, regions}
+use Rattle.rma.specs.Memory.{mapping, regions}
 use Rattle.rma.specs.lists.Heap.{HeapList}
-use Rattle.dynamic_areas.proofs.Frame.{layout-others, layout-regions}
-use Rattle.dynamic_areas.specs.Order.{stays}
-use Rattle.dynamic_areas.specs.Store.{store_of}
-use Rattle.dynamic_areas.specs.Areas.{AreaTable}
-use Rattle.dynamic_areas.specs.Ground.{AreaStore, area_store_of}
+use Rattle.rma.proofs.Frame.{layout-others, layout-regions}
+use Rattle.rma.specs.Order.{stays}
+use Rattle.rma.specs.Store.{store_of}
+use Rattle.rma.specs.Areas.{AreaTable}
+use Rattle.rma.specs.Ground.{AreaStore, area_store_of}
 use Rattle.rma.proofs.FlexFrameLemmas.Keeping.{keeps_then}
 use Rattle.rma.specs.Calls.{rma_freed}
 use Rattle.instances.specs.module_state.ModuleState.{or_same, private_freed, with_private, module_state_of}

@@ -1,6 +1,6 @@
 use Rattle.std.proofs.Common.{◌≡◌, sym, subst, ◌∙◌, refl, Some, None}
-use Rattle.address_map.specs.Memory.{regions}
-use Rattle.dynamic_areas.specs.Ground.{IsAreaStore, area_store_of}
+use Rattle.rma.specs.Memory.{regions}
+use Rattle.rma.specs.Ground.{IsAreaStore, area_store_of}
 use Rattle.rma.proofs.FlexFrameLemmas.Keeping.{keeps_then}
 use Rattle.instances.specs.module_state.Sound.{IsModuleState}
 use Rattle.instances.specs.module_state.ModuleState.{ModuleState, module_state_after_remove, module_state_of}

@@ -1,7 +1,7 @@
 use Rattle.std.proofs.Common.{List, sym, ap, subst, refl, ◌∙◌}
 use Rattle.std.specs.Prelude.{Option}
-use Rattle.address_map.specs.Memory.{regions}
-use Rattle.dynamic_areas.specs.Store.{store_of}
+use Rattle.rma.specs.Memory.{regions}
+use Rattle.rma.specs.Store.{store_of}
 use Rattle.instances_table.specs.declared.plans.action.PlanAction.{PlanAction}
 use Rattle.instances_table.specs.plans.Plans.{Plan, first_action}
 use Rattle.instances_table.specs.Modules.{AreModules, Module}

@@ -1,5 +1,5 @@
 use Rattle.std.proofs.Common.{List, None, Some, refl, subst, ◌∙◌}
-use Rattle.address_map.specs.Memory.{regions}
+use Rattle.rma.specs.Memory.{regions}
 use Rattle.instances_table.specs.declared.plans.action.PlanAction.{PlanAction}
 use Rattle.instances_table.specs.plans.Plans.{plan_after_code}
 use Rattle.rma.proofs.FlexFrameLemmas.Keeping.{keeps_then}

@@ -1,7 +1,7 @@
 use Rattle.std.proofs.Common.{◌≡◌, List, length}
-use Rattle.address_map.specs.Memory.{mapping, regions}
-use Rattle.address_map.specs.declared.region.Region.{Region}
-use Rattle.dynamic_areas.specs.Store.{AreClasses, store_of}
+use Rattle.rma.specs.Memory.{mapping, regions}
+use Rattle.rma.specs.Region.{Region}
+use Rattle.rma.specs.Store.{AreClasses, store_of}
 use Rattle.rma.specs.flex_frame.Keeping.{KeepsFlex}
 use Rattle.instances_table.specs.plans.Carrying.{carry_of_plan}
 use Rattle.instances_table.specs.plans.Plans.{plan_after_code}

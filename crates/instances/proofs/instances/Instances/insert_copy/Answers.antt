@@ -1,7 +1,7 @@
 use Rattle.profile.specs.declared.error.ErrorNumber.TheVariants.{BadPointer}
 use Rattle.std.proofs.Common.{sym, ◌∙◌}
-use Rattle.dynamic_areas.specs.Store.{store_of}
-use Rattle.dynamic_areas.specs.Ground.{area_store_of}
+use Rattle.rma.specs.Store.{store_of}
+use Rattle.rma.specs.Ground.{area_store_of}
 use Rattle.std.proofs.lemmas.Result.{err_from_is_err_and}
 use Rattle.instances.proofs.AddingLemmas.{copied_mapped, none_in_block}
 use Rattle.instances.proofs.instances.Instances.insert_copy.Goals as goal

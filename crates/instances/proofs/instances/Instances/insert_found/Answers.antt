@@ -1,6 +1,6 @@
 use Rattle.std.proofs.Common.{[], refl, sym, ap, arith}
-use Rattle.dynamic_areas.specs.Store.{store_of}
-use Rattle.dynamic_areas.specs.Ground.{AreaStore}
+use Rattle.rma.specs.Store.{store_of}
+use Rattle.rma.specs.Ground.{AreaStore}
 use Rattle.instances.specs.module_state.ModuleState.{module_state_of}
 use Rattle.instances.proofs.ModuleStateLemmas.ModuleStates.{few_records}
 use Rattle.instances.specs.Adding.{inserting}

@@ -1,6 +1,6 @@
 use Rattle.profile.specs.declared.error.ErrorNumber.TheVariants.{BadPointer}
 use Rattle.std.proofs.Common.{◌≡◌, true, sym, ◌∙◌}
-use Rattle.dynamic_areas.specs.Store.{store_of}
+use Rattle.rma.specs.Store.{store_of}
 use Rattle.rma.specs.NewImages.{may_be_in_place}
 use Rattle.rma.proofs.InPlaceLemmas.{may_be}
 use Rattle.std.proofs.lemmas.Result.{err_from_is_err_and}

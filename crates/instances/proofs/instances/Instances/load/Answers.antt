@@ -1,6 +1,6 @@
 use Rattle.profile.specs.declared.error.ErrorNumber.TheVariants.{BadString}
 use Rattle.std.proofs.Common.{[], length, refl, arith}
-use Rattle.dynamic_areas.specs.Store.{store_of}
+use Rattle.rma.specs.Store.{store_of}
 use Rattle.instances.specs.module_state.ModuleState.{module_state_of}
 use Rattle.instances.proofs.ModuleStateLemmas.ModuleStates.{few_records}
 use Rattle.std.proofs.lemmas.Result.{err_from_is_err_and}

@@ -1,5 +1,5 @@
-use Rattle.dynamic_areas.proofs.HeapCalls.{areas_written}
-use Rattle.dynamic_areas.proofs.SystemWrites.{kept_classes}
+use Rattle.rma.proofs.HeapCalls.{areas_written}
+use Rattle.rma.proofs.SystemWrites.{kept_classes}
 use Rattle.instances.proofs.ModuleStateLemmas.Writes.{pages_kept, private_keeps, private_kept, private_written, module_state_written}
 use Rattle.instances.proofs.module_state.system_pages.put_private.Goals as goal
 

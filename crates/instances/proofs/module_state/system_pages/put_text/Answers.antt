@@ -1,6 +1,6 @@
 use Rattle.std.proofs.Common.{◌∙◌}
-use Rattle.dynamic_areas.proofs.HeapCalls.{areas_written}
-use Rattle.dynamic_areas.proofs.SystemWrites.{kept_classes}
+use Rattle.rma.proofs.HeapCalls.{areas_written}
+use Rattle.rma.proofs.SystemWrites.{kept_classes}
 use Rattle.instances.proofs.ModuleStateLemmas.Writes.{pages_kept, text_keeps, text_kept, text_written, module_state_written}
 use Rattle.instances.proofs.module_state.system_pages.put_text.Goals as goal
 

@@ -1,7 +1,7 @@
 use Rattle.std.proofs.Common.{◌≡◌, ◌<◌, ◌+◌, ◌∙◌, ℕ, List, ap, drop, get_or, length, sym, arith}
-use Rattle.address_map.specs.Moves.{moved_to}
-use Rattle.address_map.specs.declared.follow.BlockMove.{BlockMove}
-use Rattle.dynamic_areas.specs.Ground.{AreaStore, area_store_of}
+use Rattle.rma.specs.Moves.{moved_to}
+use Rattle.rma.specs.BlockMove.{BlockMove}
+use Rattle.rma.specs.Ground.{AreaStore, area_store_of}
 use Rattle.instances.specs.module_state.ModuleState.{private_word, with_private}
 use Rattle.instances.proofs.ModuleStateLemmas.Keeping.{written_then}
 use Rattle.instances.proofs.TidyingLemmas.Looping.{words_next}

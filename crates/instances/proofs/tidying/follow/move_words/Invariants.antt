@@ -1,6 +1,6 @@
 use Rattle.std.proofs.Common.{◌≡◌, drop}
-use Rattle.dynamic_areas.specs.Areas.{AreaTable}
-use Rattle.dynamic_areas.specs.Ground.{area_store_of}
+use Rattle.rma.specs.Areas.{AreaTable}
+use Rattle.rma.specs.Ground.{area_store_of}
 use Rattle.instances.specs.module_state.Kept.{KeepsPages, StaysSound}
 use Rattle.instances.specs.tidying.Slid.{words_moved}
 use Rattle.instances.proofs.tidying.follow.move_words.Given as goal

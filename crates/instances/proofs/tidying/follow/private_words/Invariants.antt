@@ -1,5 +1,5 @@
 use Rattle.std.proofs.Common.{◌≡◌, take}
-use Rattle.address_map.specs.Memory.{byte_at}
+use Rattle.rma.specs.Memory.{byte_at}
 use Rattle.instances.proofs.tidying.follow.private_words.Given as goal
 use Rattle.instances.specs.tidying.Slid.{private_words_at}
 

@@ -1,8 +1,8 @@
 use Rattle.std.proofs.Common.{◌≡◌, ◌≤◌, ◌+◌, ◌++◌, ◌^◌, length}
-use Rattle.address_map.specs.Items.{size_of}
-use Rattle.address_map.specs.Memory.{anchor_of}
-use Rattle.dynamic_areas.specs.Forgetting.{holds_heap}
-use Rattle.dynamic_areas.specs.Store.{store_of}
+use Rattle.rma.specs.Items.{size_of}
+use Rattle.rma.specs.Memory.{anchor_of}
+use Rattle.rma.specs.Forgetting.{holds_heap}
+use Rattle.rma.specs.Store.{store_of}
 use Rattle.instances.specs.tidying.Movable.{blocks_that, can_move}
 use Rattle.instances.proofs.tidying.movable.choose.Given as goal
 

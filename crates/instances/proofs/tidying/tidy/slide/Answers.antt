@@ -1,8 +1,8 @@
 use Rattle.std.proofs.Common.{◌≡◌, ◌∙◌, ℕ, List, [], ap, length, map, arith}
-use Rattle.address_map.specs.Memory.{byte_at}
-use Rattle.address_map.specs.declared.follow.BlockMove.{BlockMove}
-use Rattle.dynamic_areas.proofs.Frame.{layout-regions}
-use Rattle.dynamic_areas.specs.Ground.{area_store_of}
+use Rattle.rma.specs.Memory.{byte_at}
+use Rattle.rma.specs.BlockMove.{BlockMove}
+use Rattle.rma.proofs.Frame.{layout-regions}
+use Rattle.rma.specs.Ground.{area_store_of}
 use Rattle.rma.proofs.FlexFrameLemmas.Keeping.{keeps_then}
 use Rattle.instances.proofs.ModuleStateLemmas.Records.{layout-mapping}
 use Rattle.instances.proofs.ModuleStateLemmas.Writes.{has_system}

@@ -1,5 +1,5 @@
 use Rattle.std.proofs.Common.{◌≡◌, ◌≤◌, ◌+◌, ◌-◌, ◌^◌, ap, sym, ◌∙◌, arith}
-use Rattle.address_map.specs.Items.{size_of}
+use Rattle.os_heap_words.specs.Items.{size_of}
 use Rattle.os_heap_words.specs.lists.Counts.{larger, round_down_8, largest_free}
 use Rattle.os_heap_words.specs.Outcomes.{IsHeapAt, items_at}
 use Rattle.os_heap.specs.Store.{store_of}

@@ -1,7 +1,7 @@
 use Rattle.std.proofs.Common.{List, ◌≡◌, ◌∷◌, drop, suc, slice_index_or, drop-cons, subst, sym, ◌∙◌, arith}
-use Rattle.address_map.specs.Memory.{bytes_of}
-use Rattle.address_map.specs.declared.region.Kind.TheVariants as kind
-use Rattle.address_map.specs.declared.region.Region.{Region}
+use Rattle.os_heap_words.specs.Memory.{bytes_of}
+use Rattle.os_heap_words.specs.Kind.TheVariants as kind
+use Rattle.os_heap_words.specs.Region.{Region}
 use Rattle.os_heap.specs.Store.{AreHeapsIn, heaps_in}
 use Rattle.os_heap.proofs.PayloadLemmas.{heap_round}
 use Rattle.os_heap.proofs.heaps.Heaps.live_payload.Goals as goal

@@ -1,5 +1,5 @@
 use Rattle.std.proofs.Common.{◌≡◌, drop}
-use Rattle.address_map.specs.Memory.{bytes_of}
+use Rattle.os_heap_words.specs.Memory.{bytes_of}
 use Rattle.os_heap.specs.Payloads.{payload_of, payload_or}
 use Rattle.os_heap.specs.Store.{AreHeapsIn, heaps_in}
 use Rattle.os_heap.proofs.heaps.Heaps.live_payload.Given as goal

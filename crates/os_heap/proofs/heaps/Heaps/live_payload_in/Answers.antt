@@ -1,7 +1,7 @@
 use Rattle.std.proofs.Common.{◌≡◌, ◌&&◌, true, false, refl, sym, ◌∙◌}
-use Rattle.address_map.specs.Bytes.{in_range}
-use Rattle.address_map.specs.Memory.{bytes_of}
-use Rattle.address_map.specs.Records.{is_heap_kind}
+use Rattle.os_heap_words.specs.Bytes.{in_range}
+use Rattle.os_heap_words.specs.Memory.{bytes_of}
+use Rattle.os_heap_words.specs.Records.{is_heap_kind}
 use Rattle.os_heap.specs.Store.{heap_in}
 use Rattle.os_heap.proofs.Found.{found_at, found_heap_kind}
 use Rattle.os_heap.proofs.heaps.Heaps.live_payload_in.Goals as goal

@@ -1,6 +1,6 @@
 use Rattle.os_heap_words.specs.MemoryMap.{module_area_start}
 use Rattle.std.proofs.Common.{◌≡◌, Some, sym, subst}
-use Rattle.address_map.specs.Memory.{bytes_of}
+use Rattle.os_heap_words.specs.Memory.{bytes_of}
 use Rattle.os_heap.specs.Store.{store_of, heap_in, find_heap}
 use Rattle.os_heap.proofs.Found.{found_heap_kind}
 use Rattle.os_heap.proofs.heaps.Heaps.set_module_area_end.Goals as goal

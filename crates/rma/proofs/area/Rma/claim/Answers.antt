@@ -1,7 +1,7 @@
 use Rattle.profile.specs.MemoryMap.{module_area_start}
 use Rattle.std.proofs.Common.{◌≡◌, ◌+◌, Ok, sym, ap, subst, ◌∙◌}
 use Rattle.profile.specs.Outcome.{Gives}
-use Rattle.os_heap_words.specs.lists.Lists.{total_for}
+use Rattle.dynamic_areas.specs.OsHeapWordsLists.{total_for}
 use Rattle.dynamic_areas.specs.Calls.{store_after_get}
 use Rattle.dynamic_areas.specs.Store.{Store, store_of}
 use Rattle.dynamic_areas.specs.Ground.{AreaStore, area_store_of}
@@ -10,7 +10,7 @@ use Rattle.rma.proofs.FlexFrameLemmas.Heaps.{got_unanchored}
 use Rattle.rma.specs.Calls.{in_grown_area, is_no_room, rma_base, rma_claimed}
 use Rattle.rma.proofs.AreaStores.{area_store_same, full_where, or_done, or_refused, store_kept}
 use Rattle.rma.proofs.NewImageLemmas.{block_made, live_inside}
-use Rattle.address_map.proofs.Stores.{layout-mapping}
+use Rattle.dynamic_areas.proofs.AddressMapStores.{layout-mapping}
 use Rattle.rma.proofs.KeptLemmas.{records_got, records_then, sound_map}
 use Rattle.rma.proofs.area.Rma.claim.Goals as goal
 

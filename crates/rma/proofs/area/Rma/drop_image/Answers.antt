@@ -1,5 +1,5 @@
 use Rattle.std.proofs.Common.{sym, ap, subst}
-use Rattle.address_map.specs.Memory.{free_pages}
+use Rattle.dynamic_areas.specs.Memory.{free_pages}
 use Rattle.dynamic_areas.proofs.ForgetLemmas.{same_bytes_of}
 use Rattle.dynamic_areas.specs.Store.{IsSound, Store, store_of}
 use Rattle.dynamic_areas.proofs.Frame.{classes_same}
@@ -7,7 +7,7 @@ use Rattle.rma.specs.flex_frame.Keeping.{KeepsFlex}
 use Rattle.rma.proofs.FlexFrameLemmas.Writes.{dropped_keeps}
 use Rattle.rma.specs.Images.{image_dropped}
 use Rattle.rma.proofs.ImageLemmas.{areas_less, same_pool, sound_less, store_less}
-use Rattle.address_map.specs.declared.map.AddressMap.{AddressMap}
+use Rattle.dynamic_areas.specs.AddressMap.{AddressMap}
 use Rattle.rma.proofs.area.Rma.drop_image.Goals as goal
 
 pub returns-clause-kept : goal.returns-clause-kept

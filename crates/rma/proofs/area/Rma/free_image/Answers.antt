@@ -1,7 +1,7 @@
 use Rattle.profile.specs.MemoryMap.{module_area_start}
 use Rattle.std.proofs.Common.{List, ◌≡◌, ◌∙◌, ap, subst}
 use Rattle.std.specs.List.{filter}
-use Rattle.address_map.specs.declared.region.Region.{Region}
+use Rattle.dynamic_areas.specs.Region.{Region}
 use Rattle.dynamic_areas.specs.Calls.{gave_back}
 use Rattle.dynamic_areas.specs.Store.{Store, store_of}
 use Rattle.dynamic_areas.specs.Order.{stays}
@@ -9,7 +9,7 @@ use Rattle.rma.proofs.FlexFrameLemmas.Keeping.{keeps_then}
 use Rattle.rma.specs.Images.{image_freed, or_kept, image_dropped}
 use Rattle.rma.proofs.AreaStores.{kept_by}
 use Rattle.rma.proofs.KeptLemmas.{room_freed}
-use Rattle.address_map.specs.declared.map.AddressMap.{AddressMap}
+use Rattle.dynamic_areas.specs.AddressMap.{AddressMap}
 use Rattle.rma.proofs.area.Rma.free_image.Goals as goal
 
 pub free-requires : goal.free-requires

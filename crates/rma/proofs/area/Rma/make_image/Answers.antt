@@ -1,5 +1,5 @@
 use Rattle.std.proofs.Common.{ℕ, length, refl, ap, arith, ◌∙◌, ◌-◌}
-use Rattle.os_heap_words.specs.lists.Lists.{total_for}
+use Rattle.dynamic_areas.specs.OsHeapWordsLists.{total_for}
 use Rattle.dynamic_areas.specs.Store.{Store, store_of}
 use Rattle.dynamic_areas.specs.Ground.{AreaStore, area_store_of}
 use Rattle.rma.specs.NewImages.{image_made, store_with_image_bytes}
@@ -7,7 +7,7 @@ use Rattle.rma.proofs.FlexLemmas.{made_keeps, sized_unheaped}
 use Rattle.rma.proofs.ImageLemmas.{area_kind}
 use Rattle.rma.proofs.NewImageLemmas.{claim_refused, live_whole, made_order, made_others}
 use Rattle.rma.proofs.KeptLemmas.{areas_made, areas_same, records_same}
-use Rattle.address_map.proofs.Stores.{layout-mapping}
+use Rattle.dynamic_areas.proofs.AddressMapStores.{layout-mapping}
 use Rattle.rma.specs.Calls.{rma_claimed}
 use Rattle.rma.specs.Images.{image_recorded}
 use Rattle.rma.proofs.AreaStores.{made_given}

@@ -1,8 +1,8 @@
 use Rattle.profile.specs.MemoryMap.{module_area_start}
 use Rattle.std.proofs.Common.{◌≡◌, Ok, refl, sym, ap, subst, ◌∙◌, arith}
-use Rattle.address_map.specs.Memory.{free_pages}
-use Rattle.address_map.specs.declared.region.Kind.TheVariants as kind
-use Rattle.address_map.specs.declared.region.Region.{Region}
+use Rattle.dynamic_areas.specs.Memory.{free_pages}
+use Rattle.dynamic_areas.specs.Kind.TheVariants as kind
+use Rattle.dynamic_areas.specs.Region.{Region}
 use Rattle.dynamic_areas.proofs.ForgetLemmas.{same_bytes_of}
 use Rattle.dynamic_areas.specs.Calls.{block_sized}
 use Rattle.dynamic_areas.specs.Store.{IsSound, Store, store_of}
@@ -16,7 +16,7 @@ use Rattle.rma.proofs.FlexFrameLemmas.Writes.{recorded_keeps}
 use Rattle.rma.specs.Images.{image_recorded}
 use Rattle.rma.proofs.ExtendLemmas.{lies_below}
 use Rattle.rma.proofs.ImageLemmas.{areas_recorded, is_recorded, same_pool}
-use Rattle.address_map.specs.declared.map.AddressMap.{AddressMap}
+use Rattle.dynamic_areas.specs.AddressMap.{AddressMap}
 use Rattle.rma.proofs.area.Rma.record_image.Goals as goal
 
 pub returns-in-Ok-clause-kept : goal.returns-in-Ok-clause-kept

@@ -1,7 +1,7 @@
 use Rattle.std.proofs.Common.{refl, sym, ap, subst}
-use Rattle.address_map.specs.Memory.{free_pages}
-use Rattle.address_map.specs.declared.region.Kind.TheVariants as kind
-use Rattle.address_map.specs.declared.region.Region.{Region}
+use Rattle.dynamic_areas.specs.Memory.{free_pages}
+use Rattle.dynamic_areas.specs.Kind.TheVariants as kind
+use Rattle.dynamic_areas.specs.Region.{Region}
 use Rattle.dynamic_areas.proofs.ForgetLemmas.{same_bytes_of}
 use Rattle.dynamic_areas.specs.Store.{IsSound, Store, store_of}
 use Rattle.dynamic_areas.proofs.Limits.{range_room}
@@ -12,7 +12,7 @@ use Rattle.rma.specs.flex_frame.Keeping.{KeepsFlex}
 use Rattle.rma.proofs.FlexFrameLemmas.Writes.{recorded_keeps, unanchored_by}
 use Rattle.rma.proofs.ImageLemmas.{areas_recorded, same_pool}
 use Rattle.rma.proofs.InPlaceLemmas.{may_be, placed, region_placed}
-use Rattle.address_map.specs.declared.map.AddressMap.{AddressMap}
+use Rattle.dynamic_areas.specs.AddressMap.{AddressMap}
 use Rattle.rma.proofs.area.Rma.record_in_place.Goals as goal
 
 pub returns-clause-kept : goal.returns-clause-kept

@@ -1,6 +1,6 @@
 use Rattle.std.proofs.Common.{ℕ, ◌∙◌, ap, arith}
-use Rattle.address_map.specs.Bytes.{with_moved_at}
-use Rattle.address_map.specs.declared.class.Class.{Class}
+use Rattle.dynamic_areas.specs.Bytes.{with_moved_at}
+use Rattle.dynamic_areas.specs.Class.{Class}
 use Rattle.rma.proofs.HeapSlideLemmas.Laying.{laid_as, room_moved}
 use Rattle.rma.proofs.HeapSlideLemmas.Setting.{room_facts}
 use Rattle.rma.proofs.heap_slide.items.lay.Goals as goal

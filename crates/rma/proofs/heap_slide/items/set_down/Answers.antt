@@ -1,9 +1,9 @@
 use Rattle.std.proofs.Common.{◌∙◌, ◌-◌, [], ◌∷◌, refl, inl, arith}
-use Rattle.address_map.specs.Memory.{class_of}
-use Rattle.address_map.specs.declared.item.Item.TheVariants.{Free, Live}
-use Rattle.os_heap_words.proofs.Marking.{can_stand, remarks_after, still_written}
-use Rattle.os_heap_words.specs.Outcomes.{end_at}
-use Rattle.os_heap_words.proofs.ListsLemmas.Spelling.{total_of-numbers}
+use Rattle.dynamic_areas.specs.Memory.{class_of}
+use Rattle.dynamic_areas.specs.Item.TheVariants.{Free, Live}
+use Rattle.dynamic_areas.proofs.Marking.{can_stand, remarks_after, still_written}
+use Rattle.dynamic_areas.specs.Outcomes.{end_at}
+use Rattle.dynamic_areas.proofs.Spelling.{total_of-numbers}
 use Rattle.rma.proofs.HeapSlideLemmas.Setting.{room_facts, set_alone, set_behind}
 use Rattle.rma.proofs.heap_slide.items.set_down.Goals as goal
 

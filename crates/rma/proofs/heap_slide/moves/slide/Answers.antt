@@ -1,11 +1,11 @@
 use Rattle.std.proofs.Common.{List, ◌∙◌, ap, sym, subst}
-use Rattle.address_map.specs.Memory.{regions}
-use Rattle.address_map.specs.Moves.{AreDown, moved_regions}
-use Rattle.address_map.specs.declared.follow.BlockMove.{BlockMove}
+use Rattle.dynamic_areas.specs.Memory.{regions}
+use Rattle.dynamic_areas.specs.Moves.{AreDown, moved_regions}
+use Rattle.dynamic_areas.specs.BlockMove.{BlockMove}
 use Rattle.dynamic_areas.proofs.Frame.{layout-regions}
 use Rattle.rma.proofs.HeapSlideLemmas.Ending.{blocks_here, done_here, down_here, heap_here, here, slid_here}
-use Rattle.address_map.specs.declared.map.AddressMap.{AddressMap}
-use Rattle.address_map.proofs.Stores.{layout-mapping}
+use Rattle.dynamic_areas.specs.AddressMap.{AddressMap}
+use Rattle.dynamic_areas.proofs.AddressMapStores.{layout-mapping}
 use Rattle.dynamic_areas.specs.Store.{store_of}
 use Rattle.rma.proofs.FlexFrameLemmas.Slides.{slide_keeps}
 use Rattle.rma.proofs.heap_slide.moves.slide.Goals as goal

@@ -1,7 +1,7 @@
 use Rattle.std.proofs.Common.{◌∙◌, arith}
-use Rattle.os_heap_words.proofs.Replace.{heap_below}
-use Rattle.os_heap_words.proofs.Searching.{first_below, first_link}
-use Rattle.os_heap_words.specs.Outcomes.{end_at}
+use Rattle.dynamic_areas.proofs.Replace.{heap_below}
+use Rattle.dynamic_areas.proofs.Searching.{first_below, first_link}
+use Rattle.dynamic_areas.specs.Outcomes.{end_at}
 use Rattle.rma.proofs.HeapSlideLemmas.Beginning.{begun}
 use Rattle.rma.proofs.heap_slide.steps.begin.Goals as goal
 

@@ -1,6 +1,6 @@
 use Rattle.std.proofs.Common.{◌∙◌, arith}
-use Rattle.os_heap_words.proofs.Replace.{heap_below}
-use Rattle.os_heap_words.specs.Outcomes.{end_at}
+use Rattle.dynamic_areas.proofs.Replace.{heap_below}
+use Rattle.dynamic_areas.specs.Outcomes.{end_at}
 use Rattle.rma.proofs.HeapSlideLemmas.Sliding.{all_slid, at_free, at_live, free_went, live_room, live_went}
 use Rattle.rma.proofs.heap_slide.steps.slide_items.Goals as goal
 

@@ -1,6 +1,6 @@
 use Rattle.std.proofs.Common.{sym, ap, ◌∙◌}
 use Rattle.store_copies.specs.Copies.{CopiedParts, kept_in}
-use Rattle.os_heap.proofs.Frame.{store_bytes}
+use Rattle.swi_dispatch_guest.proofs.OsHeapFrame.{store_bytes}
 use Rattle.store_copies.proofs.store_copy.StoreCopy.memory.Goals as goal
 
 pub returns-clause-bytes : goal.returns-clause-bytes

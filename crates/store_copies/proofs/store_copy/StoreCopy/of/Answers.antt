@@ -1,8 +1,8 @@
 -- The copy is as sound as the memory.
 use Rattle.std.proofs.Common.{◌≡◌, sym, subst}
-use Rattle.os_heap.specs.Store.{IsSound, Store, store_of}
-use Rattle.flex_store.specs.State.{IsFlex}
-use Rattle.flex_store.specs.declared.flex.Flex.{Flex}
+use Rattle.swi_dispatch_guest.specs.Store.{IsSound, Store, store_of}
+use Rattle.swi_dispatch_guest.specs.State.{IsFlex}
+use Rattle.swi_dispatch_guest.specs.Flex.{Flex}
 use Rattle.store_copies.proofs.FlexLemmas.{same_flex}
 use Rattle.store_copies.proofs.store_copy.StoreCopy.of.Goals as goal
 

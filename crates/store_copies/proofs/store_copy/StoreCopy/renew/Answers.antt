@@ -3,10 +3,10 @@ use Rattle.std.proofs.Common.{◌≡◌, ◌∙◌, false, List, [], ◌∷◌, 
 use Rattle.std.specs.Prelude.{option_map, slice_get}
 use Rattle.std.proofs.lemmas.Bool.{false≢true}
 use Rattle.address_map.specs.declared.map.AddressMap.{AddressMap}
-use Rattle.os_heap.specs.Store.{IsSound, store_of}
-use Rattle.flex_store.specs.State.{IsFlex}
-use Rattle.flex_store.specs.declared.flex.Flex.{Flex}
-use Rattle.instances_table.specs.Modules.{Module}
+use Rattle.swi_dispatch_guest.specs.Store.{IsSound, store_of}
+use Rattle.swi_dispatch_guest.specs.State.{IsFlex}
+use Rattle.swi_dispatch_guest.specs.Flex.{Flex}
+use Rattle.swi_dispatch_guest.specs.Modules.{Module}
 use Rattle.store_copies.proofs.FlexLemmas.{same_flex}
 use Rattle.store_copies.proofs.store_copy.StoreCopy.renew.Goals as goal
 

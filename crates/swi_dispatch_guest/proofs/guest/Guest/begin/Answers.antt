@@ -1,5 +1,5 @@
 use Rattle.std.proofs.Common.{◌≡◌, false, refl, subst, sym}
-use Rattle.instances.proofs.RmaKeeping.{keeps_same}
+use Rattle.swi_dispatch_plans.proofs.Keeping.{keeps_same}
 use Rattle.swi_dispatch_plans.specs.Beginning.{CanBegin}
 use Rattle.swi_dispatch_guest.specs.MachineState.{MachineState, setting_of}
 use Rattle.swi_dispatch_guest.specs.GuestState.{GuestState, state_of}

@@ -1,8 +1,8 @@
 use Rattle.std.proofs.Common.{refl, ap, ◌∙◌}
-use Rattle.instances_table.specs.plans.Doable.{is_used}
-use Rattle.instances_table.specs.Modules.{slots_of}
-use Rattle.swi_dispatch_answers.specs.frames.Busy.{is_swi}
-use Rattle.swi_dispatch_answers.specs.declared.frames.frame.Frame.{Frame}
+use Rattle.swi_dispatch_plans.specs.Doable.{is_used}
+use Rattle.swi_dispatch_plans.specs.InstancesTableModules.{slots_of}
+use Rattle.swi_dispatch_plans.specs.Busy.{is_swi}
+use Rattle.swi_dispatch_plans.specs.Frame.{Frame}
 use Rattle.swi_dispatch_guest.specs.MachineState.{MachineState}
 use Rattle.swi_dispatch_guest.specs.GuestState.{GuestState, state_of}
 use Rattle.swi_dispatch_guest.proofs.Kept.{well_framed}

@@ -1,7 +1,7 @@
 use Rattle.std.proofs.Common.{◌≤◌, IfSome, List, ℕ, length, subst, sym}
-use Rattle.address_map.proofs.Bytes.{byte_at-lt}
-use Rattle.dynamic_areas.specs.declared.area.Area.{Area}
-use Rattle.instances_table.specs.plans.Plans.{Plan}
+use Rattle.os_heap.proofs.Bytes.{byte_at-lt}
+use Rattle.swi_dispatch_plans.specs.Area.{Area}
+use Rattle.swi_dispatch_plans.specs.Plans.{Plan}
 use Rattle.os_heap.specs.Store.{store_of}
 use Rattle.swi_dispatch_guest.specs.GuestState.{IsGuest, GuestState}
 use Rattle.swi_dispatch_guest.proofs.guest.Guest.known.Goals as goal

@@ -1,5 +1,5 @@
 use Rattle.std.proofs.Common.{refl, ap, sym, ◌∙◌}
-use Rattle.dynamic_areas.specs.Areas.{AreaTable}
+use Rattle.swi_dispatch_plans.specs.Areas.{AreaTable}
 use Rattle.swi_dispatch_plans.proofs.FlexLemmas.Kept.{flex_started}
 use Rattle.swi_dispatch_guest.proofs.OpenFrames.{frames_none}
 use Rattle.swi_dispatch_guest.proofs.Starting.{start_modules, starts, system_recorded}

@@ -1,5 +1,5 @@
 use Rattle.std.proofs.Common.{refl, sym, ap, ◌∙◌}
-use Rattle.arm_core.specs.State.{State}
+use Rattle.arm_run.specs.State.{State}
 use Rattle.os_heap.specs.Store.{store_of}
 use Rattle.profile.specs.declared.fault.Fault.TheVariants.{ErrorStop}
 use Rattle.swi_dispatch_guest.specs.declared.halt.Halt.TheVariants as halt

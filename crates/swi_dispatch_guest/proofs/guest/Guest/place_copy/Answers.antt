@@ -1,6 +1,6 @@
 use Rattle.std.proofs.Common.{◌≡◌, Ok, refl, subst, sym, true, ◌∙◌}
-use Rattle.instances.specs.Copies.{may_be_copied}
-use Rattle.instances.proofs.NamedByCalls.{copying_names, named_given}
+use Rattle.swi_dispatch_plans.specs.Copies.{may_be_copied}
+use Rattle.swi_dispatch_plans.proofs.NamedByCalls.{copying_names, named_given}
 use Rattle.swi_dispatch_plans.specs.ImagePlans.{SparesRange, image_header_in}
 use Rattle.swi_dispatch_plans.specs.Beginning.{IsFree}
 use Rattle.swi_dispatch_guest.specs.MachineState.{MachineState, machine_module_state, setting_of}

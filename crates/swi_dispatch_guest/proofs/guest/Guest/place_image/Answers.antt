@@ -1,5 +1,5 @@
 use Rattle.std.proofs.Common.{refl, subst, sym, ◌∙◌}
-use Rattle.instances.proofs.NamedByCalls.{loading_names, named_given}
+use Rattle.swi_dispatch_plans.proofs.NamedByCalls.{loading_names, named_given}
 use Rattle.profile.specs.images.module_header.Header.{header_of}
 use Rattle.swi_dispatch_plans.specs.Beginning.{IsFree, SparesTitle}
 use Rattle.swi_dispatch_guest.specs.MachineState.{MachineState, machine_module_state, setting_of}

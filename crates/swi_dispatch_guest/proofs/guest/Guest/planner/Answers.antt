@@ -1,6 +1,6 @@
 use Rattle.std.proofs.Common.{Option, ap, ◌∙◌}
 use Rattle.std.specs.Prelude.{is_some, if◌then◌else◌}
-use Rattle.instances_table.specs.plans.Plans.{Plan}
+use Rattle.swi_dispatch_plans.specs.Plans.{Plan}
 use Rattle.swi_dispatch_plans.specs.PlannerInput.{setting_in}
 use Rattle.swi_dispatch_guest.specs.MachineState.{setting_of}
 use Rattle.swi_dispatch_guest.specs.GuestState.{GuestState, state_of}

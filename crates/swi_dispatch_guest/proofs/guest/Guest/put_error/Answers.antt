@@ -1,6 +1,6 @@
 use Rattle.std.proofs.Common.{refl, ap, ◌∙◌}
 use Rattle.os_heap.specs.Store.{store_of}
-use Rattle.dynamic_areas.proofs.HeapCalls.{system_room}
+use Rattle.swi_dispatch_plans.proofs.HeapCalls.{system_room}
 use Rattle.swi_dispatch_guest.proofs.Kept.{well_kept, error_kept, flex_error, kept_memory, short_name, same_pool, with_core}
 use Rattle.swi_dispatch_guest.proofs.guest.Guest.put_error.Goals as goal
 

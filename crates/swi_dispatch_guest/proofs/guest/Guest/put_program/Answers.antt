@@ -5,7 +5,7 @@ use Rattle.swi_dispatch_plans.proofs.FlexLemmas.Kept.{flex_unmade}
 use Rattle.swi_dispatch_guest.specs.MachineState.{MachineState, machine_start}
 use Rattle.swi_dispatch_guest.specs.GuestState.{state_of}
 use Rattle.swi_dispatch_guest.proofs.Kept.{well_kept, program_kept, program_put}
-use Rattle.address_map.proofs.InRange.{range_inside}
+use Rattle.os_heap.proofs.InRange.{range_inside}
 use Rattle.swi_dispatch_guest.proofs.guest.Guest.put_program.Goals as goal
 
 pub invariant_of-self : goal.invariant_of-self

@@ -1,6 +1,6 @@
 use Rattle.std.proofs.Common.{◌≡◌, Ok, refl, subst, sym, true}
-use Rattle.instances.specs.NewImages.{may_be_in_place}
-use Rattle.instances.proofs.NamedByCalls.{inserting_names, named_given}
+use Rattle.swi_dispatch_plans.specs.NewImages.{may_be_in_place}
+use Rattle.swi_dispatch_plans.proofs.NamedByCalls.{inserting_names, named_given}
 use Rattle.swi_dispatch_plans.specs.ImagePlans.{SparesRange, image_header_in}
 use Rattle.swi_dispatch_plans.specs.Beginning.{IsFree}
 use Rattle.swi_dispatch_guest.specs.MachineState.{MachineState, machine_module_state, setting_of}

@@ -1,8 +1,8 @@
 use Rattle.std.proofs.Common.{refl, ap, subst, sym, ◌∙◌}
-use Rattle.instances.proofs.RmaKeeping.{keeps_same}
-use Rattle.swi_dispatch_answers.specs.frames.Frames.{innermost_frame}
-use Rattle.arm_core.specs.State.{State}
-use Rattle.instances.specs.module_state.ModuleState.{module_state_of}
+use Rattle.swi_dispatch_plans.proofs.Keeping.{keeps_same}
+use Rattle.swi_dispatch_plans.specs.Frames.{innermost_frame}
+use Rattle.arm_run.specs.State.{State}
+use Rattle.swi_dispatch_plans.specs.ModuleState.{module_state_of}
 use Rattle.swi_dispatch_guest.specs.Carried.{CodeUnderWay, IsCarriedNext}
 use Rattle.swi_dispatch_guest.specs.Gates.{Resumes, come_back, with_code}
 use Rattle.swi_dispatch_guest.specs.MachineState.{MachineState, with_module_state}

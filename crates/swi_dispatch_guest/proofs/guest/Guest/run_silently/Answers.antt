@@ -1,10 +1,10 @@
 use Rattle.std.proofs.Common.{◌≡◌, ℕ, Bool, None, ap, refl, subst, sym, ◌∙◌}
-use Rattle.address_map.specs.Memory.{bytes_of, is_owned}
+use Rattle.os_heap.specs.Memory.{bytes_of, is_owned}
 use Rattle.arm_run.specs.Runs.{AreDone}
 use Rattle.os_heap.proofs.Owned.{owned_marks}
 use Rattle.os_heap.specs.Store.{store_of, owned_in}
-use Rattle.arm_step.specs.Step.{result_of_step}
-use Rattle.arm_step.specs.Turns.{Turns}
+use Rattle.arm_run.specs.Step.{result_of_step}
+use Rattle.arm_run.specs.Turns.{Turns}
 use Rattle.swi_dispatch_guest.specs.MachineState.{MachineState, Tables}
 use Rattle.swi_dispatch_guest.specs.GuestState.{AreCoreSteps, GuestState, TakesTurn, state_of}
 use Rattle.swi_dispatch_guest.specs.Run.{ran, silent_run, silent_stop}

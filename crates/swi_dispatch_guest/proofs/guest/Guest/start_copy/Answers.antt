@@ -1,5 +1,5 @@
 use Rattle.std.proofs.Common.{◌≡◌, Ok, subst, true}
-use Rattle.instances.specs.Copies.{may_be_copied}
+use Rattle.swi_dispatch_plans.specs.Copies.{may_be_copied}
 use Rattle.swi_dispatch_plans.specs.Beginning.{IsFree}
 use Rattle.swi_dispatch_plans.specs.ImagePlans.{SparesRange, image_header_in}
 use Rattle.swi_dispatch_plans.specs.PlannerInput.{PlannerInput}

@@ -1,5 +1,5 @@
 use Rattle.std.proofs.Common.{◌≡◌, Ok, subst, true}
-use Rattle.instances.specs.NewImages.{may_be_in_place}
+use Rattle.swi_dispatch_plans.specs.NewImages.{may_be_in_place}
 use Rattle.swi_dispatch_plans.specs.Beginning.{IsFree}
 use Rattle.swi_dispatch_plans.specs.ImagePlans.{SparesRange, image_header_in}
 use Rattle.swi_dispatch_plans.specs.PlannerInput.{PlannerInput}

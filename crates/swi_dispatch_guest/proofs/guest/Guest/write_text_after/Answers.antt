@@ -1,8 +1,8 @@
 use Rattle.std.proofs.Common.{◌≡◌, ℕ, List, Option, Some, None, Result, Ok, Err, ap, refl, subst, ◌∙◌}
 use Rattle.profile.specs.declared.error.ErrorNumber.TheVariants.{BadString}
 use Rattle.os_heap.specs.Store.{store_of}
-use Rattle.swi_dispatch_answers.specs.declared.refusal.Refusal.{Refusal}
-use Rattle.swi_dispatch_answers.specs.declared.refusal.Refusal.TheVariants as refusal
+use Rattle.swi_dispatch_plans.specs.Refusal.{Refusal}
+use Rattle.swi_dispatch_plans.specs.Refusal.TheVariants as refusal
 use Rattle.swi_dispatch_guest.specs.Calls.{printable_at, wrote_text_after}
 use Rattle.swi_dispatch_guest.specs.GuestState.{Answers, GuestState, state_of}
 use Rattle.swi_dispatch_guest.specs.MachineState.{MachineState, outcome_with}

@@ -1,7 +1,7 @@
 use Rattle.std.proofs.Common.{ap, ◌∙◌}
-use Rattle.address_map.specs.Memory.{bytes_of}
+use Rattle.os_heap.specs.Memory.{bytes_of}
 use Rattle.os_heap.specs.Store.{store_of}
-use Rattle.swi_dispatch_answers.specs.Errors.{error_at}
+use Rattle.swi_dispatch_plans.specs.Errors.{error_at}
 use Rattle.swi_dispatch_guest.specs.Errors.{error_number}
 use Rattle.swi_dispatch_guest.specs.GuestState.{state_of}
 use Rattle.swi_dispatch_guest.specs.Value.{MachineValue}

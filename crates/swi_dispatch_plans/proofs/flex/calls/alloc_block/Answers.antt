@@ -1,7 +1,7 @@
 use Rattle.std.proofs.Common.{Bool}
 use Rattle.swi_dispatch_plans.proofs.FlexFrameLemmas.Calls.{has_allocated}
 use Rattle.flex_store.specs.Calls.{flex_after_alloc}
-use Rattle.dynamic_areas.specs.Store.{store_of}
+use Rattle.os_heap.specs.Store.{store_of}
 use Rattle.swi_dispatch_plans.proofs.FlexLemmas.Called.{call_left, leaves_called}
 use Rattle.swi_dispatch_plans.proofs.flex.calls.alloc_block.Goals as goal
 

@@ -1,5 +1,5 @@
 use Rattle.std.proofs.Common.{◌≡◌, true, sym, ap, ◌∙◌}
-use Rattle.dynamic_areas.specs.Ground.{area_store_of}
+use Rattle.instances.specs.Ground.{area_store_of}
 use Rattle.instances.specs.Copies.{may_be_copied}
 use Rattle.instances.proofs.AddingLemmas.{copied_mapped}
 use Rattle.swi_dispatch_plans.specs.PlannerInput.{PlanParts}

@@ -1,5 +1,5 @@
 use Rattle.std.proofs.Common.{◌≡◌, ℕ, Err, subst}
-use Rattle.dynamic_areas.specs.Areas.{area_in}
+use Rattle.instances.specs.Areas.{area_in}
 use Rattle.swi_dispatch_plans.proofs.StoreLemmas.AreaAnswers.{unknown_error}
 use Rattle.swi_dispatch_plans.proofs.StoreLemmas.Leaving.{leaves_memory}
 use Rattle.swi_dispatch_plans.proofs.store.areas.change_area.Goals as goal

@@ -1,5 +1,5 @@
 use Rattle.std.proofs.Common.{arith}
-use Rattle.dynamic_areas.proofs.RoomLemmas.{held_small}
+use Rattle.instances.proofs.RoomLemmas.{held_small}
 use Rattle.swi_dispatch_plans.proofs.store.areas.print_area.Goals as goal
 
 pub overflow_mul-area : goal.overflow_mul-area

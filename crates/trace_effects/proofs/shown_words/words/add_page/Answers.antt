@@ -1,5 +1,5 @@
-use Rattle.address_map.specs.Bytes.{word_at}
-use Rattle.address_map.specs.Memory.{byte_at}
+use Rattle.arm_step.specs.Bytes.{word_at}
+use Rattle.arm_step.specs.Memory.{byte_at}
 use Rattle.trace_effects.proofs.ShownWordsLemmas.ReplayLemmas.{page_more}
 use Rattle.trace_effects.proofs.shown_words.words.add_page.Goals as goal
 

@@ -1,6 +1,6 @@
 use Rattle.std.proofs.Common.{◌*◌, ◌+◌}
-use Rattle.address_map.specs.Bytes.{word_at}
-use Rattle.address_map.specs.Memory.{byte_at}
+use Rattle.arm_step.specs.Bytes.{word_at}
+use Rattle.arm_step.specs.Memory.{byte_at}
 use Rattle.trace_effects.specs.shown_words.Replay.{AreShownBelow}
 use Rattle.trace_effects.proofs.shown_words.words.add_page.Given as goal
 

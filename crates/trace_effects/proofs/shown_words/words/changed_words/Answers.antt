@@ -1,6 +1,6 @@
 use Rattle.std.proofs.Common.{◌≡◌, ℕ, ◌*◌, subst, arith}
-use Rattle.address_map.specs.Bytes.{word_at}
-use Rattle.address_map.specs.Memory.{byte_at}
+use Rattle.arm_step.specs.Bytes.{word_at}
+use Rattle.arm_step.specs.Memory.{byte_at}
 use Rattle.trace_effects.specs.shown_words.Replay.{AreShownBelow}
 use Rattle.trace_effects.proofs.ShownWordsLemmas.ReplayLemmas.{all_shown}
 use Rattle.trace_effects.proofs.ShownWordsLemmas.WordLemmas.{both_past}

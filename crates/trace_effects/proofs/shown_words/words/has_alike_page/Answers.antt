@@ -1,6 +1,6 @@
 use Rattle.std.proofs.lemmas.Bool.Decides.{Decides-eqb}
 use Rattle.std.proofs.lemmas.Slice.Eq.{slice_eq-Decides}
-use Rattle.address_map.specs.Memory.{bytes_of}
+use Rattle.arm_step.specs.Memory.{bytes_of}
 use Rattle.trace_effects.proofs.ShownWordsLemmas.WordLemmas.{both_unmapped, same_page}
 use Rattle.trace_effects.proofs.shown_words.words.has_alike_page.Goals as goal
 

@@ -1,4 +1,4 @@
-use Rattle.address_map.specs.Memory.{bytes_of}
+use Rattle.arm_step.specs.Memory.{bytes_of}
 use Rattle.trace_effects.proofs.ShownWordsLemmas.WordLemmas.{is_unmapped, no_word, word_is_loaded}
 use Rattle.trace_effects.proofs.shown_words.words.word_in.Goals as goal
 

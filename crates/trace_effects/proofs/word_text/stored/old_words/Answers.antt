@@ -1,7 +1,7 @@
 -- By the lemmas that are named.
 use Rattle.std.proofs.Common.{arith, refl}
 use Rattle.std.proofs.lemmas.Grind.{common_steps}
-use Rattle.address_map.specs.Memory.{bytes_of}
+use Rattle.arm_step.specs.Memory.{bytes_of}
 use Rattle.profile.specs.Sums.{address_further}
 use Rattle.trace_effects.specs.word_text.Stored.{word_values_from}
 use Rattle.trace_effects.proofs.WordTextLemmas.StoredLemmas.{word_more, words_done}

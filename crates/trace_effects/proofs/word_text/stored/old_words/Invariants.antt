@@ -1,5 +1,5 @@
 use Rattle.std.proofs.Common.{◌≡◌, ◌-◌, ◌++◌, length}
-use Rattle.address_map.specs.Memory.{bytes_of}
+use Rattle.arm_step.specs.Memory.{bytes_of}
 use Rattle.trace_effects.specs.word_text.Stored.{word_values_from}
 use Rattle.trace_effects.proofs.word_text.stored.old_words.Given as goal
 

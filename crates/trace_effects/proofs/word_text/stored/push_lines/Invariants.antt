@@ -1,5 +1,5 @@
 use Rattle.std.proofs.Common.{◌≡◌, drop}
-use Rattle.address_map.specs.Memory.{bytes_of}
+use Rattle.arm_step.specs.Memory.{bytes_of}
 use Rattle.profile.specs.Output.{AddsAllBut}
 use Rattle.trace_effects.specs.word_text.Stored.{stored_lines}
 use Rattle.trace_effects.proofs.word_text.stored.push_lines.Given as goal

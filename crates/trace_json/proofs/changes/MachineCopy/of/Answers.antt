@@ -1,6 +1,6 @@
 -- The core and the bytes of the machine.
 use Rattle.std.proofs.Common.{ap}
-use Rattle.store_copies.specs.Copies.{KeptStore}
+use Rattle.trace_text.specs.Copies.{KeptStore}
 use Rattle.trace_json.proofs.changes.MachineCopy.of.Goals as goal
 
 pub returns : goal.returns

@@ -4,7 +4,7 @@ use Rattle.profile.specs.declared.fault.Fault.{Fault}
 use Rattle.address_map.specs.Bytes.{word_loaded}
 use Rattle.address_map.specs.Items.{size_of}
 use Rattle.address_map.specs.Memory.{bytes_of}
-use Rattle.os_heap.specs.Store.{store_of, find_heap}
+use Rattle.store_copies.specs.Store.{store_of, find_heap}
 use Rattle.debugger.proofs.HeapLemmas.{low_heap, base_is, if_then}
 use Rattle.trace_store_text.proofs.heaps.limits.base_of.Goals as goal
 

@@ -3,7 +3,7 @@ use Rattle.std.specs.Result.{result_unwrap_or}
 use Rattle.profile.specs.declared.fault.Fault.{Fault}
 use Rattle.address_map.specs.Bytes.{word_loaded}
 use Rattle.address_map.specs.Memory.{bytes_of}
-use Rattle.os_heap.specs.Store.{store_of, find_heap}
+use Rattle.store_copies.specs.Store.{store_of, find_heap}
 use Rattle.debugger.proofs.HeapLemmas.{low_heap, end_is, if_then}
 use Rattle.trace_store_text.proofs.heaps.limits.end_of.Goals as goal
 

@@ -1,6 +1,6 @@
 use Rattle.std.proofs.Common.{◌≡◌, ◌∙◌, ℕ, ◌+◌, ◌/◌, ◌<◌, ◌≤◌, true, false, nat_lt, refl, sym, ap, arith, if◌then◌else◌}
 use Rattle.std.proofs.lemmas.Bool.Decides.{nat_tests}
-use Rattle.os_heap.specs.Store.{store_of}
+use Rattle.store_copies.specs.Store.{store_of}
 use Rattle.trace_store_text.specs.heaps.Limits.{Pages, end_shown, heap_pages, limits_in, pages_between}
 use Rattle.trace_store_text.proofs.heaps.limits.heap_pages.Goals as goal
 use Rattle.trace_store_text.proofs.heaps.limits.heap_pages.Goals.{then-old-new, else-old-new}

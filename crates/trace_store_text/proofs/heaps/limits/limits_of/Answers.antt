@@ -1,5 +1,5 @@
 use Rattle.std.proofs.Common.{sym, ◌∙◌}
-use Rattle.os_heap.specs.Store.{store_of}
+use Rattle.store_copies.specs.Store.{store_of}
 use Rattle.trace_store_text.proofs.HeapsLemmas.LimitLemmas.{both_limits, is_there, no_limits}
 use Rattle.trace_store_text.proofs.heaps.limits.limits_of.Goals as goal
 

@@ -1,6 +1,6 @@
 -- Each turn of the loop passes the lowest address at which an item is left.
 use Rattle.std.proofs.Common.{◌≡◌, ◌∙◌, sym, Some, None}
-use Rattle.os_heap.specs.Store.{store_of}
+use Rattle.store_copies.specs.Store.{store_of}
 use Rattle.trace_store_text.specs.items.Changes.{changes_between, item_changes}
 use Rattle.trace_store_text.specs.items.Places.{lower_place, place_next}
 use Rattle.trace_store_text.proofs.ItemsLemmas.ChangeLemmas.{few_changes, few_kept}

@@ -1,5 +1,5 @@
 use Rattle.std.proofs.Common.{◌≡◌, ◌+◌, length}
-use Rattle.os_heap.specs.Store.{store_of}
+use Rattle.store_copies.specs.Store.{store_of}
 use Rattle.trace_store_text.specs.items.Changes.{changes_between, item_changes}
 use Rattle.trace_store_text.proofs.ItemsLemmas.ChangeLemmas.{IsSummaryAllBut}
 use Rattle.trace_store_text.proofs.items.changes.changed_items.Given as goal

@@ -4,8 +4,8 @@ use Rattle.std.specs.Prelude.{Option}
 use Rattle.address_map.specs.Bytes.{Bytes}
 use Rattle.address_map.specs.Memory.{bytes_of}
 use Rattle.arm_core.specs.State.{State}
-use Rattle.command_shell.specs.GuestState.{state_of}
-use Rattle.command_shell.specs.Value.{MachineValue}
+use Rattle.gdb_machine.specs.GuestState.{state_of}
+use Rattle.gdb_machine.specs.Value.{MachineValue}
 use Rattle.gdb_machine.specs.StepEnds.{may_change_list}
 use Rattle.gdb_machine.specs.declared.watches.WatchedPlace.{WatchedPlace}
 use Rattle.profile.specs.images.Entries.{Entry}

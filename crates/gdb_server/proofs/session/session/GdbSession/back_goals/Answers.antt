@@ -1,8 +1,8 @@
 use Rattle.std.proofs.Common.{◌≡◌, ℕ, List, ap, subst, ◌∙◌}
 use Rattle.std.specs.Prelude.{IfOk}
 use Rattle.address_map.specs.Bytes.{Bytes}
-use Rattle.command_shell.specs.GuestState.{state_of}
-use Rattle.command_shell.specs.Value.{MachineValue}
+use Rattle.gdb_machine.specs.GuestState.{state_of}
+use Rattle.gdb_machine.specs.Value.{MachineValue}
 use Rattle.profile.specs.images.Entries.{Entry}
 use Rattle.gdb_machine.specs.BackEnds.{all_goals}
 use Rattle.gdb_machine.specs.Watches.{watched_bytes}

@@ -1,8 +1,8 @@
 use Rattle.std.proofs.Common.{◌≡◌, Bool, false, true, ap, subst, sym, ◌∙◌, arith, ℕ}
 use Rattle.arm_core.specs.State.{State}
-use Rattle.command_shell.specs.GuestState.{state_of}
-use Rattle.command_shell.specs.State.{ScriptState}
-use Rattle.command_shell.specs.Value.{MachineValue}
+use Rattle.gdb_machine.specs.GuestState.{state_of}
+use Rattle.debug_session.specs.State.{ScriptState}
+use Rattle.gdb_machine.specs.Value.{MachineValue}
 use Rattle.gdb_machine.specs.GdbBreaks.{is_among}
 use Rattle.gdb_server.specs.session.Session.{gdb_state}
 use Rattle.gdb_packets.specs.Going.{has_left}

@@ -1,10 +1,10 @@
 use Rattle.std.proofs.Common.{◌≡◌, true, ap, subst, sym, ◌∙◌, arith}
 use Rattle.std.specs.Prelude.{IfOk, None, Option}
 use Rattle.address_map.specs.Bytes.{Bytes}
-use Rattle.command_shell.proofs.GateLemmas.{none_else}
-use Rattle.command_shell.specs.GuestState.{state_of}
-use Rattle.command_shell.specs.State.{ScriptState}
-use Rattle.command_shell.specs.Value.{MachineValue}
+use Rattle.gdb_machine.proofs.GateLemmas.{none_else}
+use Rattle.gdb_machine.specs.GuestState.{state_of}
+use Rattle.debug_session.specs.State.{ScriptState}
+use Rattle.gdb_machine.specs.Value.{MachineValue}
 use Rattle.gdb_machine.specs.Watches.{first_changed}
 use Rattle.gdb_machine.specs.declared.stops.GdbStop.{GdbStop}
 use Rattle.gdb_server.specs.session.Session.{gdb_state}

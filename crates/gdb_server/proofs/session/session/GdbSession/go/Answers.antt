@@ -1,8 +1,8 @@
 use Rattle.std.proofs.Common.{◌≡◌, ℕ, List, Bool, false, ap, sym, ◌∙◌}
 use Rattle.std.specs.Prelude.{None, Option, Some, option_map}
-use Rattle.command_shell.specs.MachineState.{stop_of}
-use Rattle.command_shell.specs.GuestState.{state_of}
-use Rattle.command_shell.specs.Value.{MachineValue}
+use Rattle.gdb_machine.specs.MachineState.{stop_of}
+use Rattle.gdb_machine.specs.GuestState.{state_of}
+use Rattle.gdb_machine.specs.Value.{MachineValue}
 use Rattle.profile.specs.declared.stop.Stop.{Stop}
 use Rattle.gdb_server.specs.session.Runs.{gdb_stop_shown}
 use Rattle.gdb_server.specs.session.Session.{gdb_state}

@@ -1,4 +1,4 @@
-use Rattle.command_shell.specs.Session.{script_state}
+use Rattle.debug_session.specs.CommandShellSession.{script_state}
 use Rattle.gdb_server.specs.session.Session.{gdb_state}
 use Rattle.gdb_server.proofs.SessionLemmas.BackLemmas.{gone_so}
 use Rattle.gdb_server.proofs.session.session.GdbSession.go_back.Goals as goal

@@ -1,7 +1,7 @@
 use Rattle.std.proofs.Common.{ℕ, List, ap, sym, ◌∙◌}
 use Rattle.profile.specs.images.Entries.{Entry}
-use Rattle.command_shell.specs.Memory.{script_unhalted}
-use Rattle.command_shell.specs.Session.{script_state}
+use Rattle.debug_session.specs.Memory.{script_unhalted}
+use Rattle.debug_session.specs.CommandShellSession.{script_state}
 use Rattle.debug_session.specs.Past.{PastState}
 use Rattle.debug_session.specs.PastDeed.TheVariants as deed
 use Rattle.debug_session.specs.PastNoted.{past_with_deed}

@@ -1,6 +1,6 @@
 use Rattle.std.proofs.Common.{List, ap}
 use Rattle.profile.specs.images.Entries.{Entry}
-use Rattle.command_shell.specs.State.{ScriptState}
+use Rattle.debug_session.specs.State.{ScriptState}
 use Rattle.gdb_server.specs.session.Session.{gdb_state}
 use Rattle.gdb_server.specs.session.State.{with_script}
 use Rattle.gdb_server.proofs.session.session.GdbSession.renew_budget.Goals as goal

@@ -1,7 +1,7 @@
 use Rattle.std.proofs.Common.{◌≡◌, ℕ, List, [], ap, ◌∙◌}
 use Rattle.address_map.specs.Bytes.{Bytes}
-use Rattle.command_shell.specs.GuestState.{state_of}
-use Rattle.command_shell.specs.Value.{MachineValue}
+use Rattle.gdb_machine.specs.GuestState.{state_of}
+use Rattle.gdb_machine.specs.Value.{MachineValue}
 use Rattle.gdb_machine.specs.Watches.{first_changed, watched_bytes}
 use Rattle.gdb_machine.specs.declared.stops.GdbStop.{GdbStop}
 use Rattle.gdb_machine.specs.declared.watches.SeenByte.{SeenByte}

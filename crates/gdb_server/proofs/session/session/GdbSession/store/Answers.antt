@@ -1,6 +1,6 @@
 use Rattle.std.proofs.Common.{◌≡◌, List, length, ap, ◌∙◌, arith}
 use Rattle.std.specs.Prelude.{codes}
-use Rattle.command_shell.specs.Session.{script_state}
+use Rattle.debug_session.specs.CommandShellSession.{script_state}
 use Rattle.profile.specs.images.Entries.{Entry}
 use Rattle.gdb_server.specs.session.Session.{gdb_state}
 use Rattle.gdb_server.specs.session.State.{GdbState, packet_reply}

@@ -4,8 +4,8 @@ use Rattle.profile.specs.images.Entries.{Entry}
 use Rattle.address_map.specs.Bytes.{Bytes}
 use Rattle.address_map.specs.Memory.{bytes_of}
 use Rattle.arm_core.specs.State.{State}
-use Rattle.command_shell.specs.GuestState.{state_of}
-use Rattle.command_shell.specs.Value.{MachineValue}
+use Rattle.gdb_machine.specs.GuestState.{state_of}
+use Rattle.gdb_machine.specs.Value.{MachineValue}
 use Rattle.gdb_machine.specs.Watches.{struck_place}
 use Rattle.gdb_server.proofs.SessionLemmas.StepLemmas.{known_ahead, none_ahead}
 use Rattle.gdb_server.proofs.session.session.GdbSession.struck_ahead.Goals as goal

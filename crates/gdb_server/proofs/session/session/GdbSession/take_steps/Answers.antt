@@ -1,7 +1,7 @@
 use Rattle.std.proofs.Common.{◌≡◌, List, ap, subst, ◌∙◌}
 use Rattle.address_map.specs.Bytes.{Bytes}
-use Rattle.command_shell.specs.GuestState.{state_of}
-use Rattle.command_shell.specs.Value.{MachineValue}
+use Rattle.gdb_machine.specs.GuestState.{state_of}
+use Rattle.gdb_machine.specs.Value.{MachineValue}
 use Rattle.gdb_machine.specs.Watches.{watched_bytes}
 use Rattle.gdb_machine.specs.declared.watches.SeenByte.{SeenByte}
 use Rattle.profile.specs.text_sink.TextSink.{sink_text_of}

@@ -1,8 +1,8 @@
 -- The walk begins with all items.
 use Rattle.std.proofs.Common.{◌≡◌, ◌+◌, ◌∙◌, sym, arith, [], Some, None}
 use Rattle.std.specs.Prelude.{unwrap_or}
-use Rattle.os_heap.specs.Calls.{items_of}
-use Rattle.os_heap.specs.Store.{store_of}
+use Rattle.store_copies.specs.Calls.{items_of}
+use Rattle.store_copies.specs.Store.{store_of}
 use Rattle.trace_store_text.proofs.ItemsLemmas.PlaceLemmas.{begun, begun_with, items_stand, none_placed}
 use Rattle.trace_store_text.proofs.items.walk.ItemWalk.of.Goals as goal
 
