@@ -13,7 +13,7 @@ use crate::lines::LineUse;
 use crate::recorder::Twin;
 use crate::records::{push_moment, push_record, push_whole};
 use command_shell_lines::skip_block;
-use debug_session::{CommandShellRunError as RunError, DebugSession};
+use debug_session::{DebugSession, RunError};
 use profile::Sink;
 use profile::images::Images;
 use profile::text_lines::{Lines, cut};

@@ -10,7 +10,7 @@ ghost use Rattle.trace_effects.specs.record_text.Spelling.{comma_before};
 use crate::counts::LineCounts;
 use crate::recorder::Recorder;
 use crate::records::push_record;
-use debug_session::{CommandShellRunError as RunError, DebugSettings};
+use debug_session::{DebugSettings, RunError};
 use profile::{Config, Sink};
 use std::alloc::AllocError;
 use trace_effects::record_text::{Bracket, RecordText, push_records};

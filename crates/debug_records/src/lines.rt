@@ -24,7 +24,7 @@ use debug_lines::{
     DebugCommand, ModeCommand, SteppingCommand, is_script_command, is_script_line, simple_command,
     stepping_in, tidied,
 };
-use debug_session::{CommandShellRunError as RunError, DebugSession, is_faulted};
+use debug_session::{DebugSession, RunError, is_faulted};
 use profile::Sink;
 use profile::text_lines::Lines;
 use profile::text_sink::TextSink;

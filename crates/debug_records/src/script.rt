@@ -10,7 +10,7 @@ ghost use Rattle.profile.specs.text_sink.Safe.{AddsSafe};
 
 use crate::ends::{record_end, record_start};
 use crate::recorder::Recorder;
-use debug_session::{CommandShellRunError as RunError, DebugSettings};
+use debug_session::{DebugSettings, RunError};
 use profile::Sink;
 use profile::images::Images;
 use profile::text_lines::Lines;

@@ -6,7 +6,7 @@ ghost use Rattle.debug_records.specs.Recording.{session_machine, twin_machine};
 
 use crate::recorder::Twin;
 use arm_core::Cpu;
-use debug_session::{CommandShellRunError as RunError, DebugSession};
+use debug_session::{DebugSession, RunError};
 use trace_effects::shown_registers::{WrittenRegisters, shown_registers};
 use trace_effects::shown_words::changed_words;
 

@@ -14,7 +14,7 @@ use crate::taking::{
     enter_first, make_call, outside_call, settle_last, take_or_let, take_rest, written_by_stub,
 };
 use debug_lines::SteppingCommand;
-use debug_session::{CommandShellRunError as RunError, DebugSession, OutsideCall};
+use debug_session::{DebugSession, OutsideCall, RunError};
 use profile::Sink;
 use profile::text_sink::TextSink;
 use std::alloc::{AllocError, Global};

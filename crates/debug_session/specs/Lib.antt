@@ -16,11 +16,9 @@ pub use Rattle.debug_modules.specs.Search as PastSearch
 pub use Rattle.debug_modules.specs.Sought
 pub use Rattle.debug_tables.specs.Answers
 pub use Rattle.debug_tables.specs.Calls
-pub use Rattle.debug_tables.specs.Error as CommandShellError
 pub use Rattle.debug_tables.specs.Memory
 pub use Rattle.debug_tables.specs.OutsideCall
 pub use Rattle.debug_tables.specs.Routines
-pub use Rattle.debug_tables.specs.RunError as CommandShellRunError
 pub use Rattle.debug_tables.specs.Session as CommandShellSession
 pub use Rattle.debug_tables.specs.State
 pub use Rattle.debug_tables.specs.Stepping

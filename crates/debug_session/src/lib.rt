@@ -23,7 +23,5 @@ pub use debug_modules::{
 pub use debug_tables::byte_writes::put_bytes;
 pub use debug_tables::routines::enter;
 pub use debug_tables::run_meter::{RunError, RunMeter};
-pub use debug_tables::{
-    OutsideCall, RunError as CommandShellRunError, Session, StubDeed, print_stop,
-};
+pub use debug_tables::{OutsideCall, Session, StubDeed, print_stop};
 pub use session::{DebugSession, DebugSettings};

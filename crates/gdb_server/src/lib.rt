@@ -7,7 +7,7 @@ mod laws;
 mod server;
 pub mod session;
 
-pub use debug_session::CommandShellRunError as RunError;
+pub use debug_session::RunError;
 pub use gdb_machine::known_bytes;
 pub use laws::pieces_are_served;
 pub use server::GdbServer;

@@ -1,7 +1,7 @@
 //! What the bytes of the other side are answered with, one byte after another.
 
 ghost use Rattle.std.specs.Prelude.{◌≡◌, ◌++◌, true, [], List, IfErr, IfOk, OnOk, OnErr, codes, is_some};
-ghost use Rattle.debug_session.specs.CommandShellError.{IsLineError};
+ghost use Rattle.debug_session.specs.Error.{IsLineError};
 ghost use Rattle.profile.specs.Output.{AddsFront, Writes};
 ghost use Rattle.std.specs.Io.KnownBytes.{Appends};
 ghost use Rattle.gdb_server.specs.Serving.{ack_text, shown_packets, text_packet, reply_packet, spoilt_text};
@@ -9,7 +9,7 @@ ghost use Rattle.gdb_packets.specs.Fixed.{is_taken_so};
 ghost use Rattle.std.specs.Option.{option_map};
 
 use crate::session::{GdbAnswer, GdbSession};
-use debug_session::CommandShellRunError as RunError;
+use debug_session::RunError;
 use gdb_machine::Loads;
 use gdb_packets::{PacketReader, Piece, extends, is_taken_so, keeps_acks, push_packet, request_in};
 use profile::images::Images;

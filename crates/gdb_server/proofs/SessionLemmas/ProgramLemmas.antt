@@ -2,7 +2,7 @@
 use Rattle.std.proofs.Common.{◌≡◌, ◌<◌, ◌≤◌, ◌+◌, ℕ, Bool, true, false, List, [], ◌∷◌, length, get_or, drop, map, refl, ap, subst, sym, ◌∙◌}
 use Rattle.std.specs.Prelude.{Some, Result, IfOk, codes, option_map, if◌then◌else◌}
 use Rattle.std.proofs.lemmas.List.{at_drop_all, at_drop_more}
-use Rattle.debug_session.specs.CommandShellRunError.{RunError}
+use Rattle.debug_session.specs.RunError.{RunError}
 use Rattle.gdb_packets.specs.Ahead.{is_run_request}
 use Rattle.gdb_packets.specs.Requests as request
 use Rattle.gdb_packets.specs.Requests.{GdbRequest, packet_request}

@@ -1,11 +1,11 @@
 //! Requests that do more than look.
 
 ghost use Rattle.std.specs.Prelude.{◌≡◌, [], None, List, IfErr, IfOk, option_map};
-ghost use Rattle.debug_session.specs.CommandShellError.{IsLineError};
+ghost use Rattle.debug_session.specs.Error.{IsLineError};
 ghost use Rattle.gdb_packets.specs.Requests.{gdb_request};
 
 use crate::session::session::{GdbAnswer, GdbSession};
-use debug_session::CommandShellRunError as RunError;
+use debug_session::RunError;
 use gdb_machine::{GdbStop, UnderWay};
 use gdb_packets::{Going, Request};
 use profile::Stop;

@@ -2,11 +2,11 @@
 //! pieces of the past: after each the other side is asked whether the user wants the search to stop.
 
 ghost use Rattle.std.specs.Prelude.{◌≡◌, ◌<◌, ◌+◌, ◌^◌, List, IfErr, IfOk, OnOk};
-ghost use Rattle.debug_session.specs.CommandShellError.{IsLineError};
+ghost use Rattle.debug_session.specs.Error.{IsLineError};
 ghost use Rattle.gdb_server.specs.session.Back.{end_found, sought_of};
 
 use crate::session::session::{GdbAnswer, GdbSession};
-use debug_session::{CommandShellRunError as RunError, PastFound, Sought};
+use debug_session::{PastFound, RunError, Sought};
 use gdb_machine::{
     BackEnd, BackGoal, BackSearch, GdbStop, SeenByte, UnderWay, all_goals, first_changed,
     piece_before,

@@ -2,11 +2,11 @@
 
 ghost use Rattle.std.specs.Prelude.{◌≡◌, List, IfErr, IfOk, OnOk, codes};
 ghost use Rattle.gdb_machine.specs.Changes.{CanBeMade};
-ghost use Rattle.debug_session.specs.CommandShellError.{IsLineError};
+ghost use Rattle.debug_session.specs.Error.{IsLineError};
 
 use crate::session::session::{GDB_LINE, GdbSession};
 use command_shell_lines::{Origin, RegisterNumber};
-use debug_session::{CommandShellRunError as RunError, PastDeed};
+use debug_session::{PastDeed, RunError};
 use gdb_machine::{
     RegisterWrite, Watch, WatchKind, break_refusal, decoded, wanted_write, watch_refusal,
 };

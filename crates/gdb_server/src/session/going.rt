@@ -1,10 +1,10 @@
 //! How a run or a step begins.
 
 ghost use Rattle.std.specs.Prelude.{◌≡◌, List, IfErr, IfOk};
-ghost use Rattle.debug_session.specs.CommandShellError.{IsLineError};
+ghost use Rattle.debug_session.specs.Error.{IsLineError};
 
 use crate::session::session::{GdbAnswer, GdbSession};
-use debug_session::CommandShellRunError as RunError;
+use debug_session::RunError;
 use gdb_machine::{GdbStop, is_own_signal, last_stop, push_halted};
 use gdb_packets::Going;
 use profile::images::Images;

@@ -1,11 +1,11 @@
 //! Lines of the debugger's own language, by the monitor and where a machine begins.
 
 ghost use Rattle.std.specs.Prelude.{◌≡◌, List, Some, IfErr, IfOk, OnOk};
-ghost use Rattle.debug_session.specs.CommandShellError.{IsLineError};
+ghost use Rattle.debug_session.specs.Error.{IsLineError};
 ghost use Rattle.profile.specs.text_sink.TextSink.{sink_text_of};
 
 use crate::session::session::{GdbAnswer, GdbSession};
-use debug_session::CommandShellRunError as RunError;
+use debug_session::RunError;
 use gdb_machine::{GdbStop, decoded};
 use profile::images::Images;
 use profile::text_lines::Lines;

@@ -1,11 +1,11 @@
 //! A `run`: the program begins anew, with what GDB's `load` sent last.
 
 ghost use Rattle.std.specs.Prelude.{◌≡◌, List, IfErr, IfOk, OnOk, map};
-ghost use Rattle.debug_session.specs.CommandShellError.{IsLineError};
+ghost use Rattle.debug_session.specs.Error.{IsLineError};
 ghost use Rattle.gdb_packets.specs.Requests.{gdb_request};
 
 use crate::session::session::{GdbAnswer, GdbSession};
-use debug_session::CommandShellRunError as RunError;
+use debug_session::RunError;
 use gdb_packets::{Request, is_run_request, request_of};
 use profile::images::Images;
 

@@ -3,13 +3,13 @@
 
 ghost use Rattle.std.specs.Prelude.{◌≡◌, ◌++◌, List, IfErr, IfOk, codes};
 ghost use Rattle.debug_session.specs.Answers.{stop_text};
-ghost use Rattle.debug_session.specs.CommandShellError.{IsLineError};
+ghost use Rattle.debug_session.specs.Error.{IsLineError};
 ghost use Rattle.profile.specs.Output.{Writes};
 ghost use Rattle.profile.specs.text_sink.TextSink.{sink_text_of};
 ghost use Rattle.gdb_server.specs.session.Runs.{user_text};
 
 use crate::session::session::{GdbAnswer, GdbSession};
-use debug_session::{CommandShellRunError as RunError, print_stop};
+use debug_session::{RunError, print_stop};
 use gdb_machine::{GdbStop, UnderWay, library_lines, may_go_on, stepped, stop_packet, was_library};
 use gdb_packets::Going;
 use profile::images::Images;

@@ -1,12 +1,10 @@
 //! A session with GDB, and how one of its requests is answered.
 
 ghost use Rattle.std.specs.Prelude.{◌≡◌, [], None, Some, List, IfOk, IfErr, is_some};
-ghost use Rattle.debug_session.specs.CommandShellError.{IsLineError};
+ghost use Rattle.debug_session.specs.Error.{IsLineError};
 ghost use Rattle.gdb_server.specs.session.State.{debug_settings, gdb_start};
 
-use debug_session::{
-    CommandShellRunError as RunError, DebugSession, DebugSettings, ReportForm, RunMeter,
-};
+use debug_session::{DebugSession, DebugSettings, ReportForm, RunError, RunMeter};
 use gdb_machine::{GdbBreaks, GdbStop, UnderWay, Watches};
 use gdb_packets::Request;
 use profile::images::Images;

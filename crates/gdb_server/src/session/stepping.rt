@@ -1,11 +1,11 @@
 //! Steps that are taken one by one, with a look before and after each.
 
 ghost use Rattle.std.specs.Prelude.{◌≡◌, List, IfErr, IfOk, OnOk};
-ghost use Rattle.debug_session.specs.CommandShellError.{IsLineError};
+ghost use Rattle.debug_session.specs.Error.{IsLineError};
 ghost use Rattle.profile.specs.text_sink.TextSink.{sink_text_of};
 
 use crate::session::session::{GDB_LINE, GdbSession};
-use debug_session::{CommandShellRunError as RunError, is_faulted};
+use debug_session::{RunError, is_faulted};
 use gdb_machine::{
     GdbStop, SeenByte, StepAhead, WatchedPlace, first_changed, goes_on, is_exit_ahead,
     library_lines, may_change_list, struck_after,
