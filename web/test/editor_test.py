@@ -257,12 +257,18 @@ class RecordedTest(unittest.TestCase):
         self.assertTrue(browser.until(lambda: self.state().startswith("108 steps")))
         self.assertTrue(browser.tab_to("words", 100))
         browser.keys(Keys.ARROW_DOWN)
+
+        def chosen() -> int | None:
+            return browser.js("return rosm.player.chosen && rosm.player.chosen.word")
+
         for _ in range(80):
-            if browser.js("return rosm.player.chosen && rosm.player.chosen.word") == 0x9028:
+            word = chosen()
+            if word == 0x9028:
                 break
             browser.keys(Keys.ARROW_RIGHT)
+            self.assertTrue(browser.until(lambda word=word: chosen() != word))
         browser.keys(Keys.ENTER)
-        self.assertEqual(browser.step(), 63)
+        self.assertTrue(browser.until(lambda: browser.step() == 63))
         self.assertIn("lit", browser.one('.row[data-key="33"]').get_attribute("class"))
 
     def test_each_control_is_one_tab_stop(self) -> None:
