@@ -10,7 +10,8 @@ use Rattle.swi_dispatch_guest.proofs.guest.Guest.perform.Goals as goal
 
 -- OS_Heap
 pub call_heap-requires : goal.call_heap-requires
-call_heap-requires c = record { state = record { sound = c.self.invariant.areas.ground.sound; classes = c.self.invariant.classes } }
+call_heap-requires c =
+    record { state = record { sound = c.self-in-Some-Heap.invariant.areas.ground.sound; classes = c.self-in-Some-Heap.invariant.classes } }
 
 pub invariant_of-self : goal.invariant_of-self
 invariant_of-self c = well_left _ _ c.self-in-Some-Heap.invariant (c.call_heap.ensures.leaves _ c.self-in-Some-Heap.invariant.areas) refl c.self-in-Some-Heap.invariant.sized
@@ -31,8 +32,8 @@ returns-in-Some-Heap-clause-unmoved c =
     rw (← c.self-in-Some-Heap.view_is) (went_unmoved _ _ _ _ _ left)
 
 -- OS_Module
-pub invariant_of-self-2 : goal.invariant_of-self-2
-invariant_of-self-2 c = well_after _ _ c.self.invariant c.call_module.ensures.leaves refl (c.call_module.ensures.leaves.memory.sizes ∙ c.self.invariant.sized)
+pub invariant_of-self-in-Some-Module : goal.invariant_of-self-in-Some-Module
+invariant_of-self-in-Some-Module c = well_after _ _ c.self-in-Some-Module.invariant c.call_module.ensures.leaves refl (c.call_module.ensures.leaves.memory.sizes ∙ c.self-in-Some-Module.invariant.sized)
 
 pub returns-in-Some-Module-clause-done : goal.returns-in-Some-Module-clause-done
 returns-in-Some-Module-clause-done c =
@@ -47,12 +48,8 @@ returns-in-Some-Module-clause-unmoved c =
     let left = module_state_left s _ _ _ _ c.call_module.ensures.state in
     rw (← c.self-in-Some-Module.view_is) (went_unmoved _ _ _ _ _ left)
 
--- OS_ChangeDynamicArea
-pub invariant_of-self-3 : goal.invariant_of-self-3
-invariant_of-self-3 c = well_left _ _ c.self.invariant c.change_area-error.ensures.leaves refl (c.change_area-error.ensures.leaves.sizes ∙ c.self.invariant.sized)
-
-pub returns-in-None-in-Some-ChangeDynamicArea-clause-done : goal.returns-in-None-in-Some-ChangeDynamicArea-clause-done
-returns-in-None-in-Some-ChangeDynamicArea-clause-done c =
+pub returns-in-Some-ChangeDynamicArea-clause-done : goal.returns-in-Some-ChangeDynamicArea-clause-done
+returns-in-Some-ChangeDynamicArea-clause-done c =
     let is : c.args.name ≡ Some swi.ChangeDynamicArea = search rules in
     change_answers _ _ _ _ _ _ _ is c.change_area.ensures c.requires.unprinted
 
@@ -71,8 +68,8 @@ returns-in-Some-ReadDynamicArea-clause-unmoved c =
     let left = area_store_left s _ _ _ _ c.read_area.ensures in
     rw (← c.self-in-Some-ReadDynamicArea.view_is) (went_unmoved _ _ _ _ _ left)
 
-pub invariant_of-self-4 : goal.invariant_of-self-4
-invariant_of-self-4 c = well_left _ _ c.self.invariant c.call_area.ensures.leaves refl (c.call_area.ensures.leaves.sizes ∙ c.self.invariant.sized)
+pub invariant_of-self-in-Some-DynamicArea : goal.invariant_of-self-in-Some-DynamicArea
+invariant_of-self-in-Some-DynamicArea c = well_left _ _ c.self-in-Some-DynamicArea.invariant c.call_area.ensures.leaves refl (c.call_area.ensures.leaves.sizes ∙ c.self-in-Some-DynamicArea.invariant.sized)
 
 pub returns-in-Some-DynamicArea-clause-done : goal.returns-in-Some-DynamicArea-clause-done
 returns-in-Some-DynamicArea-clause-done c =

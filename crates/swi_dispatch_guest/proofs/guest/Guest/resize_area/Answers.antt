@@ -6,7 +6,7 @@ use Rattle.swi_dispatch_guest.proofs.StoreCalls.{well_left}
 use Rattle.swi_dispatch_guest.proofs.guest.Guest.resize_area.Goals as goal
 
 pub invariant_of-self : goal.invariant_of-self
-invariant_of-self c = well_left _ _ c.self.invariant c.change_area.ensures.leaves refl (c.change_area.ensures.sizes ∙ c.self.invariant.sized)
+invariant_of-self c = well_left _ _ c.self.invariant c.change_area.ensures.leaves refl (c.change_area.ensures.leaves.sizes ∙ c.self.invariant.sized)
 
 pub returns-clause-error : goal.returns-clause-error
 returns-clause-error c = rw (← c.self.view_is) c.change_area.ensures.error
