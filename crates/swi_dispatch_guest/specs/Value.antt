@@ -31,6 +31,7 @@ pub record IsAfterStep (m n : MachineValue) (o : StepOutcome) : Type 0 where
   pub outcome : outcome_of n ≡ o
   pub sizes : n.sizes ≡ m.sizes
   pub fresh : n.is_fresh ≡ false
+  pub kept : IsMachine n
 
 -- A user wrote this to it, which printed nothing.
 pub record IsWritten (m n : MachineValue) (s : MachineState) : Type 0 where
@@ -38,9 +39,11 @@ pub record IsWritten (m n : MachineValue) (s : MachineState) : Type 0 where
   pub sizes : n.sizes ≡ m.sizes
   pub fresh : n.is_fresh ≡ false
   pub printed : n.printed ≡ m.printed
+  pub kept : IsMachine n
 
 -- Beside its state it is as it was, but for whether it can be booted.
 pub record IsBesides (m n : MachineValue) (may_boot : Bool) : Type 0 where
   pub sizes : n.sizes ≡ m.sizes
   pub fresh : n.is_fresh ≡ may_boot
   pub printed : n.printed ≡ m.printed
+  pub kept : IsMachine n

@@ -92,7 +92,6 @@ impl Machine {
             (machine_after_boot self.old.sizes self.old.is_fresh
             (state_of self.old.guest) program.now) result (state_of self.new.guest) }
         ensures rest { IsBesides self.old self.new (self.old.is_fresh && is_err result) }
-        ensures kept { IsMachine self.new }
     {
         self.known();
         if !self.is_fresh {
@@ -113,7 +112,6 @@ impl Machine {
     pub fn step(&mut self, images: &Images) -> Option<Stop>
         ensures after { IsAfterStep self.old self.new (machine_step images.now (state_of self.old.guest)) }
         ensures stop { result ≡ option_map stop_of (state_of self.new.guest).halt }
-        ensures kept { IsMachine self.new }
     {
         self.begin_step();
         if let Some(stop) = self.known_stop() {
@@ -131,7 +129,6 @@ impl Machine {
         ensures after { IsAfterStep self.old self.new
             (store_called images.now (state_of self.old.guest) number) }
         ensures stop { result ≡ option_map stop_of (state_of self.new.guest).halt }
-        ensures kept { IsMachine self.new }
     {
         self.begin_step();
         if let Some(stop) = self.known_stop() {
@@ -152,7 +149,6 @@ impl Machine {
         ensures after { IsAfterStep self.old self.new
             (module_loaded images.now (state_of self.old.guest) text.now) }
         ensures stop { result ≡ option_map stop_of (state_of self.new.guest).halt }
-        ensures kept { IsMachine self.new }
     {
         self.begin_step();
         if let Some(stop) = self.known_stop() {
@@ -185,5 +181,6 @@ impl Machine {
     {
         self.is_fresh = false;
         self.printed.clear();
+        self.known();
     }
 }

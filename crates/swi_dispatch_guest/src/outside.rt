@@ -10,14 +10,13 @@ use profile::Fault;
 
 impl Machine {
     ghost use Rattle.swi_dispatch_guest.specs.GuestState.{state_of};
-    ghost use Rattle.swi_dispatch_guest.specs.Value.{IsBesides, IsMachine, IsWritten};
+    ghost use Rattle.swi_dispatch_guest.specs.Value.{IsBesides, IsWritten};
 
     /// Sets one of R0 to R14 of the present mode.
     pub fn set_register(&mut self, number: u32, value: u32)
         requires { number ≤ 14 }
         ensures written { IsWritten self.old self.new
             (machine_with_register (state_of self.old.guest) number value) }
-        ensures kept { IsMachine self.new }
     {
         self.is_fresh = false;
         self.guest.cpu.set_register(number, value);
@@ -30,7 +29,6 @@ impl Machine {
         requires { number ≤ 14 }
         ensures written { IsWritten self.old self.new
             (machine_with_bank_register (state_of self.old.guest) mode number value) }
-        ensures kept { IsMachine self.new }
     {
         self.is_fresh = false;
         self.guest.cpu.set_register_in(mode, number, value);
@@ -43,7 +41,6 @@ impl Machine {
         requires aligned { address % 4 ≡ 0 }
         requires inside { address < 2 ^ 26 }
         ensures written { IsWritten self.old self.new (machine_at (state_of self.old.guest) address) }
-        ensures kept { IsMachine self.new }
     {
         self.is_fresh = false;
         self.guest.cpu.set_pc(address);
@@ -53,7 +50,6 @@ impl Machine {
     /// Lets the machine take steps again, whatever has halted it.
     pub fn wake(&mut self)
         ensures written { IsWritten self.old self.new (machine_unhalted (state_of self.old.guest)) }
-        ensures kept { IsMachine self.new }
     {
         self.is_fresh = false;
         self.guest.halt = None;
@@ -63,7 +59,6 @@ impl Machine {
     /// Sets the status: the flags N, Z, C and V, the interrupt bits I and F, and the mode.
     pub fn set_psr(&mut self, status: Psr)
         ensures written { IsWritten self.old self.new (machine_with_status (state_of self.old.guest) status) }
-        ensures kept { IsMachine self.new }
     {
         self.is_fresh = false;
         self.guest.cpu.set_psr(status);
@@ -81,7 +76,6 @@ impl Machine {
         ensures state { Leaves (state_of self.old.guest)
             (machine_after_poke (state_of self.old.guest) at value) result (state_of self.new.guest) }
         ensures rest { IsBesides self.old self.new (self.old.is_fresh && is_err result) }
-        ensures kept { IsMachine self.new }
     {
         let stored = self.guest.memory.store_word(at, value);
         self.is_fresh &= stored.is_err();

@@ -3,7 +3,7 @@
 ghost use Rattle.std.specs.Prelude.{◌≡◌};
 ghost use Rattle.profile.specs.Outcome.{Gives, Leaves};
 ghost use Rattle.flex_store.specs.Calls.{flex_after_alloc, flex_after_extend, mid_extended, flex_after_release, flex_block_size};
-ghost use Rattle.swi_dispatch_plans.specs.flex.Calls.{flex_allocated, flex_called, flex_extended, flex_in_range, flex_made, flex_mid_extended, flex_released, flex_sized, memory_after_flex, memory_of, state_in, room_word_of};
+ghost use Rattle.swi_dispatch_plans.specs.flex.Calls.{flex_called, flex_in_range, memory_after_flex, memory_of, state_in, room_word_of};
 ghost use Rattle.swi_dispatch_plans.specs.flex.Leaving.{CanCallFlex, LeavesFlex};
 
 use flex_store::Flex;
@@ -32,26 +32,45 @@ pub fn call_flex(
     ensures leaves { LeavesFlex memory.old memory.new flex.new }
 {
     match name {
-        Some(SwiName::FlexInit) => make_flex(cpu, memory, flex),
-        Some(SwiName::FlexAlloc) => alloc_flex(cpu, memory, flex),
-        Some(SwiName::FlexFree) => release_flex(cpu, memory, flex),
-        Some(SwiName::FlexSize) => size_flex(cpu, memory, flex),
-        Some(SwiName::FlexExtend) => extend_flex(cpu, memory, flex),
-        Some(SwiName::FlexMidExtend) => mid_extend_flex(cpu, memory, flex),
+        Some(SwiName::FlexInit) => {
+            let start = cpu.register(0);
+            let end = cpu.register(1);
+            Ok(begin_flex(memory, flex, start, end)?)
+        }
+        Some(SwiName::FlexAlloc) => {
+            let anchor = cpu.register(0);
+            let size = cpu.register(1);
+            let fits = alloc_block(memory, flex, anchor, size)?;
+            cpu.set_register(0, word_of(fits));
+            Ok(())
+        }
+        Some(SwiName::FlexFree) => {
+            let anchor = cpu.register(0);
+            Ok(release_block(memory, flex, anchor)?)
+        }
+        Some(SwiName::FlexSize) => {
+            let anchor = cpu.register(0);
+            let size = block_size(memory, flex, anchor)?;
+            cpu.set_register(0, size);
+            Ok(())
+        }
+        Some(SwiName::FlexExtend) => {
+            let anchor = cpu.register(0);
+            let size = cpu.register(1);
+            let fits = extend_block(memory, flex, anchor, size)?;
+            cpu.set_register(0, word_of(fits));
+            Ok(())
+        }
+        Some(SwiName::FlexMidExtend) => {
+            let anchor = cpu.register(0);
+            let at = cpu.register(1);
+            let by = cpu.register(2);
+            let fits = mid_extend_block(memory, flex, anchor, at, by)?;
+            cpu.set_register(0, word_of(fits));
+            Ok(())
+        }
         _ => Err(Refusal::System(ErrorNumber::SwiUnknown)),
     }
-}
-
-fn make_flex(cpu: &mut Cpu, memory: &mut AddressMap, flex: &mut Flex) -> Result<(), Refusal>
-    requires { CanCallFlex memory.old flex.old }
-    ensures state { Leaves (cpu.old, memory_of memory.old flex.old)
-        (flex_made cpu.old (memory_of memory.old flex.old)) result (cpu.new, memory_of memory.new flex.new) }
-    ensures leaves { LeavesFlex memory.old memory.new flex.new }
-{
-    let start = cpu.register(0);
-    let end = cpu.register(1);
-    begin_flex(memory, flex, start, end)?;
-    Ok(())
 }
 
 fn begin_flex(
@@ -66,20 +85,6 @@ fn begin_flex(
     ensures leaves { LeavesFlex memory.old memory.new flex.new }
 {
     flex.init(memory, start, end)
-}
-
-fn alloc_flex(cpu: &mut Cpu, memory: &mut AddressMap, flex: &mut Flex) -> Result<(), Refusal>
-    requires { CanCallFlex memory.old flex.old }
-    ensures state { Leaves (cpu.old, memory_of memory.old flex.old)
-        (flex_allocated cpu.old (memory_of memory.old flex.old)) result
-        (cpu.new, memory_of memory.new flex.new) }
-    ensures leaves { LeavesFlex memory.old memory.new flex.new }
-{
-    let anchor = cpu.register(0);
-    let size = cpu.register(1);
-    let fits = alloc_block(memory, flex, anchor, size)?;
-    cpu.set_register(0, word_of(fits));
-    Ok(())
 }
 
 fn alloc_block(
@@ -97,18 +102,6 @@ fn alloc_block(
     flex.alloc(memory, anchor, size)
 }
 
-fn release_flex(cpu: &mut Cpu, memory: &mut AddressMap, flex: &mut Flex) -> Result<(), Refusal>
-    requires { CanCallFlex memory.old flex.old }
-    ensures state { Leaves (cpu.old, memory_of memory.old flex.old)
-        (flex_released cpu.old (memory_of memory.old flex.old)) result
-        (cpu.new, memory_of memory.new flex.new) }
-    ensures leaves { LeavesFlex memory.old memory.new flex.new }
-{
-    let anchor = cpu.register(0);
-    release_block(memory, flex, anchor)?;
-    Ok(())
-}
-
 fn release_block(memory: &mut AddressMap, flex: &mut Flex, anchor: u32) -> Result<(), ErrorNumber>
     requires { CanCallFlex memory.old flex.old }
     ensures state { let s = memory_of memory.old flex.old in
@@ -119,36 +112,11 @@ fn release_block(memory: &mut AddressMap, flex: &mut Flex, anchor: u32) -> Resul
     flex.release(memory, anchor)
 }
 
-fn size_flex(cpu: &mut Cpu, memory: &AddressMap, flex: &Flex) -> Result<(), Refusal>
-    requires { CanCallFlex memory.now flex.now }
-    ensures { Leaves (cpu.old, memory_of memory.now flex.now)
-        (flex_sized cpu.old (memory_of memory.now flex.now)) result (cpu.new, memory_of memory.now flex.now) }
-{
-    let anchor = cpu.register(0);
-    let size = block_size(memory, flex, anchor)?;
-    cpu.set_register(0, size);
-    Ok(())
-}
-
 fn block_size(memory: &AddressMap, flex: &Flex, anchor: u32) -> Result<u32, ErrorNumber>
     requires { CanCallFlex memory.now flex.now }
     ensures { result ≡ flex_block_size (state_in (memory_of memory.now flex.now)) anchor }
 {
     flex.size(memory, anchor)
-}
-
-fn extend_flex(cpu: &mut Cpu, memory: &mut AddressMap, flex: &mut Flex) -> Result<(), Refusal>
-    requires { CanCallFlex memory.old flex.old }
-    ensures state { Leaves (cpu.old, memory_of memory.old flex.old)
-        (flex_extended cpu.old (memory_of memory.old flex.old)) result
-        (cpu.new, memory_of memory.new flex.new) }
-    ensures leaves { LeavesFlex memory.old memory.new flex.new }
-{
-    let anchor = cpu.register(0);
-    let size = cpu.register(1);
-    let fits = extend_block(memory, flex, anchor, size)?;
-    cpu.set_register(0, word_of(fits));
-    Ok(())
 }
 
 fn extend_block(
@@ -164,21 +132,6 @@ fn extend_block(
     ensures leaves { LeavesFlex memory.old memory.new flex.new }
 {
     flex.extend(memory, anchor, size)
-}
-
-fn mid_extend_flex(cpu: &mut Cpu, memory: &mut AddressMap, flex: &mut Flex) -> Result<(), Refusal>
-    requires { CanCallFlex memory.old flex.old }
-    ensures state { Leaves (cpu.old, memory_of memory.old flex.old)
-        (flex_mid_extended cpu.old (memory_of memory.old flex.old)) result
-        (cpu.new, memory_of memory.new flex.new) }
-    ensures leaves { LeavesFlex memory.old memory.new flex.new }
-{
-    let anchor = cpu.register(0);
-    let at = cpu.register(1);
-    let by = cpu.register(2);
-    let fits = mid_extend_block(memory, flex, anchor, at, by)?;
-    cpu.set_register(0, word_of(fits));
-    Ok(())
 }
 
 fn mid_extend_block(

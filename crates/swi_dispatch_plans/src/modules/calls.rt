@@ -7,9 +7,9 @@ ghost use Rattle.instances.specs.module_state.ModuleState.{module_state_of};
 ghost use Rattle.swi_dispatch_plans.specs.modules.Calls.{result_of_module_call};
 ghost use Rattle.swi_dispatch_plans.specs.modules.Leaving.{LeavesModuleState};
 
-use crate::modules::area::{claim_block, describe_area, extend_block, free_block};
+use crate::modules::area::describe_area;
 use crate::modules::naming::{find_instance, prefer_instance, print_instance, rename_instance};
-use instances::{Areas, Instances};
+use instances::{Areas, Instances, Rma};
 use os_heap::AddressMap;
 use profile::{ErrorNumber, ModuleReason};
 use swi_dispatch_answers::{Cpu, Refusal};
@@ -34,12 +34,23 @@ pub fn call_module(
         (cpu.new, module_state_of memory.new areas.new instances.new) }
     ensures leaves { LeavesModuleState memory.old memory.new areas.old areas.new instances.old instances.new }
 {
+    let rma = Rma::new();
+    let block = cpu.register(2);
+    let size = cpu.register(3);
     match ModuleReason::of(cpu.register(0)) {
         Some(ModuleReason::DescribeArea) => describe_area(cpu, memory),
-        Some(ModuleReason::Claim) => claim_block(cpu, memory, areas),
-        Some(ModuleReason::Free) => free_block(cpu, memory, areas),
+        Some(ModuleReason::Claim) => {
+            let claimed = rma.claim(memory, areas, size)?;
+            cpu.set_register(2, claimed);
+            Ok(())
+        }
+        Some(ModuleReason::Free) => Ok(rma.free(memory, block)?),
         Some(ModuleReason::Info) => print_instance(cpu, memory, instances),
-        Some(ModuleReason::Extend) => extend_block(cpu, memory, areas),
+        Some(ModuleReason::Extend) => {
+            let place = rma.extend(memory, areas, block, size)?;
+            cpu.set_register(2, place);
+            Ok(())
+        }
         Some(ModuleReason::Rename) => rename_instance(cpu, memory, instances),
         Some(ModuleReason::Prefer) => prefer_instance(cpu, memory, instances),
         Some(ModuleReason::Lookup) => find_instance(cpu, memory, instances),

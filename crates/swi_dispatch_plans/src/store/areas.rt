@@ -3,14 +3,13 @@
 
 ghost use Rattle.std.specs.Prelude.{◌≡◌, Some, None, Err};
 ghost use Rattle.profile.specs.Outcome.{Leaves};
-ghost use Rattle.instances.specs.Changing.{change_answer, area_table_changed, store_changed};
 ghost use Rattle.instances.specs.Ground.{IsAreaStore, area_store_of};
 ghost use Rattle.instances.specs.Kept.{IsAreaMap};
 ghost use Rattle.instances.specs.Rooms.{IsAreaTable};
-ghost use Rattle.swi_dispatch_plans.specs.store.Areas.{area_called, area_changed, area_created, area_enumerated, area_named, area_read, area_removed, area_renumbered, area_shown, change_asked, wanted_of, with_area_table};
+ghost use Rattle.swi_dispatch_plans.specs.store.Areas.{area_called, area_changed, area_created, area_enumerated, area_named, area_read, area_shown, change_asked, wanted_of};
 ghost use Rattle.swi_dispatch_plans.specs.store.Leaving.{LeavesSound};
 
-use instances::{Areas, Changed, Wanted};
+use instances::{Areas, Wanted};
 use os_heap::AddressMap;
 use profile::memory_map::PAGE_SIZE;
 use profile::{AreaReason, ErrorNumber};
@@ -56,10 +55,17 @@ pub fn call_area(cpu: &mut Cpu, memory: &mut AddressMap, areas: &mut Areas) -> R
 {
     match AreaReason::of(cpu.register(0)) {
         Some(AreaReason::Create) => create_area(cpu, memory, areas),
-        Some(AreaReason::Remove) => remove_area(cpu, memory, areas),
+        Some(AreaReason::Remove) => {
+            let number = cpu.register(1);
+            Ok(areas.remove(memory, number)?)
+        }
         Some(AreaReason::Info) => print_area(cpu, memory, areas),
         Some(AreaReason::Enumerate) => next_area(cpu, memory, areas),
-        Some(AreaReason::Renumber) => renumber_area(cpu, memory, areas),
+        Some(AreaReason::Renumber) => {
+            let old = cpu.register(1);
+            let new = cpu.register(2);
+            Ok(areas.renumber(old, new)?)
+        }
         None => Err(Refusal::System(ErrorNumber::AreaBadReason)),
     }
 }
@@ -126,18 +132,6 @@ fn unnamed_error(cpu: &Cpu, memory: &AddressMap, areas: &Areas, wanted: &Wanted)
     }
 }
 
-fn remove_area(cpu: &mut Cpu, memory: &mut AddressMap, areas: &mut Areas) -> Result<(), Refusal>
-    requires state { IsAreaMap memory.old areas.old }
-    ensures state { Leaves (cpu.old, area_store_of memory.old areas.old)
-        (area_removed cpu.old (area_store_of memory.old areas.old)) result
-        (cpu.new, area_store_of memory.new areas.new) }
-    ensures leaves { LeavesSound memory.old memory.new areas.old areas.new }
-{
-    let number = cpu.register(1);
-    areas.remove(memory, number)?;
-    Ok(())
-}
-
 fn print_area(cpu: &mut Cpu, memory: &AddressMap, areas: &Areas) -> Result<(), Refusal>
     requires area_store { IsAreaStore (area_store_of memory.now areas.now) }
     ensures { Leaves (cpu.old, area_store_of memory.now areas.now)
@@ -166,19 +160,6 @@ fn next_area(cpu: &mut Cpu, memory: &AddressMap, areas: &Areas) -> Result<(), Re
     Ok(())
 }
 
-fn renumber_area(cpu: &mut Cpu, memory: &AddressMap, areas: &mut Areas) -> Result<(), Refusal>
-    requires state { IsAreaMap memory.now areas.old }
-    ensures state { Leaves (cpu.old, area_store_of memory.now areas.old)
-        (area_renumbered cpu.old (area_store_of memory.now areas.old)) result
-        (cpu.new, area_store_of memory.now areas.new) }
-    ensures leaves { LeavesSound memory.now memory.now areas.old areas.new }
-{
-    let old = cpu.register(1);
-    let new = cpu.register(2);
-    areas.renumber(old, new)?;
-    Ok(())
-}
-
 /// OS_ChangeDynamicArea: the area of the number in R0 changes by R1 bytes. Pages move even where
 /// not all can, so the call may change something and err. Answers the error with which it ends, if
 /// it does.
@@ -194,22 +175,9 @@ pub fn change_area(cpu: &mut Cpu, memory: &mut AddressMap, areas: &mut Areas) ->
     if let Err(error) = areas.info(number) {
         return Some(error);
     }
-    let changed = resize_area(memory, areas, number, amount);
+    let changed = areas.change(memory, number, amount);
     cpu.set_register(1, changed.bytes);
     changed.error
-}
-
-fn resize_area(memory: &mut AddressMap, areas: &mut Areas, number: u32, amount: u32) -> Changed
-    requires state { IsAreaMap memory.old areas.old }
-    ensures answer { let e = area_store_of memory.old areas.old in
-        result ≡ change_answer e.area_table.areas e.store e.pool number amount }
-    ensures area_store { let e = area_store_of memory.old areas.old in
-        area_store_of memory.new areas.new
-        ≡ with_area_table (store_changed e.store e.area_table.areas number amount result.bytes)
-        (area_table_changed e.area_table number amount result.bytes) }
-    ensures leaves { LeavesSound memory.old memory.new areas.old areas.new }
-{
-    areas.change(memory, number, amount)
 }
 
 /// The error with which OS_ChangeDynamicArea would end; nothing is changed.

@@ -1,3 +1,4 @@
+use Rattle.std.proofs.Common.{refl}
 use Rattle.os_heap.specs.Store.{store_of}
 use Rattle.swi_dispatch_plans.proofs.ModulesLemmas.Leaving.{named_left, nothing_left, private_room, module_state_left}
 use Rattle.swi_dispatch_plans.proofs.modules.calls.call_module.Goals as goal
@@ -10,14 +11,53 @@ pub find_instance-requires : goal.find_instance-requires
 unfolding store_of
 find_instance-requires c = private_room _ _ c.requires.state.area_store
 
-pub returns-in-Some-Claim-clause-leaves : goal.returns-in-Some-Claim-clause-leaves
-returns-in-Some-Claim-clause-leaves c = module_state_left _ _ _ _ _ c.claim_block.ensures.leaves
+pub returns-in_err-claimed-in-Some-Claim-clause-leaves : goal.returns-in_err-claimed-in-Some-Claim-clause-leaves
+returns-in_err-claimed-in-Some-Claim-clause-leaves c =
+    let did = c.claim.ensures.kept in
+    module_state_left _ _ _ _ _
+    (record { area_store = did.area_store; classes = did.classes; others = did.others; flex = did.flex; sizes = did.sizes })
 
-pub returns-in-Some-Free-clause-leaves : goal.returns-in-Some-Free-clause-leaves
-returns-in-Some-Free-clause-leaves c = module_state_left _ _ _ _ _ c.free_block.ensures.leaves
+pub returns-in_ok-claimed-in-Some-Claim-clause-leaves : goal.returns-in_ok-claimed-in-Some-Claim-clause-leaves
+returns-in_ok-claimed-in-Some-Claim-clause-leaves c =
+    let did = c.claim.ensures.kept in
+    module_state_left _ _ _ _ _
+    (record { area_store = did.area_store; classes = did.classes; others = did.others; flex = did.flex; sizes = did.sizes })
 
-pub returns-in-Some-Extend-clause-leaves : goal.returns-in-Some-Extend-clause-leaves
-returns-in-Some-Extend-clause-leaves c = module_state_left _ _ _ _ _ c.extend_block.ensures.leaves
+pub returns-in_err-place-in-Some-Extend-clause-leaves : goal.returns-in_err-place-in-Some-Extend-clause-leaves
+returns-in_err-place-in-Some-Extend-clause-leaves c =
+    let did = c.extend.ensures.kept in
+    module_state_left _ _ _ _ _
+    (record { area_store = did.area_store; classes = did.classes; others = did.others; flex = did.flex; sizes = did.sizes })
+
+pub returns-in_ok-place-in-Some-Extend-clause-leaves : goal.returns-in_ok-place-in-Some-Extend-clause-leaves
+returns-in_ok-place-in-Some-Extend-clause-leaves c =
+    let did = c.extend.ensures.kept in
+    module_state_left _ _ _ _ _
+    (record { area_store = did.area_store; classes = did.classes; others = did.others; flex = did.flex; sizes = did.sizes })
+
+pub returns-in_err-free-in-Some-Free-clause-leaves : goal.returns-in_err-free-in-Some-Free-clause-leaves
+returns-in_err-free-in-Some-Free-clause-leaves c =
+    let did = c.free.ensures.kept in
+    module_state_left _ _ _ _ _
+    (record {
+      area_store = did.area_store c.args.areas.now c.requires.state.area_store;
+      classes = did.classes;
+      others = did.others;
+      flex = did.flex;
+      sizes = refl;
+    })
+
+pub returns-in_ok-free-in-Some-Free-clause-leaves : goal.returns-in_ok-free-in-Some-Free-clause-leaves
+returns-in_ok-free-in-Some-Free-clause-leaves c =
+    let did = c.free.ensures.kept in
+    module_state_left _ _ _ _ _
+    (record {
+      area_store = did.area_store c.args.areas.now c.requires.state.area_store;
+      classes = did.classes;
+      others = did.others;
+      flex = did.flex;
+      sizes = refl;
+    })
 
 pub returns-in-Some-Rename-clause-leaves : goal.returns-in-Some-Rename-clause-leaves
 returns-in-Some-Rename-clause-leaves c =
