@@ -7,7 +7,7 @@ ghost use Rattle.address_map.specs.Records.{is_heap_kind, is_record, class_of_ki
 use crate::class::Class;
 
 /// What the store calls use a range of memory for.
-#[derive(Clone, Copy, Debug, Default, PartialEq, Eq)]
+#[derive(Clone, Copy, Default, PartialEq, Eq)]
 pub enum Kind {
     /// A heap that a guest has made.
     #[default]
@@ -53,7 +53,7 @@ impl Kind {
 }
 
 /// A recorded range of memory: `len` bytes from `at` on.
-#[derive(Clone, Copy, Debug, Default, PartialEq, Eq)]
+#[derive(Clone, Copy, Default, PartialEq, Eq)]
 pub struct Region {
     pub kind: Kind,
     pub at: u32,

@@ -14,7 +14,7 @@ use std::marker::Model;
 ///
 /// The first 15 places of the file are R0 to R14 of the present mode. Those of them that the mode
 /// has for itself stand there in place of the ones of user mode, which stand where they would.
-#[derive(Clone, Copy, Debug)]
+#[derive(Clone, Copy)]
 pub struct Cpu {
     file: [u32; 26],
     psr: Psr,

@@ -7,7 +7,7 @@ use arm_decode::is_bit_set;
 
 /// The four modes of the processor, as bits 1 and 0 of R15 number them (ARM2 data sheet,
 /// "Processor modes").
-#[derive(Clone, Copy, Debug, PartialEq, Eq)]
+#[derive(Clone, Copy, PartialEq, Eq)]
 pub enum Mode {
     /// USR, mode 0.
     User,
@@ -49,7 +49,7 @@ impl Mode {
 }
 
 /// The processor status: what R15 holds beside the program counter (ARM2 data sheet, "Register 15").
-#[derive(Clone, Copy, Debug, PartialEq, Eq)]
+#[derive(Clone, Copy, PartialEq, Eq)]
 pub struct Psr {
     /// N, bit 31.
     pub negative: bool,

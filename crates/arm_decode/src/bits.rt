@@ -7,7 +7,7 @@ use crate::fields::field_of;
 use std::marker::Model;
 
 /// A field of `SIZE` bits of an instruction: a number below 2 to the power of `SIZE`.
-#[derive(Clone, Copy, Debug, PartialEq, Eq)]
+#[derive(Clone, Copy, PartialEq, Eq)]
 pub struct Bits<const SIZE: u32> {
     number: u32,
 }

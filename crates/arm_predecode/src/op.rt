@@ -8,7 +8,7 @@ use profile::word::is_bit_set;
 use std::marker::Model;
 
 /// A word with its parts. What its kind says of them holds.
-#[derive(Clone, Copy, Debug)]
+#[derive(Clone, Copy)]
 pub struct Op {
     /// The word.
     pub word: u32,

@@ -5,7 +5,7 @@ ghost use Rattle.std.specs.Prelude.{◌≡◌};
 use std::marker::Model;
 
 /// The bytes of an assembled program; contracts see it as their list.
-#[derive(Debug, Drop)]
+#[derive(Drop)]
 pub struct Program {
     bytes: Vec<u8>,
 }

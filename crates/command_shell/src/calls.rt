@@ -16,7 +16,7 @@ use profile::images::Images;
 use profile::{Sink, Stop, WriteFault, push_all};
 
 /// A call that a script makes from outside the machine.
-#[derive(Clone, Copy, Debug)]
+#[derive(Clone, Copy)]
 pub enum OutsideCall<'a> {
     /// CALL: a SWI by its number.
     Swi(u32),
@@ -25,7 +25,7 @@ pub enum OutsideCall<'a> {
 }
 
 /// Why such a call goes no further.
-#[derive(Clone, Copy, Debug, PartialEq, Eq)]
+#[derive(Clone, Copy, PartialEq, Eq)]
 pub enum CallEnd {
     /// As many frames are open as before it.
     Returned,

@@ -5,7 +5,7 @@ ghost use Rattle.std.specs.Prelude.{None, false};
 use profile::{Sink, WriteFault};
 
 /// A sink for what was printed before, or isn't to be printed.
-#[derive(Clone, Copy, Debug)]
+#[derive(Clone, Copy)]
 pub struct Nowhere;
 
 impl Sink for Nowhere {

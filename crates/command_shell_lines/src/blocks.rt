@@ -9,7 +9,7 @@ use profile::text_lines::Lines;
 use std::alloc::{AllocError, Global};
 
 /// What the lines of a HEX block spell.
-#[derive(Debug, Drop)]
+#[derive(Drop)]
 pub enum Block {
     /// The bytes of all its lines.
     Bytes(Vec<u8>),

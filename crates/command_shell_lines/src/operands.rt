@@ -8,7 +8,7 @@ use profile::memory_map::ADDRESS_LIMIT;
 use std::marker::Model;
 
 /// A register that a script can set: R0 to R14.
-#[derive(Clone, Copy, Debug)]
+#[derive(Clone, Copy)]
 pub struct RegisterNumber {
     number: u32,
 }
@@ -57,7 +57,7 @@ impl RegisterNumber {
 }
 
 /// The address of a word: a multiple of 4.
-#[derive(Clone, Copy, Debug)]
+#[derive(Clone, Copy)]
 pub struct WordAddress {
     address: u32,
 }
@@ -94,7 +94,7 @@ impl WordAddress {
 }
 
 /// Where a program can be assembled: a multiple of 4 below 2^26.
-#[derive(Clone, Copy, Debug)]
+#[derive(Clone, Copy)]
 pub struct Origin {
     address: u32,
 }

@@ -21,7 +21,7 @@ const MAX_WORDS_SHOWN: u32 = 1024;
 const LOAD: &[u8] = b"LOAD ";
 
 /// What a line of a script asks for.
-#[derive(Clone, Copy, Debug)]
+#[derive(Clone, Copy)]
 pub enum ScriptCommand<'a> {
     /// An empty line.
     Nothing,

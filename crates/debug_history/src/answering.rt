@@ -24,7 +24,7 @@ use profile::text_sink::TextSink;
 use std::alloc::{AllocError, Global};
 
 /// What machines are made of, how many steps a line may take, and where answers are made.
-#[derive(Clone, Copy, Debug)]
+#[derive(Clone, Copy)]
 pub struct PastSetting {
     /// The memory for answers and machines.
     pub alloc: Global,

@@ -11,7 +11,7 @@ use debug_lines::{banked_register_named, register_of_name};
 use profile::text_lines::cut;
 
 /// What a line asks for that has to do with the past.
-#[derive(Clone, Copy, Debug)]
+#[derive(Clone, Copy)]
 pub enum PastCommand {
     /// `BACK n`: the machine as it was so many steps before, at least 1; `BACK` is `BACK 1`.
     Back(u32),

@@ -19,7 +19,7 @@ use profile::Stop;
 use std::alloc::{AllocError, Global};
 
 /// How a machine stands before a line that takes steps.
-#[derive(Clone, Copy, Debug)]
+#[derive(Clone, Copy)]
 pub struct StepsBefore {
     /// Whether it is halted.
     pub is_halted: bool,
@@ -48,7 +48,7 @@ impl StepsBefore {
 }
 
 /// What is known of a line that took steps in modes.
-#[derive(Clone, Copy, Debug)]
+#[derive(Clone, Copy)]
 pub struct SteppingNote {
     /// How the machine stood before it.
     pub before: StepsBefore,

@@ -248,7 +248,7 @@ impl Past {
 }
 
 // Where acts are cut: behind so many, and so many steps of the next one.
-#[derive(Clone, Copy, Debug)]
+#[derive(Clone, Copy)]
 struct Cut {
     index: usize,
     left: u64,

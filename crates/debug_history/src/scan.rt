@@ -20,7 +20,7 @@ use profile::{Config, WriteFault};
 use std::alloc::Global;
 
 // How far a search is: how many steps were counted, what is seen now, and what was found so far.
-#[derive(Clone, Copy, Debug)]
+#[derive(Clone, Copy)]
 struct Scan {
     step: u64,
     seen: Option<u32>,

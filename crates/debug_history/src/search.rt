@@ -14,7 +14,7 @@ use debug_tables::Machine;
 const BLOCK_HEAD: u32 = 4;
 
 /// What is looked for: the last change of a part of the machine, or the last time that it stood somewhere.
-#[derive(Clone, Copy, Debug)]
+#[derive(Clone, Copy)]
 pub enum Sought {
     /// A change of a word.
     Word(WordAddress),
@@ -37,7 +37,7 @@ pub enum Sought {
 }
 
 /// The last time that it was so.
-#[derive(Clone, Copy, Debug)]
+#[derive(Clone, Copy)]
 pub struct PastFound {
     /// How many steps were counted before it.
     pub step: u64,

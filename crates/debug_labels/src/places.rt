@@ -10,7 +10,7 @@ use crate::words::PlaceNames;
 use debugger::Instances;
 
 /// A label of an image, and how many bytes behind it.
-#[derive(Clone, Copy, Debug)]
+#[derive(Clone, Copy)]
 pub struct PlaceLabel<'a> {
     /// The image's name.
     pub image: &'a [u8],

@@ -16,7 +16,7 @@ const MAX_BYTES_FILLED: u32 = 1 << 20;
 const MAX_BYTES_SEARCHED: u32 = 1 << 26;
 
 /// An address, how many bytes, and a text that names bytes.
-#[derive(Clone, Copy, Debug)]
+#[derive(Clone, Copy)]
 pub struct CountedBytes<'a> {
     address: u32,
     count: u32,

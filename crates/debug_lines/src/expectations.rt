@@ -18,7 +18,7 @@ use command_shell_lines::debug_words::{
 use command_shell_lines::{RegisterNumber, WordAddress, number_of};
 
 /// What a line EXPECT says should be so.
-#[derive(Clone, Copy, Debug)]
+#[derive(Clone, Copy)]
 pub enum Expectation<'a> {
     /// `EXPECT R0 v`: a register as the machine's mode has it.
     Register(RegisterNumber, u32),

@@ -7,7 +7,7 @@ ghost use Rattle.debug_lines.specs.FewWords.{AreWordsOf};
 use profile::text_lines::cut;
 
 /// The words of a line, where they are four at most.
-#[derive(Clone, Copy, Debug)]
+#[derive(Clone, Copy)]
 pub enum FewWords<'a> {
     /// One word.
     One(&'a [u8]),

@@ -10,7 +10,7 @@ use command_shell_lines::debug_words::text_behind;
 use command_shell_lines::number_of;
 
 /// A tidy line, and how often it is to be answered.
-#[derive(Clone, Copy, Debug)]
+#[derive(Clone, Copy)]
 pub struct RepeatedLine<'a> {
     /// How often, once at least.
     pub count: u32,

@@ -32,7 +32,7 @@ const MAX_BYTES_SHOWN: u32 = 4096;
 const STACK_WORDS: u32 = 8;
 
 /// What a line asks for that only looks.
-#[derive(Clone, Copy, Debug)]
+#[derive(Clone, Copy)]
 pub enum DebugView {
     /// `WORDS a n`, of 1 to 1024 words.
     Words(WordAddress, u32),

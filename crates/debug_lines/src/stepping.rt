@@ -7,7 +7,7 @@ ghost use Rattle.debug_lines.specs.SteppingRequests.{stepping_in, stepping_reque
 use command_shell_lines::{Origin, ScriptCommand};
 
 /// What a line asks for that takes steps.
-#[derive(Clone, Copy, Debug)]
+#[derive(Clone, Copy)]
 pub enum SteppingCommand<'a> {
     /// `RUN`.
     Run,

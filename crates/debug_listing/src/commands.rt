@@ -14,7 +14,7 @@ use profile::memory_map::PRIVATE_WORDS;
 use std::alloc::{AllocError, Global};
 
 /// A command: its entry, its module's image, and the private word of the module's preferred instance.
-#[derive(Clone, Copy, Debug)]
+#[derive(Clone, Copy)]
 pub struct FoundCommand {
     pub entry: CommandEntry,
     pub image: u32,
@@ -23,7 +23,7 @@ pub struct FoundCommand {
 }
 
 /// What the search for a command came to.
-#[derive(Clone, Copy, Debug)]
+#[derive(Clone, Copy)]
 pub enum CommandSearch {
     /// A table that leads outside its image.
     Outside,

@@ -9,7 +9,7 @@ use command_shell_lines::debug_words::text_behind;
 use command_shell_lines::number_of;
 
 /// What a line asks for that has to do with the code of modules, or with the errors of calls.
-#[derive(Clone, Copy, Debug)]
+#[derive(Clone, Copy)]
 pub enum ModuleRequest<'a> {
     /// `COMMAND name tail`: the command of that name, with what stands behind it.
     Command(&'a [u8], &'a [u8]),

@@ -15,7 +15,7 @@ const TABLE_WORD: u32 = 0x18;
 const MOST_ENTRIES: u32 = 256;
 
 /// An entry of a table: where its name is, and its four words.
-#[derive(Clone, Copy, Debug)]
+#[derive(Clone, Copy)]
 pub struct CommandEntry {
     pub name: u32,
     pub code: u32,
@@ -32,7 +32,7 @@ pub(crate) struct CommandTable {
 }
 
 /// What stands in a table at an address.
-#[derive(Clone, Copy, Debug)]
+#[derive(Clone, Copy)]
 pub(crate) enum EntryRead {
     /// The table's end.
     End,

@@ -19,7 +19,7 @@ use profile::images::Images;
 use std::alloc::{AllocError, Global};
 
 /// Code that is to be entered, and what R0, R1 and R12 are there.
-#[derive(Clone, Copy, Debug)]
+#[derive(Clone, Copy)]
 pub struct ModuleEntry {
     pub code: Origin,
     pub r0: u32,

@@ -32,7 +32,7 @@ use std::alloc::{AllocError, Global};
 use trace_effects::record_text::{Bracket, RecordText};
 
 /// What a line asks for, as far as records tell lines apart.
-#[derive(Clone, Copy, Debug)]
+#[derive(Clone, Copy)]
 pub(crate) enum LineUse<'a> {
     /// Nothing.
     Remark,

@@ -42,7 +42,7 @@ pub(crate) struct Twin {
 
 /// The steps of a line: how many were taken before it, how many of it are shown one by one, and how many
 /// it took.
-#[derive(Clone, Copy, Debug)]
+#[derive(Clone, Copy)]
 pub(crate) struct SteppedLine {
     pub(crate) before: u64,
     pub(crate) limit: u64,

@@ -23,7 +23,7 @@ const MOST_WORDS: u32 = 64;
 
 /// Words in a row through which steps go: so many from an address on. In a loop they begin again at the
 /// first, unless they go on behind the last.
-#[derive(Clone, Copy, Debug)]
+#[derive(Clone, Copy)]
 pub(crate) struct BasicBlock {
     start: u32,
     count: u32,

@@ -14,7 +14,7 @@ use debug_tables::{CallEnd, Session, WatchHit, print_stepped, push_watch};
 use profile::{Sink, Stop, WriteFault, push_parts};
 
 /// What the steps of a line are for.
-#[derive(Clone, Copy, Debug)]
+#[derive(Clone, Copy)]
 pub enum EndKind {
     /// Steps alone; and whether as many are left as the line asks for, where it asks for so many.
     Steps(bool),

@@ -14,7 +14,7 @@ use profile::{Config, Sink, WriteFault};
 use std::alloc::{AllocError, Global};
 
 /// What a debugging script is answered on.
-#[derive(Clone, Copy, Debug)]
+#[derive(Clone, Copy)]
 pub struct DebugSettings {
     /// The sizes of its machines.
     pub config: Config,

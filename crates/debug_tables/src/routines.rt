@@ -19,7 +19,7 @@ pub const ROUTINE_END: u32 = ADDRESS_LIMIT - 4;
 const LINK: u32 = 14;
 
 /// What is as it was once a routine has come back, and what was left of the budget before it.
-#[derive(Clone, Copy, Debug)]
+#[derive(Clone, Copy)]
 pub struct Caller {
     mode: Mode,
     link: u32,

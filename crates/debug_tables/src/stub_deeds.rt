@@ -23,7 +23,7 @@ const KEPT: u32 = 24;
 const GENERATE_ERROR: u32 = 0xEF00_002B;
 
 /// A register of a mode's bank, and its value.
-#[derive(Clone, Copy, Debug)]
+#[derive(Clone, Copy)]
 pub struct BankSetting {
     pub mode: Mode,
     pub register: RegisterNumber,

@@ -13,7 +13,7 @@ use os_heap::{AddressMap, Kind};
 use profile::ErrorNumber;
 
 /// The range of the flex store, in addresses, and how many bytes of it its blocks take up.
-#[derive(Clone, Copy, Debug, PartialEq, Eq)]
+#[derive(Clone, Copy, PartialEq, Eq)]
 pub(crate) struct Extent {
     pub(crate) start: u32,
     pub(crate) end: u32,
@@ -22,7 +22,7 @@ pub(crate) struct Extent {
 
 /// The flex store of a machine, none before `init`. Its blocks stand in memory alone, each after
 /// its header.
-#[derive(Clone, Copy, Debug, Default)]
+#[derive(Clone, Copy, Default)]
 pub struct Flex {
     pub(crate) extent: Option<Extent>,
 }

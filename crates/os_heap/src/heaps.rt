@@ -7,7 +7,7 @@ ghost use Rattle.os_heap.specs.Store.{store_of, heap_in, find_heap};
 use os_heap_words::{AddressMap, Region};
 
 /// The heaps of a machine. Where they start and end stands in the record of the address map, and all else of them in the words of memory alone.
-#[derive(Clone, Copy, Debug, Default)]
+#[derive(Clone, Copy, Default)]
 pub struct Heaps;
 
 impl Heaps {

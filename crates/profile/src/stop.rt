@@ -6,7 +6,7 @@ ghost use Rattle.profile.specs.Status.{status_after};
 use crate::fault::Fault;
 
 /// Why a run of steps ended.
-#[derive(Clone, Copy, Debug, PartialEq, Eq)]
+#[derive(Clone, Copy, PartialEq, Eq)]
 pub enum Stop {
     /// The guest called OS_Exit.
     Exit,

@@ -5,7 +5,7 @@ ghost use Rattle.profile.specs.SwiNames.{swi_name, swi_of};
 
 /// A store call that the machine knows, as the RISC OS 3 Programmer's Reference Manual names it
 /// ("SWI calls by number"). The numbers of the flex calls are this project's own.
-#[derive(Clone, Copy, Debug, PartialEq, Eq)]
+#[derive(Clone, Copy, PartialEq, Eq)]
 pub enum SwiName {
     /// `OS_WriteC`, number &0.
     WriteC,

@@ -9,7 +9,7 @@ use profile::ErrorNumber;
 use profile::memory_map::RMA_START;
 
 /// The module area's heap. It stands in the words of memory alone.
-#[derive(Clone, Copy, Debug, Default)]
+#[derive(Clone, Copy, Default)]
 pub struct Rma;
 
 impl Rma {

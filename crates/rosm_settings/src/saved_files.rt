@@ -14,7 +14,7 @@ use std::fs;
 use std::io::ErrorKind;
 
 /// The bytes that a line SAVE names.
-#[derive(Clone, Copy, Debug)]
+#[derive(Clone, Copy)]
 pub enum SavedBytes<'a> {
     /// Those of the image of this name.
     Image(&'a [u8]),

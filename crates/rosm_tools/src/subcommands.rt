@@ -8,7 +8,7 @@ use std::env::Env;
 use std::process::ExitCode;
 
 /// What the first word names.
-#[derive(Clone, Copy, Debug, PartialEq, Eq)]
+#[derive(Clone, Copy, PartialEq, Eq)]
 pub enum Subcommand {
     /// `debug`.
     Debug,

@@ -21,7 +21,7 @@ pub const MOST_CHANGES: usize = 16;
 const ERROR_BLOCK_BYTES: u32 = 256;
 
 /// A word that differs: its address, its old value and its new one.
-#[derive(Clone, Copy, Debug, Default, PartialEq, Eq)]
+#[derive(Clone, Copy, Default, PartialEq, Eq)]
 pub struct WordChange {
     pub at: u32,
     pub old: u32,
@@ -29,14 +29,14 @@ pub struct WordChange {
 }
 
 /// The words that differ, by address: the first 16 of them, and how many there are.
-#[derive(Clone, Debug, Drop)]
+#[derive(Clone, Drop)]
 pub struct WordChanges {
     pub first: ArrayVec<WordChange, MOST_CHANGES>,
     pub count: u32,
 }
 
 /// Pages from one up to another.
-#[derive(Clone, Copy, Debug, PartialEq, Eq)]
+#[derive(Clone, Copy, PartialEq, Eq)]
 pub struct PageRange {
     pub first: u32,
     pub end: u32,

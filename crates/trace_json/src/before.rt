@@ -16,7 +16,7 @@ use trace_moments::{push_words, stored_changes, words_at};
 use trace_text::{Machine, without_x_bit};
 
 /// How a step is made.
-#[derive(Clone, Copy, Debug, PartialEq, Eq)]
+#[derive(Clone, Copy, PartialEq, Eq)]
 pub enum StepKind {
     /// An instruction that is carried out or skipped, or can't be.
     Instruction,

@@ -12,7 +12,7 @@ use trace_moments::{
 use trace_text::{HeapLimits, ItemChange};
 
 /// Which blocks a step left in another place or with another length.
-#[derive(Clone, Copy, Debug)]
+#[derive(Clone, Copy)]
 pub(crate) enum BlockFate {
     /// Those that slid, where all blocks of a heap are the same.
     Slid,

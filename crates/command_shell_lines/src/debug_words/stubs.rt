@@ -20,7 +20,7 @@ pub const MOST_STUB_REGISTERS: usize = 8;
 pub const MOST_STUB_WORDS: usize = 8;
 
 /// A register that a stub sets.
-#[derive(Clone, Copy, Debug)]
+#[derive(Clone, Copy)]
 pub struct StubRegister {
     pub register: RegisterNumber,
     pub value: u32,
@@ -36,7 +36,7 @@ impl Default for StubRegister {
 }
 
 /// The flags that a stub sets or clears; with `None` a flag stays, but V, which is cleared.
-#[derive(Clone, Copy, Debug, Default, PartialEq, Eq)]
+#[derive(Clone, Copy, Default, PartialEq, Eq)]
 pub struct StubFlags {
     pub negative: Option<bool>,
     pub zero: Option<bool>,

@@ -30,7 +30,7 @@ pub struct SeenMachine<'a> {
 }
 
 /// What is so in place of what should be so.
-#[derive(Clone, Copy, Debug)]
+#[derive(Clone, Copy)]
 pub enum Mismatch<'a> {
     /// A register as the machine's mode has it, and its value.
     Register(u32, u32),

@@ -8,7 +8,7 @@ use profile::{Device, push_all, push_parts};
 use std::rt::Stderr;
 
 /// Says how far a run is, in one line of standard error that goes again.
-#[derive(Clone, Copy, Debug)]
+#[derive(Clone, Copy)]
 pub struct RunMeter {
     errors: Option<Stderr>,
 }

@@ -15,7 +15,7 @@ use std::alloc::{AllocError, Global};
 pub(crate) const GDB_LINE: u64 = 0;
 
 /// What a session is made with.
-#[derive(Clone, Copy, Debug)]
+#[derive(Clone, Copy)]
 pub struct GdbSettings {
     /// The sizes of its machines.
     pub config: Config,

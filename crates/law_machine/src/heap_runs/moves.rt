@@ -8,7 +8,7 @@ use profile::images::Images;
 pub const GIVEN_REGISTERS: usize = 9;
 
 /// A move of a machine.
-#[derive(Clone, Copy, Debug)]
+#[derive(Clone, Copy)]
 pub enum MachineEvent {
     /// A store call from outside: its number, and the words of R0 to R8.
     Call(u32, [u32; GIVEN_REGISTERS]),
@@ -26,7 +26,7 @@ pub struct MachineMoves<'a> {
 }
 
 /// What a heap answers to a call of OS_Heap on it.
-#[derive(Clone, Copy, Debug, PartialEq, Eq)]
+#[derive(Clone, Copy, PartialEq, Eq)]
 pub enum Reply {
     /// R2 and R3.
     Answered(u32, u32),
@@ -41,7 +41,7 @@ impl Default for Reply {
 }
 
 /// Why a list of moves ended.
-#[derive(Clone, Copy, Debug, PartialEq, Eq)]
+#[derive(Clone, Copy, PartialEq, Eq)]
 pub enum End {
     /// All were made, and the machine goes on.
     All,

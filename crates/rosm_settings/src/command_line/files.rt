@@ -6,7 +6,7 @@ use std::alloc::{AllocError, Global};
 use std::marker::Model;
 
 /// A list of texts: the files that a command line names.
-#[derive(Debug, Drop)]
+#[derive(Drop)]
 pub struct Files {
     names: Vec<String>,
 }

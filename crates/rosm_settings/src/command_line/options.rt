@@ -11,7 +11,7 @@ use std::error::Error;
 use std::fmt;
 
 /// What the command line asks for.
-#[derive(Debug, Drop)]
+#[derive(Drop)]
 pub struct Settings {
     /// The sizes of the machine, in pages.
     pub config: Config,

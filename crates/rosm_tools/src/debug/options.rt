@@ -8,7 +8,7 @@ use debug_records::ReportForm;
 use std::alloc::{AllocError, Global};
 
 /// What is written.
-#[derive(Clone, Copy, Debug, PartialEq, Eq)]
+#[derive(Clone, Copy, PartialEq, Eq)]
 pub enum WantedForm {
     /// The answers, in that form, each as soon as its line is read.
     Lines(ReportForm),
@@ -19,7 +19,7 @@ pub enum WantedForm {
 }
 
 /// What a word is.
-#[derive(Clone, Copy, Debug, PartialEq, Eq)]
+#[derive(Clone, Copy, PartialEq, Eq)]
 pub enum WordKind {
     /// `--tap`, `--transcript` or `--json`.
     Form(WantedForm),

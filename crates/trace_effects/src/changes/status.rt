@@ -7,7 +7,7 @@ use arm_core::{Cpu, Mode, Psr};
 use profile::memory_map::ADDRESS_LIMIT;
 
 /// What the status has beside the mode, as bits 31 to 26 of R15.
-#[derive(Clone, Copy, Debug, PartialEq, Eq)]
+#[derive(Clone, Copy, PartialEq, Eq)]
 pub enum Flag {
     Negative,
     Zero,

@@ -298,7 +298,7 @@ impl RecordText {
 }
 
 /// What holds values.
-#[derive(Clone, Copy, Debug, PartialEq, Eq)]
+#[derive(Clone, Copy, PartialEq, Eq)]
 pub enum Bracket {
     Object,
     List,

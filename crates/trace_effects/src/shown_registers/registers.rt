@@ -8,7 +8,7 @@ use arm_core::{Cpu, Mode};
 use arrayvec::ArrayVec;
 
 /// Registers that are written, though their values may stay the same.
-#[derive(Clone, Copy, Debug)]
+#[derive(Clone, Copy)]
 pub struct WrittenRegisters {
     marks: [bool; REGISTERS],
 }

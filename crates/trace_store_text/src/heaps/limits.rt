@@ -16,7 +16,7 @@ const BASE: u32 = 8;
 const END: u32 = 12;
 
 /// Where a heap's items end, and where it ends, in bytes from its start.
-#[derive(Clone, Copy, Debug, PartialEq, Eq)]
+#[derive(Clone, Copy, PartialEq, Eq)]
 pub struct HeapLimits {
     pub base: u32,
     pub end: u32,

@@ -13,7 +13,7 @@ use arrayvec::ArrayVec;
 pub const MOST_ITEMS: usize = 64;
 
 /// An item that is gone or new: its address, and what it is.
-#[derive(Clone, Copy, Debug, PartialEq, Eq)]
+#[derive(Clone, Copy, PartialEq, Eq)]
 pub struct ItemChange {
     pub at: u32,
     pub item: Item,
@@ -31,7 +31,7 @@ impl Default for ItemChange {
 }
 
 /// The items that differ, by address: the first 64 of them, and how many there are.
-#[derive(Clone, Debug, Drop)]
+#[derive(Clone, Drop)]
 pub struct ItemChanges {
     pub first: ArrayVec<ItemChange, MOST_ITEMS>,
     pub count: u32,

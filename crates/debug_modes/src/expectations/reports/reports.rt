@@ -16,7 +16,7 @@ pub const NO_END: &[u8] = b"no END: the block that begins at line ";
 pub const BLOCK_GOES_ON: &[u8] = b" goes on up to a line END, or to the script's end\n";
 
 /// The form in which lines are answered.
-#[derive(Clone, Copy, Debug, PartialEq, Eq)]
+#[derive(Clone, Copy, PartialEq, Eq)]
 pub enum ReportForm {
     /// Each line's answer.
     Answers,
@@ -27,7 +27,7 @@ pub enum ReportForm {
 
 /// How many lines expected something that was so, how many something that wasn't, and how many lines
 /// and blocks were refused. Each counts up to 2^64 - 1.
-#[derive(Clone, Copy, Debug, PartialEq, Eq)]
+#[derive(Clone, Copy, PartialEq, Eq)]
 pub struct CheckTally {
     /// Lines EXPECT that passed.
     pub passed: u64,
