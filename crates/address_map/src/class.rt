@@ -5,7 +5,7 @@ ghost use Rattle.address_map.specs.Classes.{class_number, is_anchor};
 ghost use Rattle.address_map.specs.Memory.{is_plain};
 
 /// What the store calls use a byte of memory for. A guest may write to `Plain` bytes alone.
-#[derive(Clone, Copy, PartialEq, Eq)]
+#[derive(Clone, Copy)]
 pub enum Class {
     /// The guest's own.
     Plain,

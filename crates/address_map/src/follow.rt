@@ -8,7 +8,7 @@ use crate::region::{Kind, Region};
 use arrayvec::ArrayVec;
 
 /// A block that was moved: the addresses of its first byte before and after.
-#[derive(Clone, Copy, Default, PartialEq, Eq)]
+#[derive(Clone, Copy, Default)]
 pub struct BlockMove {
     pub from: u32,
     pub to: u32,

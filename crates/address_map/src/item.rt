@@ -5,7 +5,7 @@ ghost use Rattle.address_map.specs.Items.{total_of};
 
 /// One item of a heap: a block, or free room between blocks. Its total counts all bytes of the
 /// item, its head words too.
-#[derive(Clone, Copy, PartialEq, Eq)]
+#[derive(Clone, Copy)]
 pub enum Item {
     /// A block that was claimed.
     Live(u32),

@@ -7,7 +7,7 @@ use crate::operation::Operation;
 use crate::register::{Register, RegisterList};
 
 /// Data processing: AND to MVN.
-#[derive(Clone, Copy, PartialEq, Eq)]
+#[derive(Clone, Copy)]
 pub struct Operate {
     /// What is computed, bits 24 to 21.
     pub operation: Operation,
@@ -22,7 +22,7 @@ pub struct Operate {
 }
 
 /// MUL and MLA: Rd is Rm times Rs, plus Rn for MLA.
-#[derive(Clone, Copy, PartialEq, Eq)]
+#[derive(Clone, Copy)]
 pub struct Multiply {
     /// Bit 21, A: whether Rn is added.
     pub accumulates: bool,
@@ -39,7 +39,7 @@ pub struct Multiply {
 }
 
 /// LDR and STR.
-#[derive(Clone, Copy, PartialEq, Eq)]
+#[derive(Clone, Copy)]
 pub struct Transfer {
     /// Bit 20, L: whether Rd is loaded or stored.
     pub loads: bool,
@@ -52,7 +52,7 @@ pub struct Transfer {
 }
 
 /// LDM and STM.
-#[derive(Clone, Copy, PartialEq, Eq)]
+#[derive(Clone, Copy)]
 pub struct BlockTransfer {
     /// Bit 20, L: whether the registers are loaded or stored.
     pub loads: bool,
@@ -69,7 +69,7 @@ pub struct BlockTransfer {
 }
 
 /// What an instruction does when its condition holds, with its fields as they stand in the word.
-#[derive(Clone, Copy, PartialEq, Eq)]
+#[derive(Clone, Copy)]
 pub enum Action {
     /// Data processing.
     Operate(Operate),

@@ -11,7 +11,7 @@ use crate::shift::ShiftedRegister;
 use profile::word::is_bit_set;
 
 /// Whether an offset is added to the base or taken from it: bit 23, U.
-#[derive(Clone, Copy, PartialEq, Eq)]
+#[derive(Clone, Copy)]
 pub enum Direction {
     /// U clear: the offset is taken from the base.
     Down,
@@ -20,7 +20,7 @@ pub enum Direction {
 }
 
 /// When the offset is applied, and what bit 21, W, then means: bit 24, P.
-#[derive(Clone, Copy, PartialEq, Eq)]
+#[derive(Clone, Copy)]
 pub enum Indexing {
     /// P clear: the transfer is at the base, which the offset changes afterwards. With W (then T)
     /// the transfer is one of user mode.
@@ -31,7 +31,7 @@ pub enum Indexing {
 }
 
 /// The offset of a single transfer.
-#[derive(Clone, Copy, PartialEq, Eq)]
+#[derive(Clone, Copy)]
 pub enum Offset {
     /// A number of 12 bits, bits 11 to 0.
     Immediate(Bits<12>),
@@ -40,7 +40,7 @@ pub enum Offset {
 }
 
 /// Where a single transfer reads or writes.
-#[derive(Clone, Copy, PartialEq, Eq)]
+#[derive(Clone, Copy)]
 pub struct Address {
     /// When the offset is applied, and whether the base is written back.
     pub indexing: Indexing,
@@ -53,7 +53,7 @@ pub struct Address {
 }
 
 /// Where the words of a block transfer lie beside its base: bits 24 and 23, P and U.
-#[derive(Clone, Copy, PartialEq, Eq)]
+#[derive(Clone, Copy)]
 pub enum BlockMode {
     /// DA: the last word lies at the base.
     DecrementAfter,

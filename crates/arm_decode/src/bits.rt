@@ -7,7 +7,7 @@ use crate::fields::field_of;
 use std::marker::Model;
 
 /// A field of `SIZE` bits of an instruction: a number below 2 to the power of `SIZE`.
-#[derive(Clone, Copy, PartialEq, Eq)]
+#[derive(Clone, Copy)]
 pub struct Bits<const SIZE: u32> {
     number: u32,
 }

@@ -8,7 +8,7 @@ use crate::fields::field_of;
 
 /// When an instruction is carried out, by the flags ("The Condition Field" in the data sheet).
 /// Its code stands in bits 31 to 28.
-#[derive(Clone, Copy, PartialEq, Eq)]
+#[derive(Clone, Copy)]
 pub enum Condition {
     /// EQ: Z set.
     Equal,

@@ -7,7 +7,7 @@ use crate::fields::field_of;
 use profile::Fault;
 
 /// The nine forms of a word in the instruction table.
-#[derive(Clone, Copy, PartialEq, Eq)]
+#[derive(Clone, Copy)]
 pub enum Form {
     /// MUL, MLA.
     Multiply,

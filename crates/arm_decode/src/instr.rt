@@ -12,7 +12,7 @@ use std::marker::Model;
 /// An instruction of the ARM2: a condition, and what is done when it holds.
 ///
 /// Contracts see it as that pair. One that the table refuses doesn't exist.
-#[derive(Clone, Copy, PartialEq, Eq)]
+#[derive(Clone, Copy)]
 pub struct Instr {
     condition: Condition,
     action: Action,

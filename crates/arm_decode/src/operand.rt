@@ -5,7 +5,7 @@ use crate::register::Register;
 use crate::shift::{Shift, ShiftedRegister};
 
 /// The second operand of data processing.
-#[derive(Clone, Copy, PartialEq, Eq)]
+#[derive(Clone, Copy)]
 pub enum Operand {
     /// A byte (bits 7 to 0) rotated right by twice the `rotation` (bits 11 to 8).
     Immediate {

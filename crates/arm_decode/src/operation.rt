@@ -8,7 +8,7 @@ use crate::fields::field_of;
 
 /// What a data processing instruction computes ("Data processing" in the data sheet). Its code
 /// stands in bits 24 to 21.
-#[derive(Clone, Copy, PartialEq, Eq)]
+#[derive(Clone, Copy)]
 pub enum Operation {
     /// AND: Rn and operand 2.
     And,

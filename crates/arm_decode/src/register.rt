@@ -7,7 +7,7 @@ use crate::fields::field_of;
 use std::marker::Model;
 
 /// One of the registers R0 to R15. R15 holds the program counter.
-#[derive(Clone, Copy, Default, PartialEq, Eq)]
+#[derive(Clone, Copy, Default)]
 pub struct Register {
     number: u8,
 }
@@ -57,7 +57,7 @@ impl Register {
 }
 
 /// The registers of a block transfer, as 16 bits: bit n is set where Rn is in the list.
-#[derive(Clone, Copy, PartialEq, Eq)]
+#[derive(Clone, Copy)]
 pub struct RegisterList {
     bits: u16,
 }

@@ -10,7 +10,7 @@ use crate::fields::field_of;
 use crate::register::Register;
 
 /// How a register is shifted ("Shifts" in the data sheet). Its code stands in bits 6 and 5.
-#[derive(Clone, Copy, PartialEq, Eq)]
+#[derive(Clone, Copy)]
 pub enum Shift {
     /// LSL: zeros come in below.
     LogicalLeft,
@@ -26,7 +26,7 @@ pub enum Shift {
 ///
 /// An `amount` of 0 is no shift for LSL, 32 for LSR and ASR, and RRX for ROR: one place to the
 /// right through C.
-#[derive(Clone, Copy, PartialEq, Eq)]
+#[derive(Clone, Copy)]
 pub struct ShiftedRegister {
     /// The register, in bits 3 to 0.
     pub rm: Register,

@@ -6,7 +6,7 @@ ghost use Rattle.arm_decode.specs.Shifted.{shifted_left, shifted_right, shifted_
 use profile::word::is_bit_set;
 
 /// A shifted word and the last bit that was shifted out.
-#[derive(Clone, Copy, PartialEq, Eq)]
+#[derive(Clone, Copy)]
 pub struct Shifted {
     /// The word after the shift.
     pub value: u32,

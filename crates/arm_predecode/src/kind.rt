@@ -2,7 +2,7 @@
 
 /// How a word is carried out. The registers that its parts name are R0 to R14, in all kinds but
 /// `Slow`, `Conditional` and `Interrupt`.
-#[derive(Clone, Copy, PartialEq, Eq)]
+#[derive(Clone, Copy)]
 pub enum OpKind {
     /// By its fields, as any word can be.
     Slow,

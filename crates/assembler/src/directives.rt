@@ -7,7 +7,7 @@ use assembler_reading::{Read, after_word, byte, is_name, word};
 use profile::memory_map::MOST_BYTES;
 
 /// What the items of a list are.
-#[derive(Clone, Copy, PartialEq, Eq)]
+#[derive(Clone, Copy)]
 pub enum Data {
     /// Those of DCD.
     Words,
@@ -16,7 +16,7 @@ pub enum Data {
 }
 
 /// What a line that is no instruction asks for.
-#[derive(Clone, Copy, PartialEq, Eq)]
+#[derive(Clone, Copy)]
 pub enum Directive {
     /// The items of a list, one after another.
     Listed(Data),

@@ -8,7 +8,7 @@ use std::fmt;
 
 /// The line of a source that is refused, and why: the first line of the first pass that finds one,
 /// and in it the first reason of [`Reason`]'s list.
-#[derive(Clone, Copy, Debug, PartialEq, Eq)]
+#[derive(Clone, Copy, Debug)]
 pub struct AsmError {
     /// The line's number, from 1; 0 for want of memory.
     pub line: usize,

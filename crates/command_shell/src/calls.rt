@@ -25,7 +25,7 @@ pub enum OutsideCall<'a> {
 }
 
 /// Why such a call goes no further.
-#[derive(Clone, Copy, PartialEq, Eq)]
+#[derive(Clone, Copy)]
 pub enum CallEnd {
     /// As many frames are open as before it.
     Returned,

@@ -18,7 +18,7 @@ use std::marker::Model;
 pub const MOST_WATCHES: usize = 4;
 
 /// Why a watch is not taken, or not taken away.
-#[derive(Clone, Copy, PartialEq, Eq)]
+#[derive(Clone, Copy)]
 pub enum WordWatchError {
     /// There are 4 other watches already.
     WatchTableFull,
@@ -39,7 +39,7 @@ impl WordWatchError {
 }
 
 /// A watched word that has changed: what it is now, and what it was, where it is mapped.
-#[derive(Clone, Copy, PartialEq, Eq)]
+#[derive(Clone, Copy)]
 pub struct WatchHit {
     pub address: u32,
     pub now: Option<u32>,
@@ -47,7 +47,7 @@ pub struct WatchHit {
 }
 
 /// A watched word as it is before a step, where it is mapped.
-#[derive(Clone, Copy, Default, PartialEq, Eq)]
+#[derive(Clone, Copy, Default)]
 pub struct WatchedWord {
     pub address: u32,
     pub was: Option<u32>,

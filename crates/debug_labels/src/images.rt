@@ -8,7 +8,7 @@ use crate::words::PlaceNames;
 use debugger::Instances;
 
 /// Where an image stands now, and how many bytes it has.
-#[derive(Clone, Copy, PartialEq, Eq)]
+#[derive(Clone, Copy)]
 pub struct ImagePlace {
     /// The address of its first byte.
     pub start: u32,

@@ -11,7 +11,7 @@ use profile::text_lines::cut_line;
 use std::alloc::{AllocError, Global};
 
 /// Where a reading stands that looks for lines END.
-#[derive(Clone, Copy, PartialEq, Eq)]
+#[derive(Clone, Copy)]
 pub enum BlockPlace {
     /// In no block.
     Outside,

@@ -7,7 +7,7 @@ use crate::few_words::has_letters;
 use arm_core::Mode;
 
 /// Of a processor status the flags and the mode that a line shows; `None` where it doesn't.
-#[derive(Clone, Copy, PartialEq, Eq)]
+#[derive(Clone, Copy)]
 pub struct StatusPattern {
     /// N, bit 31.
     pub negative: Option<bool>,

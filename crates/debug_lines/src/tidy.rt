@@ -6,7 +6,7 @@ ghost use Rattle.debug_lines.specs.Tidy.{is_blank, is_comment_start, tidy_bytes,
 use std::alloc::{AllocError, Global};
 
 /// Where the pass over a line's bytes stands.
-#[derive(Clone, Copy, PartialEq, Eq)]
+#[derive(Clone, Copy)]
 pub enum TidyState {
     /// Only blanks were read.
     AtStart,

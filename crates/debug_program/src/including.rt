@@ -21,7 +21,7 @@ const TOO_MUCH: &str = "more than 1048576 bytes with what it includes";
 const NO_FILE: &str = "INCLUDE wants one file";
 
 /// Why a file isn't read that a script includes, or isn't written that it saves.
-#[derive(PartialEq, Eq, Drop)]
+#[derive(Drop)]
 pub enum FileFault {
     /// Memory ran out.
     Memory,
@@ -66,7 +66,7 @@ pub trait ScriptFiles {
 }
 
 /// Why a script can't be read on.
-#[derive(PartialEq, Eq, Drop)]
+#[derive(Drop)]
 pub enum IncludeRefusal {
     /// Memory ran out.
     Memory,

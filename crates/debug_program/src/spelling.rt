@@ -9,7 +9,7 @@ ghost use Rattle.debug_program.specs.Spelling.{end_text, sign_of, spelt, spelt_b
 use profile::{Sink, WriteFault, push_all};
 
 /// What a text of a transcript is.
-#[derive(Clone, Copy, PartialEq, Eq)]
+#[derive(Clone, Copy)]
 pub enum Side {
     /// Lines that are typed.
     Typed,

@@ -24,7 +24,7 @@ use debug_tables::{Machine, OutsideCall, Session, WatchHit, WatchedWord, first_c
 use profile::{Stop, WriteFault};
 
 /// What a run is for.
-#[derive(Clone, Copy, PartialEq, Eq)]
+#[derive(Clone, Copy)]
 pub enum RunGoal {
     /// Nothing: it ends where it is stopped.
     Nowhere,
@@ -35,7 +35,7 @@ pub enum RunGoal {
 }
 
 /// Why a run goes no further.
-#[derive(Clone, Copy, PartialEq, Eq)]
+#[derive(Clone, Copy)]
 pub enum RunEnd {
     /// The goal is reached.
     Reached,

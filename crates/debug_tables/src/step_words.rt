@@ -7,7 +7,7 @@ use arm_decode::{Form, row_of};
 use profile::word::is_bit_set;
 
 /// What a word does to memory, carried out or not, and where its step goes on, where it is done.
-#[derive(Clone, Copy, PartialEq, Eq)]
+#[derive(Clone, Copy)]
 pub enum WordFlow {
     /// Memory stays, and the next word comes next.
     Straight,

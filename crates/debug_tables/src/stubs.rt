@@ -19,7 +19,7 @@ pub const MOST_STUBS: usize = 64;
 
 /// Why a stub is not taken, or not taken away. Where several reasons hold, the first of this list is
 /// given.
-#[derive(Clone, Copy, PartialEq, Eq)]
+#[derive(Clone, Copy)]
 pub enum StubError {
     /// The machine has the call, of its own or of a module's.
     Known,

@@ -21,7 +21,7 @@ pub struct Area {
 }
 
 /// Where an area lies, in bytes. The maximum is there where it was asked for.
-#[derive(Clone, Copy, PartialEq, Eq)]
+#[derive(Clone, Copy)]
 pub struct Extent {
     pub base: u32,
     pub size: u32,
@@ -30,7 +30,7 @@ pub struct Extent {
 
 /// The words of a call for a new area. A number, a base or a maximum of -1 leaves it to the call;
 /// sizes are in bytes.
-#[derive(Clone, Copy, PartialEq, Eq)]
+#[derive(Clone, Copy)]
 pub struct Wanted {
     pub number: u32,
     pub size: u32,
@@ -42,7 +42,7 @@ pub struct Wanted {
 }
 
 /// The number, the base and the maximum, in bytes, that a new area has got.
-#[derive(Clone, Copy, PartialEq, Eq)]
+#[derive(Clone, Copy)]
 pub struct Created {
     pub number: u32,
     pub base: u32,
@@ -51,7 +51,7 @@ pub struct Created {
 
 /// How many bytes a change of an area's size has moved, to the area or from it; and where these are
 /// not all that were asked for, why.
-#[derive(Clone, Copy, PartialEq, Eq)]
+#[derive(Clone, Copy)]
 pub struct Changed {
     pub bytes: u32,
     pub error: Option<ErrorNumber>,

@@ -15,7 +15,7 @@ use std::marker::Model;
 
 /// A block of the flex store: the address of its anchor, that of its bytes, and how many of these
 /// are its guest's own.
-#[derive(Clone, Copy, PartialEq, Eq)]
+#[derive(Clone, Copy)]
 pub struct FlexBlock {
     pub anchor: u32,
     pub at: u32,

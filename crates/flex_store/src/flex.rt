@@ -13,7 +13,7 @@ use os_heap::{AddressMap, Kind};
 use profile::ErrorNumber;
 
 /// The range of the flex store, in addresses, and how many bytes of it its blocks take up.
-#[derive(Clone, Copy, PartialEq, Eq)]
+#[derive(Clone, Copy)]
 pub(crate) struct Extent {
     pub(crate) start: u32,
     pub(crate) end: u32,

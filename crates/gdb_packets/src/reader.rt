@@ -15,7 +15,7 @@ use std::marker::Model;
 pub const MOST_PACKET: usize = 16384;
 
 /// What a byte completes.
-#[derive(Clone, Copy, PartialEq, Eq)]
+#[derive(Clone, Copy)]
 pub enum Piece {
     /// A packet that is whole, with the right sum.
     Packet,

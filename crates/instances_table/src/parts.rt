@@ -10,14 +10,14 @@ pub type Name = ArrayVec<u8, MOST_NAME_BYTES>;
 
 /// Where a module's image stands: its address, and its length in bytes. One in the module area is a
 /// block there, and any other was inserted in place.
-#[derive(Clone, Copy, Default, PartialEq, Eq)]
+#[derive(Clone, Copy, Default)]
 pub struct Image {
     pub at: u32,
     pub len: u32,
 }
 
 /// An instance, as OS_Module shows it: the number of its module, and its own in it, both from 0.
-#[derive(Clone, Copy, PartialEq, Eq)]
+#[derive(Clone, Copy)]
 pub struct Place {
     pub number: u32,
     pub instance: u32,
@@ -25,7 +25,7 @@ pub struct Place {
 
 /// What OS_Module 12 reports an instance: the place after it, its module's image, and the slot of
 /// its private word.
-#[derive(Clone, Copy, PartialEq, Eq)]
+#[derive(Clone, Copy)]
 pub struct Information {
     pub next: Place,
     pub image: u32,
@@ -45,7 +45,7 @@ pub struct ModuleInfo {
 
 /// Where a SWI of a module is handled: the address of its handler, and the slot of its preferred
 /// instance.
-#[derive(Clone, Copy, PartialEq, Eq)]
+#[derive(Clone, Copy)]
 pub struct Handler {
     pub at: u32,
     pub slot: u32,

@@ -15,7 +15,7 @@ use os_heap_words::blocks::{Blocks, blocks_of};
 use os_heap_words::{AddressMap, HEAP_DESCRIPTOR, Item, Region};
 
 /// Where a byte lies among the heaps.
-#[derive(Clone, Copy, PartialEq, Eq)]
+#[derive(Clone, Copy)]
 pub enum Payload {
     /// In no heap.
     Outside,

@@ -11,7 +11,7 @@ use std::marker::Model;
 ///
 /// There is at least one page of application space and one of module area, at most 1024 pages in
 /// all, and room for everything.
-#[derive(Clone, Copy, PartialEq, Eq)]
+#[derive(Clone, Copy)]
 pub struct Config {
     pages: u32,
     app: u32,

@@ -8,7 +8,7 @@ ghost use Rattle.profile.specs.ErrorNames.{error_code, error_name};
 /// RISC OS leaves numbers and texts to the modules that raise them ("Generating and handling
 /// errors" in the RISC OS 3 Programmer's Reference Manual); these are this project's own. The
 /// text of each is its name, but that a block which holds a heap has one text for both its numbers.
-#[derive(Clone, Copy, PartialEq, Eq)]
+#[derive(Clone, Copy)]
 pub enum ErrorNumber {
     /// A reason that OS_Heap does not know.
     HeapBadReason = 1,

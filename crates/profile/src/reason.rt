@@ -4,7 +4,7 @@ ghost use Rattle.std.specs.Prelude.{◌≡◌};
 ghost use Rattle.profile.specs.Reasons.{area_reason, heap_reason, module_reason};
 
 /// A reason of OS_Heap (RISC OS 3 Programmer's Reference Manual, "OS_Heap").
-#[derive(Clone, Copy, PartialEq, Eq)]
+#[derive(Clone, Copy)]
 pub enum HeapReason {
     /// 0: a heap is made.
     Initialise,
@@ -42,7 +42,7 @@ impl HeapReason {
 
 /// A reason of OS_DynamicArea (RISC OS 3 Programmer's Reference Manual, supplement,
 /// "OS_DynamicArea").
-#[derive(Clone, Copy, PartialEq, Eq)]
+#[derive(Clone, Copy)]
 pub enum AreaReason {
     /// 0: an area is made.
     Create,
@@ -74,7 +74,7 @@ impl AreaReason {
 
 /// A reason of OS_Module (RISC OS 3 Programmer's Reference Manual, "OS_Module"). Reason 17, which
 /// adds a module of an expansion card, is left out.
-#[derive(Clone, Copy, PartialEq, Eq)]
+#[derive(Clone, Copy)]
 pub enum ModuleReason {
     /// 0: a module is loaded and entered.
     Run,

@@ -6,7 +6,7 @@ ghost use Rattle.profile.specs.Word.{bit_of};
 ghost use Rattle.profile.specs.Sums.{sum_of, difference_of};
 
 /// A sum or a difference of two words.
-#[derive(Clone, Copy, PartialEq, Eq)]
+#[derive(Clone, Copy)]
 pub struct Sum {
     /// The exact result modulo 2^32.
     pub value: u32,

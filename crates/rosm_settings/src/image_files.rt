@@ -18,7 +18,7 @@ use std::path::Path;
 use std::{fmt, fs, io};
 
 /// Why a file gives no image.
-#[derive(Clone, Copy, Debug, PartialEq, Eq)]
+#[derive(Clone, Copy, Debug)]
 pub enum FileError {
     /// There is no such file.
     Missing,

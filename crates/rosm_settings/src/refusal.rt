@@ -10,7 +10,7 @@ use std::error::Error;
 use std::fmt;
 
 /// Why the program ends without having run its script whole. The text is one line.
-#[derive(Debug, PartialEq, Eq, Drop)]
+#[derive(Debug, Drop)]
 pub enum SettingsRefusal<'a> {
     /// Memory ran out while the command line was read.
     Memory,

@@ -8,7 +8,7 @@ use std::env::Env;
 use std::process::ExitCode;
 
 /// What the first word names.
-#[derive(Clone, Copy, PartialEq, Eq)]
+#[derive(Clone, Copy)]
 pub enum Subcommand {
     /// `debug`.
     Debug,

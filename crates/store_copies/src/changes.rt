@@ -21,7 +21,7 @@ pub const MOST_CHANGES: usize = 16;
 const ERROR_BLOCK_BYTES: u32 = 256;
 
 /// A word that differs: its address, its old value and its new one.
-#[derive(Clone, Copy, Default, PartialEq, Eq)]
+#[derive(Clone, Copy, Default)]
 pub struct WordChange {
     pub at: u32,
     pub old: u32,
@@ -36,7 +36,7 @@ pub struct WordChanges {
 }
 
 /// Pages from one up to another.
-#[derive(Clone, Copy, PartialEq, Eq)]
+#[derive(Clone, Copy)]
 pub struct PageRange {
     pub first: u32,
     pub end: u32,

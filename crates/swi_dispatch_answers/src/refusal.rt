@@ -5,7 +5,7 @@ ghost use Rattle.std.specs.Prelude.{◌≡◌};
 use profile::ErrorNumber;
 
 /// Why a store call was refused.
-#[derive(Clone, Copy, PartialEq, Eq)]
+#[derive(Clone, Copy)]
 pub enum Refusal {
     /// An error of the system, which goes to the error block with its text.
     System(ErrorNumber),

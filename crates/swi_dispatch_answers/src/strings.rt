@@ -15,7 +15,7 @@ use profile::memory_map::ADDRESS_LIMIT;
 pub const MAX_TEXT: usize = 255;
 
 /// What ends a string in memory.
-#[derive(Clone, Copy, PartialEq, Eq)]
+#[derive(Clone, Copy)]
 pub enum TextEnd {
     /// A zero byte, as of strings to be printed.
     Zero,

@@ -7,7 +7,7 @@ use std::error::Error;
 use std::fmt;
 
 /// Why a program was not copied into the application space.
-#[derive(Clone, Copy, Debug, PartialEq, Eq)]
+#[derive(Clone, Copy, Debug)]
 pub enum BootError {
     /// The machine is no longer as it was made.
     Booted,

@@ -6,7 +6,7 @@ use profile::{Fault, Stop};
 
 /// Why a machine takes no further step. A budget and a break are answers of a run and never stand
 /// in the machine.
-#[derive(Clone, Copy, PartialEq, Eq)]
+#[derive(Clone, Copy)]
 pub enum Halt {
     /// The guest called OS_Exit.
     Exit,

@@ -20,7 +20,7 @@ use swi_dispatch_plans::Images;
 
 /// Why a run ended, and how many of its steps count against a budget: all but one that ended in a
 /// fault.
-#[derive(Clone, Copy, PartialEq, Eq)]
+#[derive(Clone, Copy)]
 pub struct Ran {
     pub stop: Stop,
     pub taken: u64,

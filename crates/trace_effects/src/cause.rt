@@ -11,7 +11,7 @@ use arm_step::AddressMap;
 use profile::memory_map::RETURN_GATE;
 
 /// What stands where a core goes on.
-#[derive(Clone, Copy, PartialEq, Eq)]
+#[derive(Clone, Copy)]
 pub enum Cause {
     /// The return gate, where module code goes back.
     Gate,

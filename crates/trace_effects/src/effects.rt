@@ -15,7 +15,7 @@ use arm_decode::{Form, decode, row_of};
 
 /// What a step asks for outside of the core: the software interrupt that is taken, if it is one, the words
 /// that it stores to and loads, and the register that an LDR loads.
-#[derive(Clone, Copy, PartialEq, Eq)]
+#[derive(Clone, Copy)]
 pub struct Effects {
     pub swi: Option<u32>,
     pub stored: StoredWords,

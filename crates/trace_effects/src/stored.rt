@@ -13,7 +13,7 @@ use arm_decode::{
 };
 
 /// So many words of memory, the first of them at an address.
-#[derive(Clone, Copy, PartialEq, Eq)]
+#[derive(Clone, Copy)]
 pub struct StoredWords {
     pub at: u32,
     pub count: u32,

@@ -5,7 +5,7 @@ ghost use Rattle.trace_json.specs.declared.others.TextPlace.TheVariants.{Outside
 ghost use Rattle.trace_json.specs.OtherFields.{are_others, begins_with_name, place_closed, closes, is_outermost, place_opened, opens, text_place_after};
 
 /// Where a byte of a text stands, within so many brackets.
-#[derive(Clone, Copy, PartialEq, Eq)]
+#[derive(Clone, Copy)]
 enum TextPlace {
     /// Outside of strings.
     Outside(u32),

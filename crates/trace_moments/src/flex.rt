@@ -12,7 +12,7 @@ use std::alloc::{AllocError, Global};
 use trace_store_text::flex::{find_block, is_same_block};
 
 /// Where the flex store starts and ends, and how many of its bytes its blocks take up.
-#[derive(Clone, Copy, PartialEq, Eq)]
+#[derive(Clone, Copy)]
 pub struct FlexRange {
     pub start: u32,
     pub end: u32,
@@ -20,7 +20,7 @@ pub struct FlexRange {
 }
 
 /// The block of an anchor, as it was and as it is: one of them where it is new or gone.
-#[derive(Clone, Copy, PartialEq, Eq)]
+#[derive(Clone, Copy)]
 pub struct FlexChange {
     pub anchor: u32,
     pub was: Option<FlexBlock>,

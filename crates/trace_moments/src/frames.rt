@@ -10,14 +10,14 @@ use trace_store_text::frame_words::innermost;
 
 /// What records show of a frame: what its code was entered for, and the slot of the instance whose code
 /// it is.
-#[derive(Clone, Copy, PartialEq, Eq)]
+#[derive(Clone, Copy)]
 pub struct ShownFrame {
     pub kind: FrameKind,
     pub slot: u32,
 }
 
 /// How many frames are kept, where some are left, and the one that is entered then, if one is.
-#[derive(Clone, Copy, PartialEq, Eq)]
+#[derive(Clone, Copy)]
 pub struct FrameChanges {
     pub kept: Option<usize>,
     pub entered: Option<ShownFrame>,

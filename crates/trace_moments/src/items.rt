@@ -87,7 +87,7 @@ fn is_same(old: Option<Item>, new: Option<Item>) -> bool
 
 /// A block of a heap that is the same one at another address, or with another length; both with all
 /// their bytes, at the addresses of their first words.
-#[derive(Clone, Copy, PartialEq, Eq)]
+#[derive(Clone, Copy)]
 pub struct SameBlock {
     pub from: u32,
     pub old_total: u32,

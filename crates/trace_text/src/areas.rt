@@ -12,7 +12,7 @@ use std::alloc::{AllocError, Global};
 use trace_store_text::Area;
 
 /// What a trace keeps of an area: its number, and how many pages it has.
-#[derive(Clone, Copy, Default, PartialEq, Eq)]
+#[derive(Clone, Copy, Default)]
 pub struct AreaMark {
     pub number: u32,
     pub pages: u32,

@@ -30,7 +30,7 @@ use trace_store_text::frame_words::innermost;
 use trace_store_text::{Frame, Machine, StoreCopy, without_x_bit};
 
 /// How a step is shown.
-#[derive(Clone, Copy, PartialEq, Eq)]
+#[derive(Clone, Copy)]
 pub enum Taking {
     /// An instruction that is carried out or skipped, or can't be.
     Instruction,

@@ -11,7 +11,7 @@ use std::fmt;
 use std::marker::Model;
 
 /// Why a break was not set or not taken away.
-#[derive(Clone, Copy, Debug, PartialEq, Eq)]
+#[derive(Clone, Copy, Debug)]
 pub enum BreakError {
     /// The address is no multiple of 4.
     Unaligned,

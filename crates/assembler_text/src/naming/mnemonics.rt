@@ -8,7 +8,7 @@ use crate::naming::words::is_name;
 use arm_decode::{BlockMode, Condition, Operation};
 
 /// What the operands of an instruction are read for.
-#[derive(Clone, Copy, PartialEq, Eq)]
+#[derive(Clone, Copy)]
 pub enum Command {
     /// AND to MVN. The flag is S, or of a test P.
     Operate {
@@ -40,7 +40,7 @@ pub enum Command {
 }
 
 /// The first word of an instruction.
-#[derive(Clone, Copy, PartialEq, Eq)]
+#[derive(Clone, Copy)]
 pub struct Mnemonic {
     /// When the instruction is carried out.
     pub condition: Condition,

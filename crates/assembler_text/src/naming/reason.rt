@@ -3,7 +3,7 @@
 use thiserror::Error;
 
 /// Why a source has no program. The text of a reason is its name.
-#[derive(Clone, Copy, Debug, PartialEq, Eq, Error)]
+#[derive(Clone, Copy, Debug, Error)]
 pub enum Reason {
     /// The line isn't one of the grammar's.
     #[error("Syntax")]

@@ -9,7 +9,7 @@ use crate::hex_pair;
 use std::alloc::{AllocError, Global};
 
 /// Where the reading of a text between quotes stands.
-#[derive(Clone, Copy, PartialEq, Eq)]
+#[derive(Clone, Copy)]
 pub enum EscapeState {
     /// Behind a byte that is whole.
     Plain,
@@ -22,7 +22,7 @@ pub enum EscapeState {
 }
 
 /// What a byte of such a text does.
-#[derive(Clone, Copy, PartialEq, Eq)]
+#[derive(Clone, Copy)]
 pub enum EscapeStep {
     /// It can't stand there.
     Bad,

@@ -36,7 +36,7 @@ impl Default for StubRegister {
 }
 
 /// The flags that a stub sets or clears; with `None` a flag stays, but V, which is cleared.
-#[derive(Clone, Copy, Default, PartialEq, Eq)]
+#[derive(Clone, Copy, Default)]
 pub struct StubFlags {
     pub negative: Option<bool>,
     pub zero: Option<bool>,

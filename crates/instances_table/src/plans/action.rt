@@ -2,7 +2,7 @@
 
 /// One action of a module call. Instances are named by their slots, which stay while places in
 /// lists move.
-#[derive(Clone, Copy, PartialEq, Eq)]
+#[derive(Clone, Copy)]
 pub enum PlanAction {
     /// The finalisation entry of an instance runs; the flag says whether it is fatal.
     Finalise(u32, bool),

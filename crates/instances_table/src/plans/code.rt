@@ -6,7 +6,7 @@ ghost use Rattle.instances_table.specs.plans.Code.{private_of};
 use profile::images::module_header::{ErrorNumber, PRIVATE_WORDS};
 
 /// Which of its entries a module is entered at.
-#[derive(Clone, Copy, PartialEq, Eq)]
+#[derive(Clone, Copy)]
 pub enum CodeKind {
     Initialise,
     Finalise,
@@ -15,7 +15,7 @@ pub enum CodeKind {
 /// Module code that is to be entered: the instance's slot, the address, and R10 to R12 on entry
 /// (RISC OS 3 Programmer's Reference Manual, "Modules", "Initialisation entry point" and
 /// "Finalisation entry point").
-#[derive(Clone, Copy, PartialEq, Eq)]
+#[derive(Clone, Copy)]
 pub struct Code {
     pub kind: CodeKind,
     pub slot: u32,
@@ -27,7 +27,7 @@ pub struct Code {
 
 /// What module code left: `Well`, or its own error with the R0 that it left. Where no code ran it
 /// is `Well`.
-#[derive(Clone, Copy, PartialEq, Eq)]
+#[derive(Clone, Copy)]
 pub enum Outcome {
     Well,
     Refused(u32),
@@ -35,7 +35,7 @@ pub enum Outcome {
 
 /// How a call ends: without an error, with one of the system, or with a module's own, whose R0
 /// stands in R0 then.
-#[derive(Clone, Copy, PartialEq, Eq)]
+#[derive(Clone, Copy)]
 pub enum Ended {
     Well,
     System(ErrorNumber),
@@ -44,7 +44,7 @@ pub enum Ended {
 
 /// What one turn of a plan asks for: the next turn, the entry of module code, or the end of the
 /// call.
-#[derive(Clone, Copy, PartialEq, Eq)]
+#[derive(Clone, Copy)]
 pub enum Advance {
     Next,
     Code(Code),

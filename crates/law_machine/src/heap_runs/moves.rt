@@ -26,7 +26,7 @@ pub struct MachineMoves<'a> {
 }
 
 /// What a heap answers to a call of OS_Heap on it.
-#[derive(Clone, Copy, PartialEq, Eq)]
+#[derive(Clone, Copy)]
 pub enum Reply {
     /// R2 and R3.
     Answered(u32, u32),
@@ -41,7 +41,7 @@ impl Default for Reply {
 }
 
 /// Why a list of moves ended.
-#[derive(Clone, Copy, PartialEq, Eq)]
+#[derive(Clone, Copy)]
 pub enum End {
     /// All were made, and the machine goes on.
     All,

@@ -9,7 +9,7 @@ use std::error::Error;
 use std::fmt;
 
 /// Why an image is not taken. Where several reasons hold, the first of this list is given.
-#[derive(Clone, Copy, Debug, PartialEq, Eq)]
+#[derive(Clone, Copy, Debug)]
 pub enum ImageError {
     /// The name is not of 1 to 63 printing ASCII characters, or holds a space.
     BadName,

@@ -26,7 +26,7 @@ pub const USAGE: &str =
     "usage: rosm [--pages N] [--app N] [--rma N] [--budget N] [FILE...] <SCRIPT";
 
 /// Why a command line is refused. The line comes before the sizes; memory may run out anywhere.
-#[derive(Clone, Copy, Debug, PartialEq, Eq)]
+#[derive(Clone, Copy, Debug)]
 pub enum SettingsError {
     /// Memory ran out.
     Memory,

@@ -7,7 +7,7 @@ ghost use Rattle.rosm_settings.specs.declared.gdb.options.GdbWord.TheVariants.{O
 use std::alloc::{AllocError, Global};
 
 /// What a word of a command line is taken for.
-#[derive(Clone, Copy, PartialEq, Eq)]
+#[derive(Clone, Copy)]
 pub enum GdbWord {
     /// An option, or a file.
     Option,

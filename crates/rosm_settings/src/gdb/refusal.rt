@@ -14,7 +14,7 @@ pub const USAGE: &str = "usage: rosm_gdb [--script FILE] [--stay] \
 [--pages N] [--app N] [--rma N] [--budget N] [FILE...]";
 
 /// Why GDB isn't served to its end. The text is one line.
-#[derive(Debug, PartialEq, Eq, Drop, Error)]
+#[derive(Debug, Drop, Error)]
 pub enum GdbRefusal<'a> {
     /// Memory ran out while the command line was read.
     #[error("{}", SettingsError::Memory)]

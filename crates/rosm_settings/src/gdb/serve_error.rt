@@ -7,7 +7,7 @@ use profile::{ReadFault, WriteFault};
 use thiserror::Error;
 
 /// Why serving ended before the debugger was gone, and before the end of what it sends.
-#[derive(Clone, Copy, Debug, PartialEq, Eq, Error)]
+#[derive(Clone, Copy, Debug, Error)]
 pub enum ServeError {
     /// Memory ran out.
     #[error("no memory for an answer to GDB")]

@@ -16,7 +16,7 @@ pub const USAGE: &str = "usage: rosm_debug [--script FILE [-i]] \
 [--tap | --transcript | --json] [--pages N] [--app N] [--rma N] [--budget N] [FILE...] <SCRIPT";
 
 /// Why the program ends without having answered all lines. The text is one line.
-#[derive(Debug, PartialEq, Eq, Drop, Error)]
+#[derive(Debug, Drop, Error)]
 pub enum DebugRefusal<'a> {
     /// Memory ran out while the command line was read.
     #[error("{}", SettingsError::Memory)]

@@ -3,7 +3,7 @@
 use arm_core::{Mode, Psr};
 
 /// What the end of a call needs to know of its start.
-#[derive(Clone, Copy, PartialEq, Eq)]
+#[derive(Clone, Copy)]
 pub struct Call {
     /// Whether an error goes back to the caller.
     pub is_x: bool,

@@ -13,7 +13,7 @@ use instances_table::plans::CodeKind;
 pub const SAVED_REGISTERS: usize = 13;
 
 /// What module code a frame was opened for.
-#[derive(Clone, Copy, PartialEq, Eq)]
+#[derive(Clone, Copy)]
 pub enum FrameKind {
     /// A SWI of the module, by its number without the X bit.
     Swi(u32),
@@ -22,7 +22,7 @@ pub enum FrameKind {
 }
 
 /// A frame: module code was entered.
-#[derive(Clone, Copy, PartialEq, Eq)]
+#[derive(Clone, Copy)]
 pub struct Frame {
     /// The call that the code was entered for.
     pub call: Call,

@@ -10,7 +10,7 @@ use arm_core::{Cpu, Mode};
 pub const REGISTERS: usize = 26;
 
 /// A register that differs: its place in the file of all banks, its old value and its new one.
-#[derive(Clone, Copy, Default, PartialEq, Eq)]
+#[derive(Clone, Copy, Default)]
 pub struct RegisterChange {
     /// R0 to R14 of USR are 0 to 14, R8 to R14 of FIQ 15 to 21, R13 and R14 of IRQ 22 and 23, and of
     /// SVC 24 and 25.

@@ -7,7 +7,7 @@ use arm_core::{Cpu, Mode, Psr};
 use profile::memory_map::ADDRESS_LIMIT;
 
 /// What the status has beside the mode, as bits 31 to 26 of R15.
-#[derive(Clone, Copy, PartialEq, Eq)]
+#[derive(Clone, Copy)]
 pub enum Flag {
     Negative,
     Zero,

@@ -298,7 +298,7 @@ impl RecordText {
 }
 
 /// What holds values.
-#[derive(Clone, Copy, PartialEq, Eq)]
+#[derive(Clone, Copy)]
 pub enum Bracket {
     Object,
     List,

@@ -10,7 +10,7 @@ use profile::memory_map::{ADDRESS_LIMIT, PAGE_SIZE};
 use std::alloc::{AllocError, Global};
 
 /// A word that is shown: its address, its old value and its new one.
-#[derive(Clone, Copy, Default, PartialEq, Eq)]
+#[derive(Clone, Copy, Default)]
 pub struct ShownWord {
     pub at: u32,
     pub old: u32,

@@ -13,7 +13,7 @@ use arrayvec::ArrayVec;
 pub const MOST_ITEMS: usize = 64;
 
 /// An item that is gone or new: its address, and what it is.
-#[derive(Clone, Copy, PartialEq, Eq)]
+#[derive(Clone, Copy)]
 pub struct ItemChange {
     pub at: u32,
     pub item: Item,

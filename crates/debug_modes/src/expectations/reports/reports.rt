@@ -27,7 +27,7 @@ pub enum ReportForm {
 
 /// How many lines expected something that was so, how many something that wasn't, and how many lines
 /// and blocks were refused. Each counts up to 2^64 - 1.
-#[derive(Clone, Copy, PartialEq, Eq)]
+#[derive(Clone, Copy)]
 pub struct CheckTally {
     /// Lines EXPECT that passed.
     pub passed: u64,

@@ -3,7 +3,7 @@
 use thiserror::Error;
 
 /// Why an image has no header. Where several reasons hold, the first of this list is given.
-#[derive(Clone, Copy, Debug, PartialEq, Eq, Error)]
+#[derive(Clone, Copy, Debug, Error)]
 pub enum HeaderFault {
     /// The image has fewer than 28 bytes.
     #[error("the image is shorter than a module's header")]
