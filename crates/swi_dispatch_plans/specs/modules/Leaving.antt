@@ -15,9 +15,3 @@ pub record LeavesModuleState (m n : AddressMap) (k l : AreaTable) (old new : Lis
   pub slots : slots_of new ≡ slots_of old
   pub going : (plan : Option Plan) → MayGoOn (module_state_of m k old) plan → MayGoOn
       (module_state_of n l new) plan
-
--- the same of a call on names alone, whatever the areas are
-pub record LeavesInstances (m : AddressMap) (old new : List Module) : Type 0 where
-  pub slots : slots_of new ≡ slots_of old
-  pub going : (l : AreaTable) (plan : Option Plan) → MayGoOn (module_state_of m l old) plan → MayGoOn
-      (module_state_of m l new) plan

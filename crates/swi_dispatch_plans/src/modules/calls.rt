@@ -8,10 +8,11 @@ ghost use Rattle.swi_dispatch_plans.specs.modules.Calls.{result_of_module_call};
 ghost use Rattle.swi_dispatch_plans.specs.modules.Leaving.{LeavesModuleState};
 
 use crate::modules::area::describe_area;
-use crate::modules::naming::{find_instance, prefer_instance, print_instance, rename_instance};
+use crate::modules::naming::{find_instance, print_instance};
 use instances::{Areas, Instances, Rma};
 use os_heap::AddressMap;
 use profile::{ErrorNumber, ModuleReason};
+use swi_dispatch_answers::strings::string_in;
 use swi_dispatch_answers::{Cpu, Refusal};
 
 /// OS_Module, by its reason in R0, where no module code is to run. A block is in R2, a size or a
@@ -21,7 +22,7 @@ use swi_dispatch_answers::{Cpu, Refusal};
 ///
 /// `ModuleBadReason` where it is none of these reasons, `BadString` where a string can't be read,
 /// else as the call of `rma` or of `instances` refuses it; nothing is changed then.
-#[tactic(auto, unfolding(crate::specs::modules::Calls::result_of_module_call))]
+#[tactic(auto, unfolding(crate::specs::modules::Calls::result_of_module_call, os_heap::specs::Store::store_of))]
 pub fn call_module(
     cpu: &mut Cpu,
     memory: &mut AddressMap,
@@ -51,8 +52,15 @@ pub fn call_module(
             cpu.set_register(2, place);
             Ok(())
         }
-        Some(ModuleReason::Rename) => rename_instance(cpu, memory, instances),
-        Some(ModuleReason::Prefer) => prefer_instance(cpu, memory, instances),
+        Some(ModuleReason::Rename) => {
+            let full = string_in(cpu, memory, 1)?;
+            let new = string_in(cpu, memory, 2)?;
+            Ok(instances.rename(full.as_slice(), new.as_slice())?)
+        }
+        Some(ModuleReason::Prefer) => {
+            let full = string_in(cpu, memory, 1)?;
+            Ok(instances.prefer(full.as_slice())?)
+        }
         Some(ModuleReason::Lookup) => find_instance(cpu, memory, instances),
         _ => Err(Refusal::System(ErrorNumber::ModuleBadReason)),
     }

@@ -1,5 +1,5 @@
-//! OS_Module, the reasons that look up instances, name them and prefer them: 12, 15, 16 and 18
-//! (RISC OS 3 Programmer's Reference Manual, "OS_Module").
+//! OS_Module, the reasons that tell of an instance: 12 and 18 (RISC OS 3 Programmer's Reference
+//! Manual, "OS_Module").
 #![tactic(auto, unfolding(os_heap::specs::Store::store_of))]
 
 ghost use Rattle.std.specs.Prelude.{◌≡◌};
@@ -8,8 +8,7 @@ ghost use Rattle.os_heap.specs.Bytes.{AreMapped};
 ghost use Rattle.os_heap.specs.Memory.{is_mapped};
 ghost use Rattle.instances.specs.Areas.{AreaTable};
 ghost use Rattle.instances.specs.module_state.ModuleState.{module_state_of};
-ghost use Rattle.swi_dispatch_plans.specs.modules.Leaving.{LeavesInstances};
-ghost use Rattle.swi_dispatch_plans.specs.modules.Naming.{instance_found, instance_preferred, instance_renamed, instance_shown};
+ghost use Rattle.swi_dispatch_plans.specs.modules.Naming.{instance_found, instance_shown};
 
 use instances::{Instances, Place};
 use os_heap::AddressMap;
@@ -36,39 +35,6 @@ pub(crate) fn print_instance(
     cpu.set_register(2, reported.next.instance);
     cpu.set_register(3, reported.image);
     cpu.set_register(4, reported.word);
-    Ok(())
-}
-
-/// Reason 15: R1 points to the full name of an instance, R2 to its new name.
-pub(crate) fn rename_instance(
-    cpu: &Cpu,
-    memory: &AddressMap,
-    instances: &mut Instances,
-) -> Result<(), Refusal>
-    ensures state { (l : AreaTable) → Leaves (cpu.now, module_state_of memory.now l instances.old)
-        (instance_renamed cpu.now (module_state_of memory.now l instances.old)) result
-        (cpu.now, module_state_of memory.now l instances.new) }
-    ensures leaves { LeavesInstances memory.now instances.old instances.new }
-{
-    let full = string_in(cpu, memory, 1)?;
-    let new = string_in(cpu, memory, 2)?;
-    instances.rename(full.as_slice(), new.as_slice())?;
-    Ok(())
-}
-
-/// Reason 16: R1 points to the full name of an instance.
-pub(crate) fn prefer_instance(
-    cpu: &Cpu,
-    memory: &AddressMap,
-    instances: &mut Instances,
-) -> Result<(), Refusal>
-    ensures state { (l : AreaTable) → Leaves (cpu.now, module_state_of memory.now l instances.old)
-        (instance_preferred cpu.now (module_state_of memory.now l instances.old)) result
-        (cpu.now, module_state_of memory.now l instances.new) }
-    ensures leaves { LeavesInstances memory.now instances.old instances.new }
-{
-    let full = string_in(cpu, memory, 1)?;
-    instances.prefer(full.as_slice())?;
     Ok(())
 }
 

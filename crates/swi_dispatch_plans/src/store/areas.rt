@@ -1,7 +1,7 @@
 //! The calls on dynamic areas (RISC OS 3 Programmer's Reference Manual, "OS_ChangeDynamicArea",
 //! "OS_ReadDynamicArea", and its supplement, "OS_DynamicArea").
 
-ghost use Rattle.std.specs.Prelude.{◌≡◌, Some, None, Err};
+ghost use Rattle.std.specs.Prelude.{◌≡◌, None, Err};
 ghost use Rattle.profile.specs.Outcome.{Leaves};
 ghost use Rattle.instances.specs.Ground.{IsAreaStore, area_store_of};
 ghost use Rattle.instances.specs.Kept.{IsAreaMap};
@@ -82,10 +82,14 @@ fn create_area(cpu: &mut Cpu, memory: &mut AddressMap, areas: &mut Areas) -> Res
     let wanted = wanted_area(cpu);
     let name_at = cpu.register(8);
     let name = text_at::<MAX_TEXT>(memory, name_at, TextEnd::Control);
-    match name {
-        Some(name) => make_area(cpu, memory, areas, &wanted, name.as_slice()),
-        None => Err(unnamed_error(cpu, memory, areas, &wanted)),
-    }
+    let Some(name) = name else {
+        return Err(unnamed_error(cpu, memory, areas, &wanted));
+    };
+    let made = areas.create(memory, &wanted, name.as_slice())?;
+    cpu.set_register(1, made.number);
+    cpu.set_register(3, made.base);
+    cpu.set_register(5, made.maximum);
+    Ok(())
 }
 
 fn wanted_area(cpu: &Cpu) -> Wanted
@@ -100,26 +104,6 @@ fn wanted_area(cpu: &Cpu) -> Wanted
         handler: cpu.register(6),
         workspace: cpu.register(7),
     }
-}
-
-fn make_area(
-    cpu: &mut Cpu,
-    memory: &mut AddressMap,
-    areas: &mut Areas,
-    wanted: &Wanted,
-    name: &[u8],
-) -> Result<(), Refusal>
-    requires state { IsAreaMap memory.old areas.old }
-    ensures state { Leaves (cpu.old, area_store_of memory.old areas.old)
-        (area_named cpu.old (area_store_of memory.old areas.old) wanted.now (Some name.now)) result
-        (cpu.new, area_store_of memory.new areas.new) }
-    ensures leaves { LeavesSound memory.old memory.new areas.old areas.new }
-{
-    let made = areas.create(memory, wanted, name)?;
-    cpu.set_register(1, made.number);
-    cpu.set_register(3, made.base);
-    cpu.set_register(5, made.maximum);
-    Ok(())
 }
 
 // A name that can't be read counts only where the area would be allowed otherwise.

@@ -59,13 +59,30 @@ returns-in_ok-free-in-Some-Free-clause-leaves c =
       sizes = refl;
     })
 
-pub returns-in-Some-Rename-clause-leaves : goal.returns-in-Some-Rename-clause-leaves
-returns-in-Some-Rename-clause-leaves c =
-    named_left _ _ _ _ c.requires.state c.rename_instance.ensures.leaves
+pub returns-in_err-full-in-Some-Rename-clause-leaves : goal.returns-in_err-full-in-Some-Rename-clause-leaves
+returns-in_err-full-in-Some-Rename-clause-leaves c = nothing_left _ _ _ c.requires.state
 
-pub returns-in-Some-Prefer-clause-leaves : goal.returns-in-Some-Prefer-clause-leaves
-returns-in-Some-Prefer-clause-leaves c =
-    named_left _ _ _ _ c.requires.state c.prefer_instance.ensures.leaves
+pub returns-in_err-new-in-Some-Rename-clause-leaves : goal.returns-in_err-new-in-Some-Rename-clause-leaves
+returns-in_err-new-in-Some-Rename-clause-leaves c = nothing_left _ _ _ c.requires.state
+
+pub returns-in_err-rename-in-Some-Rename-clause-leaves : goal.returns-in_err-rename-in-Some-Rename-clause-leaves
+returns-in_err-rename-in-Some-Rename-clause-leaves c =
+    named_left _ _ _ _ c.requires.state c.rename.ensures.slots (c.rename.ensures.going _)
+
+pub returns-in_ok-rename-in-Some-Rename-clause-leaves : goal.returns-in_ok-rename-in-Some-Rename-clause-leaves
+returns-in_ok-rename-in-Some-Rename-clause-leaves c =
+    named_left _ _ _ _ c.requires.state c.rename.ensures.slots (c.rename.ensures.going _)
+
+pub returns-in_err-full-in-Some-Prefer-clause-leaves : goal.returns-in_err-full-in-Some-Prefer-clause-leaves
+returns-in_err-full-in-Some-Prefer-clause-leaves c = nothing_left _ _ _ c.requires.state
+
+pub returns-in_err-prefer-in-Some-Prefer-clause-leaves : goal.returns-in_err-prefer-in-Some-Prefer-clause-leaves
+returns-in_err-prefer-in-Some-Prefer-clause-leaves c =
+    named_left _ _ _ _ c.requires.state c.prefer.ensures.slots (c.prefer.ensures.going _)
+
+pub returns-in_ok-prefer-in-Some-Prefer-clause-leaves : goal.returns-in_ok-prefer-in-Some-Prefer-clause-leaves
+returns-in_ok-prefer-in-Some-Prefer-clause-leaves c =
+    named_left _ _ _ _ c.requires.state c.prefer.ensures.slots (c.prefer.ensures.going _)
 
 pub returns-in-Some-DescribeArea-clause-leaves : goal.returns-in-Some-DescribeArea-clause-leaves
 returns-in-Some-DescribeArea-clause-leaves c = nothing_left _ _ _ c.requires.state
