@@ -2,8 +2,8 @@ use Rattle.swi_dispatch_plans.proofs.StoreLemmas.AreasKept.{created_kept}
 use Rattle.swi_dispatch_plans.proofs.StoreLemmas.Leaving.{leaves_memory}
 use Rattle.swi_dispatch_plans.proofs.store.areas.create_area.Goals as goal
 
-pub returns-in-None-clause-leaves : goal.returns-in-None-clause-leaves
-returns-in-None-clause-leaves c = leaves_memory _ _ c.requires.state
+pub returns-in_default-clause-leaves : goal.returns-in_default-clause-leaves
+returns-in_default-clause-leaves c = leaves_memory _ _ c.requires.state
 
 pub returns-in_err-made-clause-leaves : goal.returns-in_err-made-clause-leaves
 returns-in_err-made-clause-leaves c =
