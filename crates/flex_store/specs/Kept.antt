@@ -1,7 +1,7 @@
 -- What the calls ask of memory, and what they and their steps keep of it.
 use Rattle.std.specs.Prelude.{ℕ, ◌≡◌, ◌⊎◌, true, Option}
 use Rattle.os_heap.specs.Bytes.{word_start}
-use Rattle.os_heap.specs.Memory.{byte_at, class_of, layout, mapping}
+use Rattle.os_heap.specs.Memory.{class_of, layout, mapping}
 use Rattle.os_heap.specs.AddressMap.{AddressMap}
 use Rattle.os_heap.specs.Store.{AreClasses, is_in_flex_store, IsSound, store_of}
 use Rattle.flex_store.specs.declared.flex.Extent.{Extent}
@@ -39,13 +39,3 @@ pub record KeepsLayoutAndHeaps (old new : AddressMap) (e : Option Extent) : Type
   pub layout : layout new ≡ layout old
   pub heaps : (store_of new).heaps ≡ (store_of old).heaps
   pub anchors : AreAnchorsAllowed old new
-
--- marks were changed, and nothing else
-pub record KeepsBytes (old new : AddressMap) : Type 0 where
-  pub bytes : byte_at new ≡ byte_at old
-  pub layout : layout new ≡ layout old
-
--- bytes were changed, and nothing else
-pub record KeepsMarks (old new : AddressMap) : Type 0 where
-  pub layout : layout new ≡ layout old
-  pub marks : class_of new ≡ class_of old

@@ -2,10 +2,10 @@
 //! then.
 
 ghost use Rattle.std.specs.Prelude.{ℕ, ◌≡◌, ◌+◌, ◌%◌, ◌<◌, ◌^◌, true};
+ghost use Rattle.os_heap_words.specs.Kept.{KeepsBytes};
 ghost use Rattle.os_heap.specs.Class.TheVariants.{Anchor, FlexHeader, Plain};
 ghost use Rattle.os_heap.specs.Memory.{class_of, is_mapped};
 ghost use Rattle.os_heap.specs.Records.{is_word_kind, with_mark, without_mark};
-ghost use Rattle.flex_store.specs.Kept.{KeepsBytes};
 ghost use Rattle.flex_store.specs.Marks.{with_block_marks};
 
 use os_heap::{AddressMap, Kind};

@@ -1,10 +1,10 @@
 //! Blocks that slide as one before them is changed, appended or removed.
 
 ghost use Rattle.std.specs.Prelude.{ℕ, ◌≡◌, ◌≤◌, ◌<◌, ◌+◌, ◌-◌, ◌%◌, ◌^◌, ◌++◌, [], ◌∷◌, true};
+ghost use Rattle.os_heap_words.specs.Kept.{KeepsMarks};
 ghost use Rattle.os_heap.specs.Bytes.{AreMapped, bytes_between, with_bytes_at};
 ghost use Rattle.os_heap.specs.Memory.{byte_at, bytes_of, is_mapped};
 ghost use Rattle.flex_store.specs.Blocks.{contents, whole_words_of_bytes, block_holding, new_block, bytes_after_splice, bytes_taken_by, whole_words};
-ghost use Rattle.flex_store.specs.Kept.{KeepsMarks};
 ghost use Rattle.flex_store.specs.Relaid.{blocks_behind_first, blocks_after_removal, first_at, MayLie, Relaid, blocks_after_splice};
 ghost use Rattle.flex_store.specs.Splices.{size_after_splice, CanBytesMove, IsSplice, HasBytesForSizes};
 ghost use Rattle.flex_store.specs.State.{AreAnchorWords, IsText};

@@ -1,11 +1,11 @@
 //! A change in a block's bytes, and whether it would break an anchor that lies there.
 
 ghost use Rattle.std.specs.Prelude.{ℕ, ◌≡◌, ◌≤◌, ◌<◌, ◌+◌, ◌-◌, ◌^◌, ◌++◌, ◌∷◌, true};
+ghost use Rattle.os_heap_words.specs.Kept.{KeepsMarks};
 ghost use Rattle.os_heap.specs.Bytes.{AreMapped, bytes_between, with_bytes_at};
 ghost use Rattle.os_heap.specs.Memory.{anchor_of, byte_at, is_mapped};
 ghost use Rattle.flex_store.specs.Calls.{breaks_anchor};
 ghost use Rattle.flex_store.specs.Blocks.{whole_words_of_bytes, bytes_after_splice, bytes_taken_by, whole_words};
-ghost use Rattle.flex_store.specs.Kept.{KeepsMarks};
 ghost use Rattle.flex_store.specs.Splices.{size_after_splice, IsSplice, HasBytesForSizes};
 
 use crate::walk::{HEADER, taken, whole_words};

@@ -2,11 +2,11 @@
 //! after a slide.
 
 ghost use Rattle.std.specs.Prelude.{ℕ, ◌≡◌, ◌≤◌, ◌<◌, ◌+◌, ◌%◌, ◌^◌, ◌&&◌, nat_le, true};
+ghost use Rattle.os_heap_words.specs.Kept.{KeepsBytes};
 ghost use Rattle.os_heap.specs.Bytes.{word_at};
 ghost use Rattle.os_heap.specs.Memory.{byte_at, bytes_of, class_of, is_mapped, layout};
 ghost use Rattle.os_heap.specs.Class.TheVariants.{Anchor, FlexHeader, Plain};
 ghost use Rattle.flex_store.specs.Blocks.{is_in_contents, bytes_taken_by, whole_words};
-ghost use Rattle.flex_store.specs.Kept.{KeepsBytes};
 ghost use Rattle.flex_store.specs.Marks.{with_marks};
 ghost use Rattle.flex_store.specs.Memory.{blocks_in, laid_out};
 ghost use Rattle.flex_store.specs.Shifts.{following, AreShort};

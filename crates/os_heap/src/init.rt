@@ -3,7 +3,8 @@
 ghost use Rattle.std.specs.Prelude.{ℕ, [], true, ◌≡◌, ◌≤◌, ◌%◌, length, IsTrue, MatchResult, Err};
 ghost use Rattle.os_heap_words.specs.Outcome.{Gives};
 ghost use Rattle.os_heap_words.specs.Bytes.{Bytes, AreMapped};
-ghost use Rattle.os_heap_words.specs.Memory.{byte_at, is_mapped, bytes_of, layout, class_of};
+ghost use Rattle.os_heap_words.specs.Kept.{KeepsMarks};
+ghost use Rattle.os_heap_words.specs.Memory.{byte_at, is_mapped, bytes_of};
 ghost use Rattle.os_heap_words.specs.Records.{is_heap_kind};
 ghost use Rattle.os_heap_words.specs.Kind.TheVariants.{Heap, Rma};
 ghost use Rattle.os_heap.specs.Order.{AddsRecord, KeepsOrder};
@@ -97,8 +98,7 @@ fn write_descriptor(map: &mut AddressMap, heap: u32, size: u32)
     requires room { 16 ≤ size }
     requires mapped { AreMapped (is_mapped map.old) heap size }
     ensures bytes { (a : ℕ) → byte_at map.new a ≡ with_heap (byte_at map.old) heap size [] a }
-    ensures layout { layout map.new ≡ layout map.old }
-    ensures marks { class_of map.new ≡ class_of map.old }
+    ensures kept { KeepsMarks map.old map.new }
 {
     map.put_word(heap, HEAP_NAME);
     map.put_word(heap + LINK, 0);

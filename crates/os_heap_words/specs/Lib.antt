@@ -18,6 +18,7 @@ pub use Rattle.address_map.specs.declared.map.AddressMap
 pub use Rattle.address_map.specs.declared.region.Kind
 pub use Rattle.address_map.specs.declared.region.Region
 pub mod Cursors
+pub mod Kept
 pub mod Marks
 pub mod Outcomes
 pub mod lists

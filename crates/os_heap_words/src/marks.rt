@@ -3,9 +3,10 @@
 ghost use Rattle.std.specs.Prelude.{ℕ, [], ◌∷◌, ◌++◌, ◌≡◌, ◌≤◌, ◌<◌, ◌+◌, ◌-◌, ◌%◌, ◌^◌, ◌&&◌, true, if◌then◌else◌};
 ghost use Rattle.address_map.specs.Bytes.{AreMapped, in_range, word_start};
 ghost use Rattle.address_map.specs.Classes.{is_heap_class};
-ghost use Rattle.address_map.specs.Memory.{byte_at, is_mapped, layout, class_of};
+ghost use Rattle.address_map.specs.Memory.{is_mapped, class_of};
 ghost use Rattle.address_map.specs.Records.{with_class};
 ghost use Rattle.address_map.specs.declared.class.Class.TheVariants.{Heap};
+ghost use Rattle.os_heap_words.specs.Kept.{KeepsBytes};
 ghost use Rattle.os_heap_words.specs.lists.Lists.{left_free};
 ghost use Rattle.os_heap_words.specs.lists.Marks.{head_class, Remarks, with_item_marked, with_items_marked};
 ghost use Rattle.os_heap_words.specs.Marks.{RemarksItems, SetsClasses, with_no_heads};
@@ -36,8 +37,7 @@ pub fn mark_item(map: &mut AddressMap, at: u32, item: Item, is_head: bool)
     requires { CanStand map.old at (item ∷ []) }
     ensures marks { (a : ℕ) → class_of map.new a ≡ with_item_marked at item (head_class is_head)
         (class_of map.old) a }
-    ensures bytes { byte_at map.new ≡ byte_at map.old }
-    ensures layout { layout map.new ≡ layout map.old }
+    ensures kept { KeepsBytes map.old map.new }
 {
     mark(map, at, is_head);
     if let Item::Free(_) = item {
@@ -62,8 +62,7 @@ fn mark_items(map: &mut AddressMap, at: u32, items: &[Item], is_head: bool)
 pub fn make(map: &mut AddressMap, at: u32, news: &[Item])
     requires { CanStand map.old at news.now }
     ensures marks { Remarks (class_of map.old) (class_of map.new) at [] news.now }
-    ensures bytes { byte_at map.new ≡ byte_at map.old }
-    ensures layout { layout map.new ≡ layout map.old }
+    ensures kept { KeepsBytes map.old map.new }
 {
     mark_items(map, at, news, true);
 }

@@ -3,8 +3,9 @@
 ghost use Rattle.std.specs.Prelude.{◌≡◌, ◌≢◌, ◌≤◌, ◌<◌, ◌+◌, true};
 ghost use Rattle.address_map.specs.Bytes.{word_at};
 ghost use Rattle.address_map.specs.Items.{is_total};
-ghost use Rattle.address_map.specs.Memory.{byte_at, layout, class_of};
+ghost use Rattle.address_map.specs.Memory.{byte_at};
 ghost use Rattle.os_heap_words.specs.Cursors.{IsAtBlock, IsNewTotal, RefitsBlock};
+ghost use Rattle.os_heap_words.specs.Kept.{KeepsMarks};
 ghost use Rattle.os_heap_words.specs.Outcomes.{end_at};
 ghost use Rattle.os_heap_words.specs.lists.Words.{IsDivided};
 ghost use Rattle.os_heap_words.specs.lists.Walks.{last_link};
@@ -122,8 +123,7 @@ fn divide(map: &mut AddressMap, heap: u32, cursor: &Cursor, total: u32, left: u3
     requires room { cursor.now.at + total + 8 ≤ heap + end_at map.old heap }
     ensures words { IsDivided (byte_at map.old) (byte_at map.new) heap
         (last_link cursor.now.from cursor.now.at cursor.now.gap) cursor.now.at total left next }
-    ensures layout { layout map.new ≡ layout map.old }
-    ensures marks { class_of map.new ≡ class_of map.old }
+    ensures kept { KeepsMarks map.old map.new }
 {
     let from = last_link(cursor);
     put_free(map, heap, from, cursor.at + total, left, next);

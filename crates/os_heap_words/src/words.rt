@@ -3,7 +3,8 @@
 ghost use Rattle.std.specs.Prelude.{◌≡◌, ◌<◌, ◌+◌, ◌-◌, ◌%◌, ◌^◌, true};
 ghost use Rattle.address_map.specs.Bytes.{word_at};
 ghost use Rattle.address_map.specs.Items.{link_target};
-ghost use Rattle.address_map.specs.Memory.{byte_at, is_mapped, layout, class_of};
+ghost use Rattle.address_map.specs.Memory.{byte_at, is_mapped};
+ghost use Rattle.os_heap_words.specs.Kept.{KeepsMarks};
 ghost use Rattle.os_heap_words.specs.lists.Words.{link_at, AreApart, IsWordWritten, IsFreed};
 
 use crate::links::linked;
@@ -30,8 +31,7 @@ pub fn put(map: &mut AddressMap, at: u32, word: u32)
     requires aligned { at % 4 ≡ 0 }
     requires mapped { is_mapped map.old at ≡ true }
     ensures word { IsWordWritten (byte_at map.old) (byte_at map.new) at word }
-    ensures layout { layout map.new ≡ layout map.old }
-    ensures marks { class_of map.new ≡ class_of map.old }
+    ensures kept { KeepsMarks map.old map.new }
 {
     map.put_word(at, word);
 }
@@ -61,8 +61,7 @@ pub fn put_link(map: &mut AddressMap, heap: u32, from: u32, next: u32)
     requires aligned { link_at heap from % 4 ≡ 0 }
     requires mapped { is_mapped map.old (link_at heap from) ≡ true }
     ensures word { IsWordWritten (byte_at map.old) (byte_at map.new) (link_at heap from) (next - from) }
-    ensures layout { layout map.new ≡ layout map.old }
-    ensures marks { class_of map.new ≡ class_of map.old }
+    ensures kept { KeepsMarks map.old map.new }
 {
     put(map, link_at(heap, from), next.saturating_sub(from));
 }
@@ -78,8 +77,7 @@ pub fn put_free(map: &mut AddressMap, heap: u32, from: u32, at: u32, total: u32,
     requires total_mapped { is_mapped map.old (at + 4) ≡ true }
     requires apart { AreApart (link_at heap from) 4 at 8 }
     ensures words { IsFreed (byte_at map.old) (byte_at map.new) heap from at total next }
-    ensures layout { layout map.new ≡ layout map.old }
-    ensures marks { class_of map.new ≡ class_of map.old }
+    ensures kept { KeepsMarks map.old map.new }
 {
     put_link(map, heap, from, at);
     put(map, at, next.saturating_sub(at));

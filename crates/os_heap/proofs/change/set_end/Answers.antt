@@ -51,13 +51,13 @@ returns-clause-store c =
       found = c.requires.found;
       own = c.requires.kind;
       may = c.requires.may;
-      same = c.put.ensures.layout;
-      marks = c.put.ensures.marks;
+      same = c.put.ensures.kept.layout;
+      marks = c.put.ensures.kept.marks;
       word = c.put.ensures.word;
     } in
     let bytes : bytes_of c.set_len.new.self ≡ bytes_of c.put.new.map =
     λ i. record { mapped = λ a. is_some ((c.set_len.ensures.mapping i).place a); at = c.set_len.ensures.bytes i } in
-    let same = layout-regions m c.put.new.map c.put.ensures.layout in
+    let same = layout-regions m c.put.new.map c.put.ensures.kept.layout in
     let records = rw same at c.set_len.ensures.regions in
     store_ended m c.put.new.map c.set_len.new.self h c.args.end ends bytes records c.set_len.ensures.marks
 
@@ -70,19 +70,19 @@ returns-clause-kept c =
       found = c.requires.found;
       own = c.requires.kind;
       may = c.requires.may;
-      same = c.put.ensures.layout;
-      marks = c.put.ensures.marks;
+      same = c.put.ensures.kept.layout;
+      marks = c.put.ensures.kept.marks;
       word = c.put.ensures.word;
     } in
     let bytes : bytes_of c.set_len.new.self ≡ bytes_of c.put.new.map =
     λ i. record { mapped = λ a. is_some ((c.set_len.ensures.mapping i).place a); at = c.set_len.ensures.bytes i } in
-    let same = layout-regions m c.put.new.map c.put.ensures.layout in
+    let same = layout-regions m c.put.new.map c.put.ensures.kept.layout in
     let records = rw same at c.set_len.ensures.regions in
     let r = c.args.region.now in
     record {
       sound = sound_ended m c.put.new.map c.set_len.new.self h c.args.end ends bytes records c.set_len.ensures.marks;
       classes = classes_ended m c.put.new.map c.set_len.new.self h c.args.end ends bytes records c.set_len.ensures.marks c.requires.state.classes;
       others = ap (λ s. s.others) (returns-clause-store c);
-      mapping = c.set_len.ensures.mapping ∙ layout-mapping _ _ c.put.ensures.layout;
+      mapping = c.set_len.ensures.mapping ∙ layout-mapping _ _ c.put.ensures.kept.layout;
       order = end_order m c.set_len.new.self r.kind r.at c.args.end records;
     }

@@ -50,12 +50,12 @@ pub mark_descriptor-requires-clause-mapped : goal.mark_descriptor-requires-claus
 unfolding store_of
 mark_descriptor-requires-clause-mapped c =
     let can : CanHold (bytes_of c.args.map.now) c.args.heap c.args.size = can_hold (bytes_of c.args.map.now) c.args.heap c.args.size c.requires.may.region in
-    λ a low high. still_mapped _ _ a c.write_descriptor.ensures.layout (can.mapped a low (omega (arith, high, can.low)))
+    λ a low high. still_mapped _ _ a c.write_descriptor.ensures.kept.layout (can.mapped a low (omega (arith, high, can.low)))
 
 pub own-requires-clause-room : goal.own-requires-clause-room
 own-requires-clause-room c =
     let same : regions c.mark_descriptor.new.map ≡ regions c.args.map.now =
-    layout-regions _ _ (c.mark_descriptor.ensures.layout ∙ c.write_descriptor.ensures.layout) in
+    layout-regions _ _ (c.mark_descriptor.ensures.layout ∙ c.write_descriptor.ensures.kept.layout) in
     λ _. rw same (records_room c.args.map.now c.args.kind c.args.heap c.requires.state.sound c.requires.may.room)
 
 pub own-requires-clause-mapped : goal.own-requires-clause-mapped
@@ -66,16 +66,16 @@ returns-clause-store c =
     let r : Region = record { kind = c.args.kind; at = c.args.heap; len = c.args.size } in
     let records : regions c.own.new.self ≡ regions c.args.map.now ++ r ∷ [] =
     c.own.ensures.regions ∙ recorded (regions c.mark_descriptor.new.map) c.args.kind c.args.heap c.args.size c.requires.kind
-    ∙ ap (λ rs. rs ++ r ∷ []) (layout-regions _ _ (c.mark_descriptor.ensures.layout ∙ c.write_descriptor.ensures.layout)) in
+    ∙ ap (λ rs. rs ++ r ∷ []) (layout-regions _ _ (c.mark_descriptor.ensures.layout ∙ c.write_descriptor.ensures.kept.layout)) in
     let moved : bytes_of c.own.new.self ≡ bytes_of c.mark_descriptor.new.map =
     λ i. record { mapped = λ a. is_some ((c.own.ensures.mapping i).place a); at = c.own.ensures.bytes i } in
     let written = same_bytes c.args.map.now c.mark_descriptor.new.map (with_heap (byte_at c.args.map.now) c.args.heap c.args.size [])
-    (c.mark_descriptor.ensures.layout ∙ c.write_descriptor.ensures.layout)
+    (c.mark_descriptor.ensures.layout ∙ c.write_descriptor.ensures.kept.layout)
     (λ a. ap (λ (f : ℕ → ℕ). f a) c.mark_descriptor.ensures.bytes ∙ c.write_descriptor.ensures.bytes a) in
     let marks : (a : ℕ) → class_of c.own.new.self a ≡ cond (in_range c.args.heap 16 (word_start a)) class.Heap (class_of c.args.map.now a) =
     λ a. c.own.ensures.marks a ∙ heap_unmarked c.args.kind c.args.heap (class_of c.mark_descriptor.new.map) a c.requires.kind
     ∙ c.mark_descriptor.ensures.marks a
-    ∙ ap (λ (f : ℕ → Class). cond (in_range c.args.heap 16 (word_start a)) class.Heap (f a)) c.write_descriptor.ensures.marks in
+    ∙ ap (λ (f : ℕ → Class). cond (in_range c.args.heap 16 (word_start a)) class.Heap (f a)) c.write_descriptor.ensures.kept.marks in
     store_begun c.args.map.now c.own.new.self c.args.kind c.args.heap c.args.size c.requires.kind c.requires.may c.requires.state.sound records (moved ∙ written)
     (flex_begun (class_of c.args.map.now) (class_of c.own.new.self) c.args.heap marks (λ a inside. begun_unflexed c.args.map.now c.args.kind c.args.heap c.args.size c.requires.may c.requires.state.sound a inside))
 
@@ -87,10 +87,10 @@ returns-clause-kept c =
       classes = classes_begun c.args.map.now c.own.new.self c.args.kind c.args.heap c.args.size store
           (λ a. c.own.ensures.marks a ∙ heap_unmarked c.args.kind c.args.heap (class_of c.mark_descriptor.new.map) a c.requires.kind
           ∙ c.mark_descriptor.ensures.marks a
-          ∙ ap (λ (f : ℕ → Class). cond (in_range c.args.heap 16 (word_start a)) class.Heap (f a)) c.write_descriptor.ensures.marks)
+          ∙ ap (λ (f : ℕ → Class). cond (in_range c.args.heap 16 (word_start a)) class.Heap (f a)) c.write_descriptor.ensures.kept.marks)
           c.requires.state.classes;
       others = ap (λ s. s.others) store;
-      mapping = c.own.ensures.mapping ∙ layout-mapping _ _ (c.mark_descriptor.ensures.layout ∙ c.write_descriptor.ensures.layout);
+      mapping = c.own.ensures.mapping ∙ layout-mapping _ _ (c.mark_descriptor.ensures.layout ∙ c.write_descriptor.ensures.kept.layout);
     }
 
 pub returns-clause-order : goal.returns-clause-order
@@ -98,4 +98,4 @@ returns-clause-order c =
     let r : Region = record { kind = c.args.kind; at = c.args.heap; len = c.args.size } in
     order_added c.args.map.now c.own.new.self r (
     c.own.ensures.regions ∙ recorded (regions c.mark_descriptor.new.map) c.args.kind c.args.heap c.args.size c.requires.kind
-    ∙ ap (λ rs. rs ++ r ∷ []) (layout-regions _ _ (c.mark_descriptor.ensures.layout ∙ c.write_descriptor.ensures.layout)))
+    ∙ ap (λ rs. rs ++ r ∷ []) (layout-regions _ _ (c.mark_descriptor.ensures.layout ∙ c.write_descriptor.ensures.kept.layout)))

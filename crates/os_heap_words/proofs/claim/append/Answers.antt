@@ -58,7 +58,7 @@ put-requires-clause-aligned c =
 pub make-requires : goal.make-requires
 make-requires c =
     let base : c.word-base.result ≡ 16 + size_of (items_at c.args.map.now c.args.heap) = c.word-base.ensures ∙ c.requires.heap.base in
-    can_stand c.args.map.now c.put-2.new.map c.args.heap (end_at c.args.map.now c.args.heap) (c.args.heap + c.word-base.result) _ (Live c.args.needed ∷ []) c.requires.heap (c.put-2.ensures.layout ∙ c.put.ensures.layout)
+    can_stand c.args.map.now c.put-2.new.map c.args.heap (end_at c.args.map.now c.args.heap) (c.args.heap + c.word-base.result) _ (Live c.args.needed ∷ []) c.requires.heap (c.put-2.ensures.kept.layout ∙ c.put.ensures.kept.layout)
     (c.requires.needed.total, tt)
     (omega (arith, base, c.requires.heap.aligned, size_of-multiple (items_at c.args.map.now c.args.heap) c.requires.heap.totals)) (omega arith) (omega (arith, c.word-end.ensures))
 
@@ -66,7 +66,7 @@ pub returns : goal.returns
 returns c =
     let base : c.word-base.result ≡ 16 + size_of (items_at c.args.map.now c.args.heap) = c.word-base.ensures ∙ c.requires.heap.base in
     claims_base c.args.map.now _ c.args.heap (end_at c.args.map.now c.args.heap) c.args.needed c.word-base.result _ _ c.requires.heap
-    (c.make.ensures.layout ∙ c.put-2.ensures.layout ∙ c.put.ensures.layout) c.requires.needed.total base (omega (arith, c.word-end.ensures)) c.put.ensures.word
-    (still_written _ _ _ _ _ c.make.ensures.bytes c.put-2.ensures.word)
+    (c.make.ensures.kept.layout ∙ c.put-2.ensures.kept.layout ∙ c.put.ensures.kept.layout) c.requires.needed.total base (omega (arith, c.word-end.ensures)) c.put.ensures.word
+    (still_written _ _ _ _ _ c.make.ensures.kept.bytes c.put-2.ensures.word)
     (remarks_after (class_of c.args.map.now) (class_of c.put-2.new.map) (class_of c.make.new.map) (c.args.heap + c.word-base.result) [] (Live c.args.needed ∷ [])
-    (c.put-2.ensures.marks ∙ c.put.ensures.marks) c.make.ensures.marks)
+    (c.put-2.ensures.kept.marks ∙ c.put.ensures.kept.marks) c.make.ensures.marks)

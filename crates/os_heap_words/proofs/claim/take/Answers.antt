@@ -75,12 +75,12 @@ put-requires-2-clause-aligned c =
 pub put-requires-clause-mapped : goal.put-requires-clause-mapped
 put-requires-clause-mapped c =
     let f = fit_facts c.args.map.now c.args.heap (end_at c.args.map.now c.args.heap) c.args.needed _ _ _ c.requires.heap c.requires.fit in
-    still_mapped _ _ _ c.put_link.ensures.layout (heap_mapped c.args.map.now c.args.heap (end_at c.args.map.now c.args.heap) c.args.fit.now.at _ c.requires.heap (omega (arith, f.facts.low)) (omega (arith, f.facts.high, f.facts.size)))
+    still_mapped _ _ _ c.put_link.ensures.kept.layout (heap_mapped c.args.map.now c.args.heap (end_at c.args.map.now c.args.heap) c.args.fit.now.at _ c.requires.heap (omega (arith, f.facts.low)) (omega (arith, f.facts.high, f.facts.size)))
 
 pub put-requires-2-clause-mapped : goal.put-requires-2-clause-mapped
 put-requires-2-clause-mapped c =
     let f = fit_facts c.args.map.now c.args.heap (end_at c.args.map.now c.args.heap) c.args.needed _ _ _ c.requires.heap c.requires.fit in
-    still_mapped _ _ _ c.put_free.ensures.layout (heap_mapped c.args.map.now c.args.heap (end_at c.args.map.now c.args.heap) c.args.fit.now.at _ c.requires.heap (omega (arith, f.facts.low)) (omega (arith, f.facts.high, f.facts.size)))
+    still_mapped _ _ _ c.put_free.ensures.kept.layout (heap_mapped c.args.map.now c.args.heap (end_at c.args.map.now c.args.heap) c.args.fit.now.at _ c.requires.heap (omega (arith, f.facts.low)) (omega (arith, f.facts.high, f.facts.size)))
 
 pub overflow_add-result : goal.overflow_add-result
 overflow_add-result c =
@@ -131,19 +131,19 @@ put_free-requires-clause-apart c =
 pub remark-requires-clause-olds : goal.remark-requires-clause-olds
 remark-requires-clause-olds c =
     let f = fit_facts c.args.map.now c.args.heap (end_at c.args.map.now c.args.heap) c.args.needed _ _ _ c.requires.heap c.requires.fit in
-    can_stand c.args.map.now c.put.new.map c.args.heap (end_at c.args.map.now c.args.heap) c.args.fit.now.at _ (Free c.args.fit.now.total ∷ []) c.requires.heap (c.put.ensures.layout ∙ c.put_link.ensures.layout)
+    can_stand c.args.map.now c.put.new.map c.args.heap (end_at c.args.map.now c.args.heap) c.args.fit.now.at _ (Free c.args.fit.now.total ∷ []) c.requires.heap (c.put.ensures.kept.layout ∙ c.put_link.ensures.kept.layout)
     (total_of-numbers c.args.fit.now.total f.facts.size f.facts.eighths, tt) f.facts.whole (omega (arith, f.facts.low)) (omega (arith, f.facts.high))
 
 pub remark-requires-clause-news : goal.remark-requires-clause-news
 remark-requires-clause-news c =
     let f = fit_facts c.args.map.now c.args.heap (end_at c.args.map.now c.args.heap) c.args.needed _ _ _ c.requires.heap c.requires.fit in
-    can_stand c.args.map.now c.put.new.map c.args.heap (end_at c.args.map.now c.args.heap) c.args.fit.now.at _ (Live c.args.needed ∷ []) c.requires.heap (c.put.ensures.layout ∙ c.put_link.ensures.layout)
+    can_stand c.args.map.now c.put.new.map c.args.heap (end_at c.args.map.now c.args.heap) c.args.fit.now.at _ (Live c.args.needed ∷ []) c.requires.heap (c.put.ensures.kept.layout ∙ c.put_link.ensures.kept.layout)
     (c.requires.total, tt) f.facts.whole (omega (arith, f.facts.low)) (omega (arith, f.facts.high, c.requires.fit.fits))
 
 pub remark-requires-2-clause-olds : goal.remark-requires-2-clause-olds
 remark-requires-2-clause-olds c =
     let f = fit_facts c.args.map.now c.args.heap (end_at c.args.map.now c.args.heap) c.args.needed _ _ _ c.requires.heap c.requires.fit in
-    can_stand c.args.map.now c.put-2.new.map c.args.heap (end_at c.args.map.now c.args.heap) c.args.fit.now.at _ (Free c.args.fit.now.total ∷ []) c.requires.heap (c.put-2.ensures.layout ∙ c.put_free.ensures.layout)
+    can_stand c.args.map.now c.put-2.new.map c.args.heap (end_at c.args.map.now c.args.heap) c.args.fit.now.at _ (Free c.args.fit.now.total ∷ []) c.requires.heap (c.put-2.ensures.kept.layout ∙ c.put_free.ensures.kept.layout)
     (total_of-numbers c.args.fit.now.total f.facts.size f.facts.eighths, tt) f.facts.whole (omega (arith, f.facts.low)) (omega (arith, f.facts.high))
 
 pub remark-requires-2-clause-news : goal.remark-requires-2-clause-news
@@ -153,23 +153,23 @@ remark-requires-2-clause-news c =
     let less : c.args.needed < c.args.fit.now.total = omega (arith, c.requires.fit.fits, c.if-left-eq0.false) in
     let left : is_total (c.args.fit.now.total - c.args.needed) ≡ true =
     total_of-numbers (c.args.fit.now.total - c.args.needed) (omega (arith, f.facts.eighths, k.1)) (omega (arith, f.facts.eighths, k.1)) in
-    can_stand c.args.map.now c.put-2.new.map c.args.heap (end_at c.args.map.now c.args.heap) c.args.fit.now.at _ (Live c.args.needed ∷ (Free (c.args.fit.now.total - c.args.needed) ∷ [])) c.requires.heap (c.put-2.ensures.layout ∙ c.put_free.ensures.layout)
+    can_stand c.args.map.now c.put-2.new.map c.args.heap (end_at c.args.map.now c.args.heap) c.args.fit.now.at _ (Live c.args.needed ∷ (Free (c.args.fit.now.total - c.args.needed) ∷ [])) c.requires.heap (c.put-2.ensures.kept.layout ∙ c.put_free.ensures.kept.layout)
     (c.requires.total, (left, tt)) f.facts.whole (omega (arith, f.facts.low)) (omega (arith, f.facts.high, less))
 
 pub returns-then-left-eq0 : goal.returns-then-left-eq0
 returns-then-left-eq0 c =
     let f = fit_facts c.args.map.now c.args.heap (end_at c.args.map.now c.args.heap) c.args.needed _ _ _ c.requires.heap c.requires.fit in
     claims_whole c.args.map.now _ c.args.heap (end_at c.args.map.now c.args.heap) c.args.needed _ _ _ c.follow-next.result _ _ c.requires.fit c.requires.heap
-    (c.remark.ensures.layout ∙ c.put.ensures.layout ∙ c.put_link.ensures.layout) c.if-left-eq0.true (c.follow-next.ensures ∙ f.onward) c.put_link.ensures.word
+    (c.remark.ensures.layout ∙ c.put.ensures.kept.layout ∙ c.put_link.ensures.kept.layout) c.if-left-eq0.true (c.follow-next.ensures ∙ f.onward) c.put_link.ensures.word
     (still_written _ _ _ _ _ c.remark.ensures.bytes c.put.ensures.word)
     (remarks_after (class_of c.args.map.now) (class_of c.put.new.map) (class_of c.remark.new.map) c.args.fit.now.at (Free c.args.fit.now.total ∷ []) (Live c.args.needed ∷ [])
-    (c.put.ensures.marks ∙ c.put_link.ensures.marks) c.remark.ensures.marks)
+    (c.put.ensures.kept.marks ∙ c.put_link.ensures.kept.marks) c.remark.ensures.marks)
 
 pub returns : goal.returns
 returns c =
     let f = fit_facts c.args.map.now c.args.heap (end_at c.args.map.now c.args.heap) c.args.needed _ _ _ c.requires.heap c.requires.fit in
     claims_part c.args.map.now _ c.args.heap (end_at c.args.map.now c.args.heap) c.args.needed _ _ _ c.follow-next.result _ _ c.requires.fit c.requires.heap
-    (c.remark-2.ensures.layout ∙ c.put-2.ensures.layout ∙ c.put_free.ensures.layout) c.requires.total c.if-left-eq0.false (c.follow-next.ensures ∙ f.onward) c.put_free.ensures.words
+    (c.remark-2.ensures.layout ∙ c.put-2.ensures.kept.layout ∙ c.put_free.ensures.kept.layout) c.requires.total c.if-left-eq0.false (c.follow-next.ensures ∙ f.onward) c.put_free.ensures.words
     (still_written _ _ _ _ _ c.remark-2.ensures.bytes c.put-2.ensures.word)
     (remarks_after (class_of c.args.map.now) (class_of c.put-2.new.map) (class_of c.remark-2.new.map) c.args.fit.now.at (Free c.args.fit.now.total ∷ []) (Live c.args.needed ∷ (Free (c.args.fit.now.total - c.args.needed) ∷ []))
-    (c.put-2.ensures.marks ∙ c.put_free.ensures.marks) c.remark-2.ensures.marks)
+    (c.put-2.ensures.kept.marks ∙ c.put_free.ensures.kept.marks) c.remark-2.ensures.marks)

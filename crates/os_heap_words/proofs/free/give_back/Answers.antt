@@ -136,19 +136,19 @@ remark_gap-requires-clause-low c =
 pub remark_gap-requires-clause-gap : goal.remark_gap-requires-clause-gap
 remark_gap-requires-clause-gap c =
     gap_stands c.args.map.now c.put.new.map c.args.heap (end_at c.args.map.now c.args.heap) c.args.block c.args.cursor.now.from c.args.cursor.now.at c.args.cursor.now.free c.args.cursor.now.gap c.requires.heap c.requires.block
-    (c.put.ensures.layout ∙ c.put_link.ensures.layout)
+    (c.put.ensures.kept.layout ∙ c.put_link.ensures.kept.layout)
 
 pub remark_gap-requires-clause-olds : goal.remark_gap-requires-clause-olds
 remark_gap-requires-clause-olds c =
     let f = block_facts c.args.map.now c.args.heap (end_at c.args.map.now c.args.heap) c.args.block c.args.cursor.now.from c.args.cursor.now.at c.args.cursor.now.free c.args.cursor.now.gap c.requires.heap c.requires.block in
     let own = c.own_total-own.ensures.word ∙ f.facts.total_word in
-    can_stand c.args.map.now c.put.new.map c.args.heap (end_at c.args.map.now c.args.heap) c.args.cursor.now.at _ (Live c.own_total-own.result ∷ []) c.requires.heap (c.put.ensures.layout ∙ c.put_link.ensures.layout)
+    can_stand c.args.map.now c.put.new.map c.args.heap (end_at c.args.map.now c.args.heap) c.args.cursor.now.at _ (Live c.own_total-own.result ∷ []) c.requires.heap (c.put.ensures.kept.layout ∙ c.put_link.ensures.kept.layout)
     (total_of-numbers c.own_total-own.result (omega (arith, own, f.facts.size)) (omega (arith, own, f.facts.eighths)), tt) f.facts.whole (omega (arith, f.low)) (omega (arith, own, f.facts.high))
 
 pub remark_gap-requires-clause-news : goal.remark_gap-requires-clause-news
 remark_gap-requires-clause-news c =
     let f = block_facts c.args.map.now c.args.heap (end_at c.args.map.now c.args.heap) c.args.block c.args.cursor.now.from c.args.cursor.now.at c.args.cursor.now.free c.args.cursor.now.gap c.requires.heap c.requires.block in
-    can_stand c.args.map.now c.put.new.map c.args.heap (end_at c.args.map.now c.args.heap) (c.args.cursor.now.at - c.args.cursor.now.gap) _ [] c.requires.heap (c.put.ensures.layout ∙ c.put_link.ensures.layout)
+    can_stand c.args.map.now c.put.new.map c.args.heap (end_at c.args.map.now c.args.heap) (c.args.cursor.now.at - c.args.cursor.now.gap) _ [] c.requires.heap (c.put.ensures.kept.layout ∙ c.put_link.ensures.kept.layout)
     tt f.whole (omega (arith, f.low)) (omega (arith, f.low, f.facts.high))
 
 pub remark_gap-requires-then-behind-cursor-clause-low : goal.remark_gap-requires-then-behind-cursor-clause-low
@@ -159,7 +159,7 @@ remark_gap-requires-then-behind-cursor-clause-low c =
 pub remark_gap-requires-then-behind-cursor-clause-gap : goal.remark_gap-requires-then-behind-cursor-clause-gap
 remark_gap-requires-then-behind-cursor-clause-gap c =
     gap_stands c.args.map.now c.put_free.new.map c.args.heap (end_at c.args.map.now c.args.heap) c.args.block c.args.cursor.now.from c.args.cursor.now.at c.args.cursor.now.free c.args.cursor.now.gap c.requires.heap c.requires.block
-    c.put_free.ensures.layout
+    c.put_free.ensures.kept.layout
 
 pub remark_gap-requires-then-behind-cursor-clause-olds : goal.remark_gap-requires-then-behind-cursor-clause-olds
 remark_gap-requires-then-behind-cursor-clause-olds c =
@@ -169,7 +169,7 @@ remark_gap-requires-then-behind-cursor-clause-olds c =
     let k = next_free_facts c.args.map.now c.args.heap (end_at c.args.map.now c.args.heap) c.args.block c.args.cursor.now.from c.args.cursor.now.at c.args.cursor.now.free c.args.cursor.now.gap c.requires.heap c.requires.block here in
     let other = rw (sym here) at c.free_behind-item.ensures.total in
     let sum = other ∙ k.facts.total_word in
-    can_stand c.args.map.now c.put_free.new.map c.args.heap (end_at c.args.map.now c.args.heap) c.args.cursor.now.at _ (Live c.own_total-own.result ∷ (Free c.free_behind-item.result.total ∷ [])) c.requires.heap c.put_free.ensures.layout (
+    can_stand c.args.map.now c.put_free.new.map c.args.heap (end_at c.args.map.now c.args.heap) c.args.cursor.now.at _ (Live c.own_total-own.result ∷ (Free c.free_behind-item.result.total ∷ [])) c.requires.heap c.put_free.ensures.kept.layout (
       total_of-numbers c.own_total-own.result (omega (arith, own, f.facts.size)) (omega (arith, own, f.facts.eighths)),
       (total_of-numbers c.free_behind-item.result.total (omega (arith, sum, k.facts.size)) (omega (arith, sum, k.facts.eighths)), tt),
     ) f.facts.whole (omega (arith, f.low)) (omega (arith, own, sum, k.facts.high))
@@ -182,7 +182,7 @@ remark_gap-requires-then-behind-cursor-clause-news c =
     let k = next_free_facts c.args.map.now c.args.heap (end_at c.args.map.now c.args.heap) c.args.block c.args.cursor.now.from c.args.cursor.now.at c.args.cursor.now.free c.args.cursor.now.gap c.requires.heap c.requires.block here in
     let other = rw (sym here) at c.free_behind-item.ensures.total in
     let sum = other ∙ k.facts.total_word in
-    can_stand c.args.map.now c.put_free.new.map c.args.heap (end_at c.args.map.now c.args.heap) (c.args.cursor.now.at - c.args.cursor.now.gap) _ (Free (c.args.cursor.now.gap + c.own_total-own.result + c.free_behind-item.result.total) ∷ []) c.requires.heap c.put_free.ensures.layout
+    can_stand c.args.map.now c.put_free.new.map c.args.heap (end_at c.args.map.now c.args.heap) (c.args.cursor.now.at - c.args.cursor.now.gap) _ (Free (c.args.cursor.now.gap + c.own_total-own.result + c.free_behind-item.result.total) ∷ []) c.requires.heap c.put_free.ensures.kept.layout
     (total_of-numbers (c.args.cursor.now.gap + c.own_total-own.result + c.free_behind-item.result.total) (omega (arith, own, sum, f.facts.size)) (omega (arith, own, sum, f.eighths, f.facts.eighths, k.facts.eighths)), tt) f.whole (omega (arith, f.low)) (omega (arith, own, sum, f.low, k.facts.high))
 
 pub remark_gap-requires-2-clause-low : goal.remark_gap-requires-2-clause-low
@@ -193,20 +193,20 @@ remark_gap-requires-2-clause-low c =
 pub remark_gap-requires-2-clause-gap : goal.remark_gap-requires-2-clause-gap
 remark_gap-requires-2-clause-gap c =
     gap_stands c.args.map.now c.put_free-2.new.map c.args.heap (end_at c.args.map.now c.args.heap) c.args.block c.args.cursor.now.from c.args.cursor.now.at c.args.cursor.now.free c.args.cursor.now.gap c.requires.heap c.requires.block
-    c.put_free-2.ensures.layout
+    c.put_free-2.ensures.kept.layout
 
 pub remark_gap-requires-2-clause-olds : goal.remark_gap-requires-2-clause-olds
 remark_gap-requires-2-clause-olds c =
     let f = block_facts c.args.map.now c.args.heap (end_at c.args.map.now c.args.heap) c.args.block c.args.cursor.now.from c.args.cursor.now.at c.args.cursor.now.free c.args.cursor.now.gap c.requires.heap c.requires.block in
     let own = c.own_total-own.ensures.word ∙ f.facts.total_word in
-    can_stand c.args.map.now c.put_free-2.new.map c.args.heap (end_at c.args.map.now c.args.heap) c.args.cursor.now.at _ (Live c.own_total-own.result ∷ []) c.requires.heap c.put_free-2.ensures.layout
+    can_stand c.args.map.now c.put_free-2.new.map c.args.heap (end_at c.args.map.now c.args.heap) c.args.cursor.now.at _ (Live c.own_total-own.result ∷ []) c.requires.heap c.put_free-2.ensures.kept.layout
     (total_of-numbers c.own_total-own.result (omega (arith, own, f.facts.size)) (omega (arith, own, f.facts.eighths)), tt) f.facts.whole (omega (arith, f.low)) (omega (arith, own, f.facts.high))
 
 pub remark_gap-requires-2-clause-news : goal.remark_gap-requires-2-clause-news
 remark_gap-requires-2-clause-news c =
     let f = block_facts c.args.map.now c.args.heap (end_at c.args.map.now c.args.heap) c.args.block c.args.cursor.now.from c.args.cursor.now.at c.args.cursor.now.free c.args.cursor.now.gap c.requires.heap c.requires.block in
     let own = c.own_total-own.ensures.word ∙ f.facts.total_word in
-    can_stand c.args.map.now c.put_free-2.new.map c.args.heap (end_at c.args.map.now c.args.heap) (c.args.cursor.now.at - c.args.cursor.now.gap) _ (Free (c.args.cursor.now.gap + c.own_total-own.result) ∷ []) c.requires.heap c.put_free-2.ensures.layout
+    can_stand c.args.map.now c.put_free-2.new.map c.args.heap (end_at c.args.map.now c.args.heap) (c.args.cursor.now.at - c.args.cursor.now.gap) _ (Free (c.args.cursor.now.gap + c.own_total-own.result) ∷ []) c.requires.heap c.put_free-2.ensures.kept.layout
     (total_of-numbers (c.args.cursor.now.gap + c.own_total-own.result) (omega (arith, own, f.facts.size)) (omega (arith, own, f.eighths, f.facts.eighths)), tt) f.whole (omega (arith, f.low)) (omega (arith, own, f.low, f.facts.high))
 
 pub returns-then-behind-base : goal.returns-then-behind-base
@@ -216,10 +216,10 @@ returns-then-behind-base c =
     let ends : c.args.cursor.now.at + c.requires.block.total ≡ c.args.heap + word_at (byte_at c.args.map.now) (c.args.heap + 8) =
     sym (ap (λ n. c.args.cursor.now.at + n) own) ∙ c.if-behind-base.true ∙ ap (λ n. c.args.heap + n) c.word.ensures in
     releases_sunk c.args.map.now _ c.args.heap (end_at c.args.map.now c.args.heap) c.args.block c.args.cursor.now.from c.args.cursor.now.at c.args.cursor.now.free c.args.cursor.now.gap _ c.requires.heap c.requires.block ends
-    (c.remark_gap.ensures.layout ∙ c.put.ensures.layout ∙ c.put_link.ensures.layout) c.put_link.ensures.word
+    (c.remark_gap.ensures.layout ∙ c.put.ensures.kept.layout ∙ c.put_link.ensures.kept.layout) c.put_link.ensures.word
     (still_written _ _ _ _ _ c.remark_gap.ensures.bytes c.put.ensures.word)
     (remarks_after (class_of c.args.map.now) (class_of c.put.new.map) (class_of c.remark_gap.new.map) (c.args.cursor.now.at - c.args.cursor.now.gap) (left_free c.args.cursor.now.gap ++ Live c.requires.block.total ∷ []) []
-    (c.put.ensures.marks ∙ c.put_link.ensures.marks) (rw own at c.remark_gap.ensures.marks))
+    (c.put.ensures.kept.marks ∙ c.put_link.ensures.kept.marks) (rw own at c.remark_gap.ensures.marks))
 
 pub overflow_add-joined : goal.overflow_add-joined
 overflow_add-joined c =
@@ -243,9 +243,9 @@ returns-then-behind-cursor c =
     let words = rw (own, sum) at c.put_free.ensures.words in
     let change = rw (own, sum) at c.remark_gap-then-behind-cursor.ensures.marks in
     releases_joined c.args.map.now _ c.args.heap (end_at c.args.map.now c.args.heap) c.args.block c.args.cursor.now.from c.args.cursor.now.at c.args.cursor.now.free c.args.cursor.now.gap c.free_behind-item.result.next c.requires.heap c.requires.block k
-    (c.remark_gap-then-behind-cursor.ensures.layout ∙ c.put_free.ensures.layout) (next ∙ k.onward)
+    (c.remark_gap-then-behind-cursor.ensures.layout ∙ c.put_free.ensures.kept.layout) (next ∙ k.onward)
     (still_freed _ _ _ _ _ _ _ _ c.remark_gap-then-behind-cursor.ensures.bytes words) (remarks_after (class_of c.args.map.now) (class_of c.put_free.new.map) (class_of c.remark_gap-then-behind-cursor.new.map) (c.args.cursor.now.at - c.args.cursor.now.gap) (left_free c.args.cursor.now.gap ++ Live c.requires.block.total ∷ (Free k.total ∷ [])) (Free (c.args.cursor.now.gap + c.requires.block.total + k.total) ∷ [])
-    c.put_free.ensures.marks change)
+    c.put_free.ensures.kept.marks change)
 
 pub returns : goal.returns
 returns c =
@@ -257,6 +257,6 @@ returns c =
     λ e. c.if-behind-base.false (ap (λ n. c.args.cursor.now.at + n) own ∙ e ∙ sym (ap (λ n. c.args.heap + n) c.word.ensures)) in
     let other : c.args.cursor.now.at + c.requires.block.total ≢ c.args.cursor.now.free = λ e. c.if-behind-cursor.false (ap (λ n. c.args.cursor.now.at + n) own ∙ e) in
     releases_alone c.args.map.now _ c.args.heap (end_at c.args.map.now c.args.heap) c.args.block c.args.cursor.now.from c.args.cursor.now.at c.args.cursor.now.free c.args.cursor.now.gap c.requires.heap c.requires.block inside other
-    (c.remark_gap-2.ensures.layout ∙ c.put_free-2.ensures.layout)
+    (c.remark_gap-2.ensures.layout ∙ c.put_free-2.ensures.kept.layout)
     (still_freed _ _ _ _ _ _ _ _ c.remark_gap-2.ensures.bytes words) (remarks_after (class_of c.args.map.now) (class_of c.put_free-2.new.map) (class_of c.remark_gap-2.new.map) (c.args.cursor.now.at - c.args.cursor.now.gap) (left_free c.args.cursor.now.gap ++ Live c.requires.block.total ∷ []) (Free (c.args.cursor.now.gap + c.requires.block.total) ∷ [])
-    c.put_free-2.ensures.marks change)
+    c.put_free-2.ensures.kept.marks change)

@@ -33,6 +33,6 @@ loop-item-preserved c =
       place = rw more (omega (arith, c.loop-item.invariant.place, c.total-place.ensures, size));
       marks = rw more (one_more (class_of c.args.map.now) (class_of c.loop-item.map) (class_of c.mark_item.new.map) c.args.at c.loop-item.place done item
           (head_class c.args.is_head) c.loop-item.invariant.place c.loop-item.invariant.marks c.mark_item.ensures.marks);
-      bytes = c.mark_item.ensures.bytes ∙ c.loop-item.invariant.bytes;
-      layout = c.mark_item.ensures.layout ∙ c.loop-item.invariant.layout;
+      bytes = c.mark_item.ensures.kept.bytes ∙ c.loop-item.invariant.bytes;
+      layout = c.mark_item.ensures.kept.layout ∙ c.loop-item.invariant.layout;
     }

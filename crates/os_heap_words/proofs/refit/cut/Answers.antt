@@ -32,7 +32,7 @@ remark-requires-clause-olds c =
     let k = next_free_facts c.args.map.now c.args.heap (end_at c.args.map.now c.args.heap) c.args.block c.args.cursor.now.from c.args.cursor.now.at c.args.cursor.now.free c.args.cursor.now.gap c.requires.place.heap c.requires.place.block here in
     let other = rw (sym here) at c.free_behind-item.ensures.total in
     let sum = other ∙ k.facts.total_word in
-    can_stand c.args.map.now c.divide.new.map c.args.heap (end_at c.args.map.now c.args.heap) c.args.cursor.now.at _ (Live c.own_total-total.result ∷ (Free c.free_behind-item.result.total ∷ [])) c.requires.place.heap c.divide.ensures.layout (
+    can_stand c.args.map.now c.divide.new.map c.args.heap (end_at c.args.map.now c.args.heap) c.args.cursor.now.at _ (Live c.own_total-total.result ∷ (Free c.free_behind-item.result.total ∷ [])) c.requires.place.heap c.divide.ensures.kept.layout (
       total_of-numbers c.own_total-total.result (omega (arith, own, f.facts.size)) (omega (arith, own, f.facts.eighths)),
       (total_of-numbers c.free_behind-item.result.total (omega (arith, sum, k.facts.size)) (omega (arith, sum, k.facts.eighths)), tt),
     ) f.facts.whole (omega (arith, f.facts.low)) (omega (arith, own, sum, k.facts.high))
@@ -47,7 +47,7 @@ remark-requires-clause-news c =
     let sum = other ∙ k.facts.total_word in
     let less : c.args.needed < c.requires.place.block.total = rw f.facts.total_word at c.requires.smaller in
     let n = total_facts c.args.needed c.requires.total in
-    can_stand c.args.map.now c.divide.new.map c.args.heap (end_at c.args.map.now c.args.heap) c.args.cursor.now.at _ (Live c.args.needed ∷ (Free (c.own_total-total.result - c.args.needed + c.free_behind-item.result.total) ∷ [])) c.requires.place.heap c.divide.ensures.layout (
+    can_stand c.args.map.now c.divide.new.map c.args.heap (end_at c.args.map.now c.args.heap) c.args.cursor.now.at _ (Live c.args.needed ∷ (Free (c.own_total-total.result - c.args.needed + c.free_behind-item.result.total) ∷ [])) c.requires.place.heap c.divide.ensures.kept.layout (
       c.requires.total,
       (
         total_of-numbers (c.own_total-total.result - c.args.needed + c.free_behind-item.result.total) (omega (arith, own, sum, k.facts.size))
@@ -60,7 +60,7 @@ pub remark-requires-2-clause-olds : goal.remark-requires-2-clause-olds
 remark-requires-2-clause-olds c =
     let f = place_facts c.args.map.now c.args.heap (end_at c.args.map.now c.args.heap) c.args.block c.args.cursor.now.from c.args.cursor.now.at c.args.cursor.now.free c.args.cursor.now.gap c.requires.place.heap c.requires.place.block in
     let own = c.own_total-total.ensures.word ∙ f.facts.total_word in
-    can_stand c.args.map.now c.divide-2.new.map c.args.heap (end_at c.args.map.now c.args.heap) c.args.cursor.now.at _ (Live c.own_total-total.result ∷ []) c.requires.place.heap c.divide-2.ensures.layout
+    can_stand c.args.map.now c.divide-2.new.map c.args.heap (end_at c.args.map.now c.args.heap) c.args.cursor.now.at _ (Live c.own_total-total.result ∷ []) c.requires.place.heap c.divide-2.ensures.kept.layout
     (total_of-numbers c.own_total-total.result (omega (arith, own, f.facts.size)) (omega (arith, own, f.facts.eighths)), tt) f.facts.whole (omega (arith, f.facts.low)) (omega (arith, own, f.facts.high))
 
 pub remark-requires-2-clause-news : goal.remark-requires-2-clause-news
@@ -69,7 +69,7 @@ remark-requires-2-clause-news c =
     let own = c.own_total-total.ensures.word ∙ f.facts.total_word in
     let less : c.args.needed < c.requires.place.block.total = rw f.facts.total_word at c.requires.smaller in
     let n = total_facts c.args.needed c.requires.total in
-    can_stand c.args.map.now c.divide-2.new.map c.args.heap (end_at c.args.map.now c.args.heap) c.args.cursor.now.at _ (Live c.args.needed ∷ (Free (c.own_total-total.result - c.args.needed) ∷ [])) c.requires.place.heap c.divide-2.ensures.layout (
+    can_stand c.args.map.now c.divide-2.new.map c.args.heap (end_at c.args.map.now c.args.heap) c.args.cursor.now.at _ (Live c.args.needed ∷ (Free (c.own_total-total.result - c.args.needed) ∷ [])) c.requires.place.heap c.divide-2.ensures.kept.layout (
       c.requires.total,
       (
         total_of-numbers (c.own_total-total.result - c.args.needed) (omega (arith, own, n.1, f.facts.eighths))
@@ -97,9 +97,9 @@ returns-then-behind-cursor c =
     let next = rw (sym here) at c.free_behind-item.ensures.next in
     let words = rw (own, sum) at (still_divided _ _ _ _ _ _ _ _ _ c.remark.ensures.bytes c.divide.ensures.words) in
     let change = rw own at (remarks_after (class_of c.args.map.now) (class_of c.divide.new.map) (class_of c.remark.new.map) c.args.cursor.now.at (Live c.own_total-total.result ∷ (Free c.free_behind-item.result.total ∷ [])) (Live c.args.needed ∷ (Free (c.own_total-total.result - c.args.needed + c.free_behind-item.result.total) ∷ []))
-    c.divide.ensures.marks c.remark.ensures.marks) in
+    c.divide.ensures.kept.marks c.remark.ensures.marks) in
     refits_joined c.args.map.now _ c.args.heap (end_at c.args.map.now c.args.heap) _ c.args.needed c.free_behind-item.result.next c.args.block c.args.cursor.now.from c.args.cursor.now.at c.args.cursor.now.free c.args.cursor.now.gap c.requires.place.heap c.requires.place.block k
-    (c.remark.ensures.layout ∙ c.divide.ensures.layout) c.requires.total less (next ∙ k.onward) words change
+    (c.remark.ensures.layout ∙ c.divide.ensures.kept.layout) c.requires.total less (next ∙ k.onward) words change
 
 pub divide-requires-2-clause-room : goal.divide-requires-2-clause-room
 divide-requires-2-clause-room c =
@@ -118,6 +118,6 @@ returns c =
     let other : c.args.cursor.now.at + c.requires.place.block.total ≢ c.args.cursor.now.free = λ e. c.if-behind-cursor.false (ap (λ n. c.args.cursor.now.at + n) own ∙ e) in
     let words = rw own at (still_divided _ _ _ _ _ _ _ _ _ c.remark-2.ensures.bytes c.divide-2.ensures.words) in
     let change = remarks_after (class_of c.args.map.now) (class_of c.divide-2.new.map) (class_of c.remark-2.new.map) c.args.cursor.now.at (Live c.own_total-total.result ∷ []) (Live c.args.needed ∷ (Free (c.own_total-total.result - c.args.needed) ∷ []))
-    c.divide-2.ensures.marks c.remark-2.ensures.marks in
+    c.divide-2.ensures.kept.marks c.remark-2.ensures.marks in
     refits_alone c.args.map.now _ c.args.heap (end_at c.args.map.now c.args.heap) _ c.args.needed c.args.block c.args.cursor.now.from c.args.cursor.now.at c.args.cursor.now.free c.args.cursor.now.gap c.requires.place.heap c.requires.place.block inside other
-    (c.remark-2.ensures.layout ∙ c.divide-2.ensures.layout) c.requires.total less words change
+    (c.remark-2.ensures.layout ∙ c.divide-2.ensures.kept.layout) c.requires.total less words change

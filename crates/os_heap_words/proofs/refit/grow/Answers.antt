@@ -84,7 +84,7 @@ put-requires-clause-aligned c =
 pub put-requires-clause-mapped : goal.put-requires-clause-mapped
 put-requires-clause-mapped c =
     let f = place_facts c.args.map.now c.args.heap (end_at c.args.map.now c.args.heap) c.args.block c.args.cursor.now.from c.args.cursor.now.at c.args.cursor.now.free c.args.cursor.now.gap c.requires.place.heap c.requires.place.block in
-    still_mapped _ _ _ c.put_link.ensures.layout (heap_mapped c.args.map.now c.args.heap (end_at c.args.map.now c.args.heap) _ _ c.requires.place.heap (omega (arith, f.facts.low)) (omega (arith, f.facts.high, f.facts.size)))
+    still_mapped _ _ _ c.put_link.ensures.kept.layout (heap_mapped c.args.map.now c.args.heap (end_at c.args.map.now c.args.heap) _ _ c.requires.place.heap (omega (arith, f.facts.low)) (omega (arith, f.facts.high, f.facts.size)))
 
 pub remark-requires-clause-olds : goal.remark-requires-clause-olds
 remark-requires-clause-olds c =
@@ -94,7 +94,7 @@ remark-requires-clause-olds c =
     let k = next_free_facts c.args.map.now c.args.heap (end_at c.args.map.now c.args.heap) c.args.block c.args.cursor.now.from c.args.cursor.now.at c.args.cursor.now.free c.args.cursor.now.gap c.requires.place.heap c.requires.place.block here in
     let other = rw (sym here) at c.free_behind-item.ensures.total in
     let sum = other ∙ k.facts.total_word in
-    can_stand c.args.map.now c.put.new.map c.args.heap (end_at c.args.map.now c.args.heap) c.args.cursor.now.at _ (Live c.own_total-total.result ∷ (Free c.free_behind-item.result.total ∷ [])) c.requires.place.heap (c.put.ensures.layout ∙ c.put_link.ensures.layout) (
+    can_stand c.args.map.now c.put.new.map c.args.heap (end_at c.args.map.now c.args.heap) c.args.cursor.now.at _ (Live c.own_total-total.result ∷ (Free c.free_behind-item.result.total ∷ [])) c.requires.place.heap (c.put.ensures.kept.layout ∙ c.put_link.ensures.kept.layout) (
       total_of-numbers c.own_total-total.result (omega (arith, own, f.facts.size)) (omega (arith, own, f.facts.eighths)),
       (total_of-numbers c.free_behind-item.result.total (omega (arith, sum, k.facts.size)) (omega (arith, sum, k.facts.eighths)), tt),
     ) f.facts.whole (omega (arith, f.facts.low)) (omega (arith, own, sum, k.facts.high))
@@ -107,7 +107,7 @@ remark-requires-clause-news c =
     let k = next_free_facts c.args.map.now c.args.heap (end_at c.args.map.now c.args.heap) c.args.block c.args.cursor.now.from c.args.cursor.now.at c.args.cursor.now.free c.args.cursor.now.gap c.requires.place.heap c.requires.place.block here in
     let other = rw (sym here) at c.free_behind-item.ensures.total in
     let sum = other ∙ k.facts.total_word in
-    can_stand c.args.map.now c.put.new.map c.args.heap (end_at c.args.map.now c.args.heap) c.args.cursor.now.at _ (Live c.args.needed ∷ []) c.requires.place.heap (c.put.ensures.layout ∙ c.put_link.ensures.layout)
+    can_stand c.args.map.now c.put.new.map c.args.heap (end_at c.args.map.now c.args.heap) c.args.cursor.now.at _ (Live c.args.needed ∷ []) c.requires.place.heap (c.put.ensures.kept.layout ∙ c.put_link.ensures.kept.layout)
     (c.requires.total, tt) f.facts.whole (omega (arith, f.facts.low)) (omega (arith, own, sum, k.facts.high, c.if-needed-from.false))
 
 pub remark-requires-2-clause-olds : goal.remark-requires-2-clause-olds
@@ -118,7 +118,7 @@ remark-requires-2-clause-olds c =
     let k = next_free_facts c.args.map.now c.args.heap (end_at c.args.map.now c.args.heap) c.args.block c.args.cursor.now.from c.args.cursor.now.at c.args.cursor.now.free c.args.cursor.now.gap c.requires.place.heap c.requires.place.block here in
     let other = rw (sym here) at c.free_behind-item.ensures.total in
     let sum = other ∙ k.facts.total_word in
-    can_stand c.args.map.now c.divide.new.map c.args.heap (end_at c.args.map.now c.args.heap) c.args.cursor.now.at _ (Live c.own_total-total.result ∷ (Free c.free_behind-item.result.total ∷ [])) c.requires.place.heap c.divide.ensures.layout (
+    can_stand c.args.map.now c.divide.new.map c.args.heap (end_at c.args.map.now c.args.heap) c.args.cursor.now.at _ (Live c.own_total-total.result ∷ (Free c.free_behind-item.result.total ∷ [])) c.requires.place.heap c.divide.ensures.kept.layout (
       total_of-numbers c.own_total-total.result (omega (arith, own, f.facts.size)) (omega (arith, own, f.facts.eighths)),
       (total_of-numbers c.free_behind-item.result.total (omega (arith, sum, k.facts.size)) (omega (arith, sum, k.facts.eighths)), tt),
     ) f.facts.whole (omega (arith, f.facts.low)) (omega (arith, own, sum, k.facts.high))
@@ -132,7 +132,7 @@ remark-requires-2-clause-news c =
     let other = rw (sym here) at c.free_behind-item.ensures.total in
     let sum = other ∙ k.facts.total_word in
     let n = total_facts c.args.needed c.requires.total in
-    can_stand c.args.map.now c.divide.new.map c.args.heap (end_at c.args.map.now c.args.heap) c.args.cursor.now.at _ (Live c.args.needed ∷ (Free (c.own_total-total.result + c.free_behind-item.result.total - c.args.needed) ∷ [])) c.requires.place.heap c.divide.ensures.layout (
+    can_stand c.args.map.now c.divide.new.map c.args.heap (end_at c.args.map.now c.args.heap) c.args.cursor.now.at _ (Live c.args.needed ∷ (Free (c.own_total-total.result + c.free_behind-item.result.total - c.args.needed) ∷ [])) c.requires.place.heap c.divide.ensures.kept.layout (
       c.requires.total,
       (
         total_of-numbers (c.own_total-total.result + c.free_behind-item.result.total - c.args.needed) (omega (arith, own, sum, n.1, f.facts.eighths, k.facts.eighths, c.if-left-eq0.false))
@@ -155,10 +155,10 @@ returns-then-left-eq0 c =
     let none : c.requires.place.block.total + k.total - c.args.needed ≡ 0 = omega (arith, own, sum) in
     let one = rw c.last_link-from.ensures at c.put_link.ensures.word in
     refits_whole c.args.map.now _ c.args.heap (end_at c.args.map.now c.args.heap) _ c.args.needed c.free_behind-item.result.next c.args.block c.args.cursor.now.from c.args.cursor.now.at c.args.cursor.now.free c.args.cursor.now.gap _ c.requires.place.heap c.requires.place.block k
-    (c.remark.ensures.layout ∙ c.put.ensures.layout ∙ c.put_link.ensures.layout) c.requires.total larger fits none (next ∙ k.onward) one
+    (c.remark.ensures.layout ∙ c.put.ensures.kept.layout ∙ c.put_link.ensures.kept.layout) c.requires.total larger fits none (next ∙ k.onward) one
     (still_written _ _ _ _ _ c.remark.ensures.bytes c.put.ensures.word)
     (rw own at (remarks_after (class_of c.args.map.now) (class_of c.put.new.map) (class_of c.remark.new.map) c.args.cursor.now.at (Live c.own_total-total.result ∷ (Free c.free_behind-item.result.total ∷ [])) (Live c.args.needed ∷ [])
-    (c.put.ensures.marks ∙ c.put_link.ensures.marks) c.remark.ensures.marks))
+    (c.put.ensures.kept.marks ∙ c.put_link.ensures.kept.marks) c.remark.ensures.marks))
 
 pub divide-requires-clause-room : goal.divide-requires-clause-room
 divide-requires-clause-room c =
@@ -185,6 +185,6 @@ returns c =
     let some : c.requires.place.block.total + k.total - c.args.needed ≢ 0 = λ e. c.if-left-eq0.false (omega (arith, own, sum)) in
     let words = rw (own, sum) at (still_divided _ _ _ _ _ _ _ _ _ c.remark-2.ensures.bytes c.divide.ensures.words) in
     let change = rw own at (remarks_after (class_of c.args.map.now) (class_of c.divide.new.map) (class_of c.remark-2.new.map) c.args.cursor.now.at (Live c.own_total-total.result ∷ (Free c.free_behind-item.result.total ∷ [])) (Live c.args.needed ∷ (Free (c.own_total-total.result + c.free_behind-item.result.total - c.args.needed) ∷ []))
-    c.divide.ensures.marks c.remark-2.ensures.marks) in
+    c.divide.ensures.kept.marks c.remark-2.ensures.marks) in
     refits_part c.args.map.now _ c.args.heap (end_at c.args.map.now c.args.heap) _ c.args.needed c.free_behind-item.result.next c.args.block c.args.cursor.now.from c.args.cursor.now.at c.args.cursor.now.free c.args.cursor.now.gap c.requires.place.heap c.requires.place.block k
-    (c.remark-2.ensures.layout ∙ c.divide.ensures.layout) c.requires.total larger fits some (next ∙ k.onward) words change
+    (c.remark-2.ensures.layout ∙ c.divide.ensures.kept.layout) c.requires.total larger fits some (next ∙ k.onward) words change

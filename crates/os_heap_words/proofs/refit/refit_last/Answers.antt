@@ -34,4 +34,4 @@ returns c =
     let ends : c.args.cursor.now.at + c.requires.place.block.total ≡ c.args.heap + word_at (byte_at c.args.map.now) (c.args.heap + 8) =
     sym (ap (λ n. c.args.cursor.now.at + n) f.facts.total_word) ∙ c.requires.last in
     refits_last c.args.map.now _ c.args.heap (end_at c.args.map.now c.args.heap) c.args.needed c.args.block c.args.cursor.now.from c.args.cursor.now.at c.args.cursor.now.free c.args.cursor.now.gap _ c.requires.place.heap c.requires.place.block ends
-    (c.put-2.ensures.layout ∙ c.put.ensures.layout) c.requires.needed.total (omega (arith, c.word.ensures)) c.put.ensures.word c.put-2.ensures.word (c.put-2.ensures.marks ∙ c.put.ensures.marks)
+    (c.put-2.ensures.kept.layout ∙ c.put.ensures.kept.layout) c.requires.needed.total (omega (arith, c.word.ensures)) c.put.ensures.word c.put-2.ensures.word (c.put-2.ensures.kept.marks ∙ c.put.ensures.kept.marks)

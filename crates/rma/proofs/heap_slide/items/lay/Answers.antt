@@ -8,8 +8,8 @@ use Rattle.rma.proofs.heap_slide.items.lay.Goals as goal
 pub set_down-requires : goal.set_down-requires
 set_down-requires c =
     room_moved c.args.map.now c.move_bytes.new.self c.args.heap c.args.cursor.now.from c.args.cursor.now.top c.args.cursor.now.at c.args.to c.args.total
-    c.requires.room c.requires.high (c.move_bytes.ensures.layout ∙ c.mark_item.ensures.layout)
-    (λ a. c.move_bytes.ensures.bytes a ∙ ap (λ (f : ℕ → ℕ). with_moved_at f c.args.cursor.now.at c.args.to c.args.total a) c.mark_item.ensures.bytes)
+    c.requires.room c.requires.high (c.move_bytes.ensures.layout ∙ c.mark_item.ensures.kept.layout)
+    (λ a. c.move_bytes.ensures.bytes a ∙ ap (λ (f : ℕ → ℕ). with_moved_at f c.args.cursor.now.at c.args.to c.args.total a) c.mark_item.ensures.kept.bytes)
 
 pub overflow_add-result : goal.overflow_add-result
 overflow_add-result c =
@@ -24,6 +24,6 @@ overflow_add-result-2 c =
 pub returns-clause-laid : goal.returns-clause-laid
 returns-clause-laid c =
     laid_as c.args.map.now c.move_bytes.new.self c.set_down.new.map c.args.heap c.args.cursor.now.from c.args.cursor.now.top c.args.cursor.now.at c.args.to c.args.total
-    c.requires.room c.requires.high (c.move_bytes.ensures.layout ∙ c.mark_item.ensures.layout)
-    (λ a. c.move_bytes.ensures.bytes a ∙ ap (λ (f : ℕ → ℕ). with_moved_at f c.args.cursor.now.at c.args.to c.args.total a) c.mark_item.ensures.bytes)
+    c.requires.room c.requires.high (c.move_bytes.ensures.layout ∙ c.mark_item.ensures.kept.layout)
+    (λ a. c.move_bytes.ensures.bytes a ∙ ap (λ (f : ℕ → ℕ). with_moved_at f c.args.cursor.now.at c.args.to c.args.total a) c.mark_item.ensures.kept.bytes)
     (λ a. ap (λ (f : ℕ → Class). f a) c.move_bytes.ensures.marks ∙ c.mark_item.ensures.marks a) c.set_down.ensures

@@ -24,15 +24,15 @@ pub make-requires : goal.make-requires
 make-requires c =
     let f = room_facts _ _ _ _ _ _ _ c.requires in
     can_stand c.args.map.now c.put-then-to-cursor.new.map c.args.heap (end_at c.args.map.now c.args.heap) c.args.to _ (Live c.args.total ∷ []) c.requires.heap
-    (c.put-then-to-cursor.ensures.layout ∙ c.put.ensures.layout) (c.requires.whole, tt) f.goal (omega (arith, f.above, c.requires.low)) (omega (arith, f.below))
+    (c.put-then-to-cursor.ensures.kept.layout ∙ c.put.ensures.kept.layout) (c.requires.whole, tt) f.goal (omega (arith, f.above, c.requires.low)) (omega (arith, f.below))
 
 pub returns-then-to-cursor : goal.returns-then-to-cursor
 returns-then-to-cursor c =
     set_alone c.args.map.now c.make.new.map c.args.heap c.args.cursor.now.from c.args.cursor.now.top c.args.to c.args.total _ _ c.requires refl c.if-to-cursor.true
-    (c.make.ensures.layout ∙ c.put-then-to-cursor.ensures.layout ∙ c.put.ensures.layout) c.put.ensures.word
-    (still_written _ _ _ _ _ c.make.ensures.bytes c.put-then-to-cursor.ensures.word)
+    (c.make.ensures.kept.layout ∙ c.put-then-to-cursor.ensures.kept.layout ∙ c.put.ensures.kept.layout) c.put.ensures.word
+    (still_written _ _ _ _ _ c.make.ensures.kept.bytes c.put-then-to-cursor.ensures.word)
     (remarks_after (class_of c.args.map.now) (class_of c.put-then-to-cursor.new.map) (class_of c.make.new.map) c.args.to [] (Live c.args.total ∷ [])
-    (c.put-then-to-cursor.ensures.marks ∙ c.put.ensures.marks) c.make.ensures.marks)
+    (c.put-then-to-cursor.ensures.kept.marks ∙ c.put.ensures.kept.marks) c.make.ensures.marks)
 
 pub put_free-requires-clause-below : goal.put_free-requires-clause-below
 put_free-requires-clause-below c =
@@ -60,14 +60,14 @@ pub make-requires-2 : goal.make-requires-2
 make-requires-2 c =
     let f = room_facts _ _ _ _ _ _ _ c.requires in
     can_stand c.args.map.now c.put-3.new.map c.args.heap (end_at c.args.map.now c.args.heap) c.args.cursor.now.top _ (Free (c.args.to - c.args.cursor.now.top) ∷ (Live c.args.total ∷ [])) c.requires.heap
-    (c.put-3.ensures.layout ∙ c.put-2.ensures.layout ∙ c.put_free.ensures.layout)
+    (c.put-3.ensures.kept.layout ∙ c.put-2.ensures.kept.layout ∙ c.put_free.ensures.kept.layout)
     (total_of-numbers (c.args.to - c.args.cursor.now.top) (omega (arith, c.requires.low, c.requires.eighths, c.if-to-cursor.false)) c.requires.eighths, (c.requires.whole, tt))
     f.whole (omega (arith, f.above)) (omega (arith, f.below, c.requires.low))
 
 pub returns : goal.returns
 returns c =
     set_behind c.args.map.now c.make-2.new.map c.args.heap c.args.cursor.now.from c.args.cursor.now.top c.args.to c.args.total _ _ _ c.requires refl c.if-to-cursor.false
-    (c.make-2.ensures.layout ∙ c.put-3.ensures.layout ∙ c.put-2.ensures.layout ∙ c.put_free.ensures.layout) c.put_free.ensures.words c.put-2.ensures.word
-    (still_written _ _ _ _ _ c.make-2.ensures.bytes c.put-3.ensures.word)
+    (c.make-2.ensures.kept.layout ∙ c.put-3.ensures.kept.layout ∙ c.put-2.ensures.kept.layout ∙ c.put_free.ensures.kept.layout) c.put_free.ensures.words c.put-2.ensures.word
+    (still_written _ _ _ _ _ c.make-2.ensures.kept.bytes c.put-3.ensures.word)
     (remarks_after (class_of c.args.map.now) (class_of c.put-3.new.map) (class_of c.make-2.new.map) c.args.cursor.now.top [] (Free (c.args.to - c.args.cursor.now.top) ∷ (Live c.args.total ∷ []))
-    (c.put-3.ensures.marks ∙ c.put-2.ensures.marks ∙ c.put_free.ensures.marks) c.make-2.ensures.marks)
+    (c.put-3.ensures.kept.marks ∙ c.put-2.ensures.kept.marks ∙ c.put_free.ensures.kept.marks) c.make-2.ensures.marks)

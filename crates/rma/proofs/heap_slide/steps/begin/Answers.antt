@@ -29,6 +29,6 @@ overflow_add-heap c =
 pub returns : goal.returns
 returns c = λ movable blocks few.
     begun c.args.map.now c.put_link.new.map c.put.new.map c.args.heap c.follow-free.result movable c.requires
-    (c.put.ensures.layout ∙ c.put_link.ensures.layout) (c.put.ensures.marks ∙ c.put_link.ensures.marks)
+    (c.put.ensures.kept.layout ∙ c.put_link.ensures.kept.layout) (c.put.ensures.kept.marks ∙ c.put_link.ensures.kept.marks)
     (c.follow-free.ensures ∙ first_link c.args.map.now c.args.heap (end_at c.args.map.now c.args.heap) _ c.requires)
     c.put_link.ensures.word c.put.ensures.word blocks few
