@@ -1,20 +1,38 @@
 //! Why an image has no header.
 
-use thiserror::Error;
+ghost use Rattle.std.specs.Prelude.{Some};
+ghost use Rattle.profile.specs.images.module_header.FaultTexts.{header_fault_text};
+
+use std::error::Error;
+use std::fmt;
 
 /// Why an image has no header. Where several reasons hold, the first of this list is given.
-#[derive(Clone, Copy, Debug, Error)]
+#[derive(Clone, Copy, Debug, PartialEq, Eq)]
 pub enum HeaderFault {
     /// The image has fewer than 28 bytes.
-    #[error("the image is shorter than a module's header")]
     Short,
     /// The word at &04 is not the offset of a word in the image.
-    #[error("the initialisation entry is no word of the image")]
     Initialise,
     /// The word at &08 is not the offset of a word in the image.
-    #[error("the finalisation entry is no word of the image")]
     Finalise,
     /// No title of 1 to 31 characters stands where the word at &10 says.
-    #[error("the image has no good title")]
     Title,
 }
+
+/// What the image lacks, in a sentence's words.
+impl fmt::Display for HeaderFault {
+    ghost output = { λ fault. Some (header_fault_text fault) };
+
+    fn fmt<W: fmt::Write>(&self, f: &mut fmt::Formatter<W>) -> fmt::Result {
+        match self {
+            HeaderFault::Short => f.write_str("the image is shorter than a module's header"),
+            HeaderFault::Initialise => {
+                f.write_str("the initialisation entry is no word of the image")
+            }
+            HeaderFault::Finalise => f.write_str("the finalisation entry is no word of the image"),
+            HeaderFault::Title => f.write_str("the image has no good title"),
+        }
+    }
+}
+
+impl Error for HeaderFault {}
