@@ -1,7 +1,7 @@
 -- From the bytes one by one to memory as a whole: what a call that writes leaves of `bytes_of`, for
 -- the layers above.
 use Rattle.std.proofs.Common.{◌≡◌, ℕ, Bool, List, Some, None, Ok, Err, refl, is_some}
-use Rattle.raw_store.specs.Fault.{Fault}
+use Rattle.raw_store.specs.declared.fault.Fault.{Fault}
 use Rattle.address_map.specs.declared.map.AddressMap.{AddressMap}
 use Rattle.address_map.specs.Bytes.{Bytes, with_byte, with_word, with_bytes, with_moved, with_moved_at, with_bytes_at, with_byte_at, with_word_at, store_fault, byte_stored, word_stored, word_start}
 use Rattle.address_map.specs.Memory.{place, byte_at, is_mapped, bytes_of, layout}

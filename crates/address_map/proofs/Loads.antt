@@ -3,8 +3,8 @@ use Rattle.std.proofs.Common.{◌≡◌, ℕ, ◌+◌, ◌-◌, ◌/◌, ◌%◌
 use Rattle.std.proofs.lemmas.Bool.{false≢true}
 use Rattle.std.proofs.lemmas.Bool.Decides.{nat_tests}
 use Rattle.std.proofs.lemmas.List.{get_or_past, get_or_default}
-use Rattle.raw_store.specs.Fault.{Fault}
-use Rattle.raw_store.specs.Fault.TheVariants.{DataUnmapped}
+use Rattle.raw_store.specs.declared.fault.Fault.{Fault}
+use Rattle.raw_store.specs.declared.fault.Fault.TheVariants.{DataUnmapped}
 use Rattle.raw_store.specs.Region.{word_in}
 use Rattle.address_map.specs.declared.map.AddressMap.{AddressMap}
 use Rattle.address_map.specs.Bytes.{Bytes, load_fault, word_start, word_at, byte_loaded, word_loaded}

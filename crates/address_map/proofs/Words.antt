@@ -1,7 +1,7 @@
 -- The class of an address: that of its word, plain where nothing is mapped.
 use Rattle.std.proofs.Common.{◌≡◌, ◌≢◌, ℕ, ◌+◌, ◌-◌, ◌/◌, ◌%◌, ◌^◌, ◌<◌, ◌≤◌, Bool, true, false, not, Option, Some, None, is_some, cond, nat_le, arith, refl, sym, ap, ◌∙◌, inl, inr}
 use Rattle.std.proofs.lemmas.Bool.{false≢true, cases_lt}
-use Rattle.raw_store.specs.Fault.TheVariants.{AddressException, DataUnmapped, OwnedWord}
+use Rattle.raw_store.specs.declared.fault.Fault.TheVariants.{AddressException, DataUnmapped, OwnedWord}
 use Rattle.address_map.specs.declared.class.Class.TheVariants.{Plain, Anchor}
 use Rattle.address_map.specs.declared.map.AddressMap.{AddressMap}
 use Rattle.address_map.specs.Bytes.{word_start, load_fault, store_fault}

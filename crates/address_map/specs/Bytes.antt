@@ -4,8 +4,8 @@
 -- is an address exception there.
 use Rattle.std.specs.Prelude.{◌≡◌, ◌≤◌, ◌<◌, ℕ, ◌+◌, ◌*◌, ◌-◌, ◌/◌, ◌%◌, ◌^◌, ◌==◌, Bool, true, false, ◌&&◌, nat_le, nat_lt, List, length, map, slice_index, Option, Some, None, Result, Ok, Err, if◌then◌else◌}
 use Rattle.std.specs.List.{range_with_len}
-use Rattle.raw_store.specs.Fault.{Fault}
-use Rattle.raw_store.specs.Fault.TheVariants.{AddressException, DataUnmapped, OwnedWord}
+use Rattle.raw_store.specs.declared.fault.Fault.{Fault}
+use Rattle.raw_store.specs.declared.fault.Fault.TheVariants.{AddressException, DataUnmapped, OwnedWord}
 
 -- a byte where no memory is mapped counts as 0
 pub record Bytes : Type 0 where

@@ -1,6 +1,6 @@
 -- What memory is to guests and store calls. Begin with Bytes, then Records; Memory ties both to the
 -- map.
-pub use Rattle.raw_store.specs.ErrorNumber
+pub use Rattle.raw_store.specs.declared.error.ErrorNumber
 pub use Rattle.raw_store.specs.MemoryMap
 pub use Rattle.raw_store.specs.Outcome
 pub use Rattle.raw_store.specs.Region as RawStoreRegion

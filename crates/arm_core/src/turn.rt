@@ -5,7 +5,7 @@ ghost use Rattle.std.specs.Prelude.{◌≡◌};
 use arm_decode::Fault;
 
 /// How a step ended. On every answer but `Done` the core and the memory are as they were.
-#[derive(Clone, Copy)]
+#[derive(Clone, Copy, PartialEq, Eq)]
 pub enum StepEnd {
     /// One instruction was carried out.
     Done,

@@ -1,7 +1,7 @@
 -- A word that decodes has a form, and decodes into the fields of that form, which nothing refuses;
 -- and an instruction decodes from its own word.
 use Rattle.std.proofs.Common.{◌≡◌, ℕ, ◌^◌, ◌<◌, ap, ◌∙◌, sym, Option, Some, None, Result, Ok, Err, IfOk, refl}
-use Rattle.profile.specs.declared.fault.Fault.{Fault}
+use Rattle.profile.specs.Fault.{Fault}
 use Rattle.arm_decode.proofs.Recut.{recut, IsCutInto}
 use Rattle.arm_decode.proofs.Respelled.{respelled}
 use Rattle.arm_decode.proofs.Rows.{HasBits, form-has_bits, form-from_bits}

@@ -1,6 +1,6 @@
 -- What a word is: the form that the table gives it, its fields, and the conditions that refuse it.
 use Rattle.std.specs.Prelude.{ℕ, Option, Some, None, Result, Ok, Err}
-use Rattle.profile.specs.declared.fault.Fault.{Fault}
+use Rattle.profile.specs.Fault.{Fault}
 use Rattle.arm_decode.specs.Fields.{condition_in, action_in}
 use Rattle.arm_decode.specs.Refusals.{refusal}
 use Rattle.arm_decode.specs.Table.{form_of}

@@ -2,8 +2,8 @@
 -- the undefined and unpredictable cases of the ARM2 data sheet; the names and the order are this
 -- project's own.
 use Rattle.std.specs.Prelude.{ℕ, Bool, true, false, ◌==◌, ◌&&◌, ◌||◌, not, List, [], ◌∷◌, Option, find, option_map}
-use Rattle.profile.specs.declared.fault.Fault.{Fault}
-use Rattle.profile.specs.declared.fault.Fault.TheVariants.{Unallocated, PcOperand, MultiplySame, EmptyList, UserBankWriteback}
+use Rattle.profile.specs.Fault.{Fault}
+use Rattle.profile.specs.Fault.TheVariants.{Unallocated, PcOperand, MultiplySame, EmptyList, UserBankWriteback}
 use Rattle.profile.specs.Word.{bit_of}
 use Rattle.arm_decode.specs.declared.action.Action.{Action}
 use Rattle.arm_decode.specs.declared.action.Action.TheVariants as action

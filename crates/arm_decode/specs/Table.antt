@@ -3,8 +3,8 @@
 -- refusals are this project's own.
 use Rattle.std.specs.Prelude.{ℕ, ◌+◌, ◌==◌, Bool, ◌&&◌, not, if◌then◌else◌, bit_and, List, [], ◌∷◌, Option, Some, None, Result, Ok, Err, find, count_by}
 use Rattle.std.specs.List.{list_any}
-use Rattle.profile.specs.declared.fault.Fault.{Fault}
-use Rattle.profile.specs.declared.fault.Fault.TheVariants.{UndefinedInstruction, Unallocated}
+use Rattle.profile.specs.Fault.{Fault}
+use Rattle.profile.specs.Fault.TheVariants.{UndefinedInstruction, Unallocated}
 use Rattle.arm_decode.specs.declared.form.Form.{Form}
 use Rattle.arm_decode.specs.declared.form.Form.TheVariants.{Multiply, ShiftByNumber, ShiftByRegister, Immediate, OffsetByNumber, OffsetByRegister, BlockTransfer, Branch, SoftwareInterrupt}
 

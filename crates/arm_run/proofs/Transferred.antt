@@ -3,7 +3,7 @@ use Rattle.std.proofs.Common.{◌≡◌, ◌<◌, ◌+◌, ◌-◌, ◌*◌, ◌
 use Rattle.std.proofs.lemmas.Bool.Decides.{nat_tests}
 use Rattle.profile.specs.Outcome.{bind}
 use Rattle.profile.specs.Word.{field, bit_of}
-use Rattle.profile.specs.declared.fault.Fault.{Fault}
+use Rattle.profile.specs.Fault.{Fault}
 use Rattle.arm_step.specs.Bytes.{Bytes}
 use Rattle.arm_core.specs.Fields.{address_in, shifted_in, transfer_in}
 use Rattle.arm_core.specs.Names.{direction_of, shift_of}

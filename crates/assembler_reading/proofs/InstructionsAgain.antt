@@ -3,7 +3,7 @@ use Rattle.std.proofs.Common.{◌≡◌, ◌<◌, ◌+◌, ◌-◌, ◌/◌, ◌
 use Rattle.std.proofs.lemmas.Bool.Decides.{nat_tests}
 use Rattle.std.proofs.lemmas.List.{append-nil}
 use Rattle.std.specs.Prelude.{◌==◌, ◌&&◌, nat_lt, codes}
-use Rattle.profile.specs.declared.fault.Fault.{Fault}
+use Rattle.profile.specs.Fault.{Fault}
 use Rattle.arm_decode.specs.Decoded.{instruction_of_word, decoded_as, unless_refused}
 use Rattle.arm_decode.specs.Diagrams.{word_of_instruction}
 use Rattle.arm_decode.specs.Fields.{action_in, condition_in}

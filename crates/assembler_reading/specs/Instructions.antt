@@ -3,7 +3,7 @@
 -- none, and what follows. Of several reasons the first is an unknown label, then a number without a
 -- form, then an address out of reach, then an instruction that would be refused when it runs.
 use Rattle.std.specs.Prelude.{ℕ, Bool, ◌+◌, ◌-◌, ◌/◌, ◌%◌, ◌^◌, ◌==◌, ◌&&◌, nat_lt, List, Option, Some, None, is_some, Result, Ok, Err, if◌then◌else◌}
-use Rattle.profile.specs.declared.fault.Fault.{Fault}
+use Rattle.profile.specs.Fault.{Fault}
 use Rattle.arm_decode.specs.Decoded.{instruction_unless_refused}
 use Rattle.arm_decode.specs.Diagrams.{word_of_instruction}
 use Rattle.arm_decode.specs.declared.action.Action.{Action}

@@ -2,7 +2,7 @@
 -- alone.
 use Rattle.std.specs.Prelude.{◌≡◌, ℕ, ◌<◌, ◌%◌, ◌^◌, [], ◌∷◌, ◌++◌, codes, Some, Ok, Err}
 use Rattle.profile.specs.Digits.{hex_word}
-use Rattle.profile.specs.declared.fault.Fault.{Fault}
+use Rattle.profile.specs.Fault.{Fault}
 use Rattle.arm_decode.specs.Decoded.{instruction_of_word}
 use Rattle.arm_decode.specs.declared.action.Action.{Action}
 use Rattle.arm_decode.specs.declared.condition.Condition.{Condition}

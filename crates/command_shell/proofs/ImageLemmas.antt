@@ -4,7 +4,7 @@ use Rattle.std.proofs.Common.{◌≡◌, ℕ, zero, suc, ◌+◌, Bool, true, fa
 use Rattle.std.specs.Prelude.{IfSome, OnErr, codes, ◌⊎◌}
 use Rattle.std.specs.Str.Lines.{lines}
 use Rattle.profile.specs.Sizes.{Sizes}
-use Rattle.profile.specs.declared.fault.Fault.{Fault}
+use Rattle.profile.specs.Fault.{Fault}
 use Rattle.profile.specs.declared.stop.Stop.{Stop}
 use Rattle.profile.specs.declared.stop.Stop.TheVariants as stop
 use Rattle.profile.specs.images.Entries.{Entry, bytes_of_image, refusal_for}

@@ -4,8 +4,8 @@ use Rattle.std.specs.Fmt.{decimal}
 use Rattle.profile.specs.Digits.{hex_number}
 use Rattle.profile.specs.declared.stop.Stop.{Stop}
 use Rattle.profile.specs.declared.stop.Stop.TheVariants as stop
-use Rattle.profile.specs.declared.fault.Fault.{Fault}
-use Rattle.profile.specs.declared.fault.Fault.TheVariants.{ErrorStop}
+use Rattle.profile.specs.Fault.{Fault}
+use Rattle.profile.specs.Fault.TheVariants.{ErrorStop}
 use Rattle.profile.specs.FaultNames.{fault_name}
 
 -- a space and an address, in capitals without leading zeros

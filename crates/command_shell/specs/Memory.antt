@@ -4,7 +4,7 @@ use Rattle.std.specs.Prelude.{ℕ, false, [], Some, Result, Ok, Err}
 use Rattle.profile.specs.FaultNames.{fault_name}
 use Rattle.profile.specs.Outcome.{bind}
 use Rattle.profile.specs.Sizes.{Sizes}
-use Rattle.profile.specs.declared.fault.Fault.{Fault}
+use Rattle.profile.specs.Fault.{Fault}
 use Rattle.profile.specs.declared.stop.Stop.{Stop}
 use Rattle.debugger.specs.MachineState.{MachineState}
 use Rattle.debugger.specs.Writes.{machine_after_poke, machine_at, machine_unhalted, machine_with_bank_register, machine_with_register, machine_with_status}

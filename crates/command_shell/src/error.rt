@@ -11,7 +11,7 @@ use std::error::Error;
 use std::fmt;
 
 /// Why the run of a script ended before its end.
-#[derive(Clone, Copy, Debug)]
+#[derive(Clone, Copy, Debug, PartialEq, Eq)]
 pub enum RunError {
     /// The host has no memory for the script, the machine or an image.
     Memory,

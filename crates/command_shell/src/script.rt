@@ -17,7 +17,7 @@ use profile::{Config, Sink, Source, Stop};
 use std::alloc::Global;
 
 /// What a script came to.
-#[derive(Clone, Copy)]
+#[derive(Clone, Copy, PartialEq, Eq)]
 pub struct Summary {
     /// The last stop that a line was answered with.
     pub last: Option<Stop>,

@@ -8,7 +8,7 @@ use Rattle.profile.specs.images.Entries.{Entry}
 use Rattle.command_shell_lines.specs.declared.debug_words.stubs.Stub.{Stub}
 use Rattle.profile.specs.Outcome.{Leaves, bind}
 use Rattle.profile.specs.Sizes.{Sizes}
-use Rattle.profile.specs.declared.fault.Fault.{Fault}
+use Rattle.profile.specs.Fault.{Fault}
 use Rattle.profile.specs.declared.stop.Stop.{Stop}
 use Rattle.profile.specs.declared.stop.Stop.TheVariants as stop
 use Rattle.debug_labels.specs.Boot.{machine_after_boot}

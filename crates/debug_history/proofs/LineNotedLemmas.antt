@@ -10,7 +10,7 @@ use Rattle.debug_history.specs.declared.act.Act.{Act}
 use Rattle.arm_core.specs.declared.breaks.breaks.BreakError.{BreakError}
 use Rattle.arm_core.specs.breaks.Breaks.{with_break, without_break}
 use Rattle.profile.specs.images.Entries.{Entry, bytes_of_image, can_name_image, refusal_for, with_entry, without_entry}
-use Rattle.profile.specs.declared.fault.Fault.{Fault}
+use Rattle.profile.specs.Fault.{Fault}
 use Rattle.debug_labels.specs.Boot.{machine_after_boot}
 use Rattle.debug_labels.specs.BootError.{BootError}
 use Rattle.debug_tables.specs.MachineState.{MachineState, StepOutcome}

@@ -3,7 +3,7 @@ use Rattle.std.specs.Prelude.{ℕ, zero, Bool, true, false, ◌&&◌, ◌+◌, �
 use Rattle.profile.specs.images.Entries.{Entry, bytes_of_image}
 use Rattle.command_shell_lines.specs.declared.debug_words.stubs.Stub.{Stub}
 use Rattle.profile.specs.Sizes.{Sizes}
-use Rattle.profile.specs.declared.fault.Fault.{Fault}
+use Rattle.profile.specs.Fault.{Fault}
 use Rattle.debug_labels.specs.Boot.{machine_after_boot}
 use Rattle.debug_labels.specs.BootError.{BootError}
 use Rattle.debug_tables.specs.MachineState.{MachineState, machine_start}

@@ -7,7 +7,7 @@ use Rattle.std.specs.Prelude.{ℕ, zero, suc, ◌+◌, ◌==◌, ◌&&◌, nat_l
 use Rattle.std.specs.Str.{bytes_eq}
 use Rattle.profile.specs.Firsts.{first_of}
 use Rattle.profile.specs.Sums.{address_further}
-use Rattle.profile.specs.declared.fault.Fault.{Fault}
+use Rattle.profile.specs.Fault.{Fault}
 use Rattle.debugger.specs.Bytes.{Bytes, word_loaded}
 use Rattle.debugger.specs.Lookup.{shown_of_module}
 use Rattle.debugger.specs.InstancesTableModules.{Module}

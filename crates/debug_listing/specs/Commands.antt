@@ -4,7 +4,7 @@
 -- a command of a filing system, and one for Configure and Status: neither is a command by its name alone.
 use Rattle.std.specs.Prelude.{ℕ, Bool, false, not, ◌^◌, ◌==◌, ◌&&◌, nat_lt, List, Option, None, Some, Result, Ok, Err, if◌then◌else◌}
 use Rattle.profile.specs.Firsts.{first_of}
-use Rattle.profile.specs.declared.error.ErrorNumber.{ErrorNumber}
+use Rattle.profile.specs.ErrorNumber.{ErrorNumber}
 use Rattle.address_map.specs.Bytes.{Bytes}
 use Rattle.command_shell_lines.specs.Requests.{is_same_word}
 use Rattle.debug_labels.specs.Reading.{slot_meant}

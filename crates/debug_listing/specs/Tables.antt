@@ -6,7 +6,7 @@
 -- name of more than 255 bytes, counts as one that leads outside its image is this project's own.
 use Rattle.std.specs.Prelude.{ℕ, zero, suc, Bool, true, false, ◌+◌, ◌==◌, nat_le, nat_lt, List, [], ◌∷◌, length, Option, None, Some, Result, Ok, Err, if◌then◌else◌}
 use Rattle.profile.specs.Sums.{address_further}
-use Rattle.profile.specs.declared.fault.Fault.{Fault}
+use Rattle.profile.specs.Fault.{Fault}
 use Rattle.address_map.specs.Bytes.{Bytes, word_loaded}
 use Rattle.instances_table.specs.declared.parts.ModuleInfo.{ModuleInfo}
 use Rattle.debug_labels.specs.Strings.{ends, next_word, text_at}

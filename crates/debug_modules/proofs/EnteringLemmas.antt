@@ -19,7 +19,7 @@ use Rattle.debug_modules.specs.Plans.{tail_address}
 use Rattle.debug_modules.specs.Taking.{HasLineSteps, LineSteps, line_steps}
 use Rattle.debug_modules.specs.declared.entering.ModuleEntry.{ModuleEntry}
 use Rattle.profile.specs.Outcome.{Leaves}
-use Rattle.profile.specs.declared.fault.Fault.{Fault}
+use Rattle.profile.specs.Fault.{Fault}
 
 -- what holds anyhow holds where a call was well
 pub anyhow : {A E : Type 0} (result : Result A E) (P : Type 0) → P → OnOk result P

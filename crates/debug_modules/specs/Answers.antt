@@ -2,7 +2,7 @@
 use Rattle.std.specs.Prelude.{◌≡◌, ℕ, ◌&&◌, ◌++◌, is_some, codes, List, [], Option, Some, None, Result, Ok, Err, if◌then◌else◌}
 use Rattle.std.specs.Option.{option_map, option_or}
 use Rattle.profile.specs.FaultNames.{fault_name}
-use Rattle.profile.specs.declared.fault.Fault.{Fault}
+use Rattle.profile.specs.Fault.{Fault}
 use Rattle.profile.specs.images.Entries.{Entry, bytes_of_image}
 use Rattle.debug_modes.specs.Answers.{refused_text}
 use Rattle.debug_modes.specs.MachineState.{MachineState}

@@ -5,7 +5,7 @@ use Rattle.std.proofs.lemmas.Bool.Decides.{nat_tests}
 use Rattle.std.specs.Prelude.{nat_le, nat_lt}
 use Rattle.profile.specs.declared.stop.Stop.{Stop}
 use Rattle.profile.specs.declared.stop.Stop.TheVariants as stop
-use Rattle.profile.specs.declared.fault.Fault.TheVariants.{AddressException, DataUnmapped}
+use Rattle.profile.specs.Fault.TheVariants.{AddressException, DataUnmapped}
 use Rattle.address_map.specs.Bytes.{Bytes, ok_unless_fault, word_at, word_loaded, word_start}
 use Rattle.debug_labels.specs.Labels.{ImageLabels}
 use Rattle.debug_tables.specs.GuestState.{AreCoreSteps, state_of}

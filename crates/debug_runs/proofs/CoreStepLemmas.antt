@@ -2,7 +2,7 @@
 use Rattle.std.proofs.Common.{◌≡◌, ◌∙◌, ℕ, Bool, true, false, List, [], ◌∷◌, Option, None, Some, Result, Ok, Err, ap, refl, sym}
 use Rattle.std.specs.Prelude.{◌==◌, if◌then◌else◌}
 use Rattle.profile.specs.MemoryMap.{return_gate}
-use Rattle.profile.specs.declared.fault.Fault.{Fault}
+use Rattle.profile.specs.Fault.{Fault}
 use Rattle.law_machine.specs.Store.{owned_in}
 use Rattle.law_machine.specs.Step.{executed_if_fetched, result_of_step}
 use Rattle.address_map.specs.Bytes.{Bytes, word_loaded}

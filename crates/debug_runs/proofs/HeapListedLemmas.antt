@@ -8,7 +8,7 @@ use Rattle.profile.specs.MemoryMap.{error_block_start, return_gate}
 use Rattle.profile.specs.ErrorNames.{error_name}
 use Rattle.profile.specs.Reasons.{heap_reason}
 use Rattle.profile.specs.SwiNames.{swi_of}
-use Rattle.profile.specs.declared.fault.Fault.{Fault}
+use Rattle.profile.specs.Fault.{Fault}
 use Rattle.profile.specs.declared.reason.HeapReason.{HeapReason}
 use Rattle.profile.specs.declared.reason.HeapReason.TheVariants as reason
 use Rattle.profile.specs.declared.swi.SwiName.{SwiName}

@@ -2,7 +2,7 @@
 use Rattle.std.proofs.Common.{◌≡◌, ℕ, ◌-◌, Bool, true, false, List, [], Option, Some, None, Result, Ok, Err, refl, sym, ap, subst, if◌then◌else◌, ◌++◌}
 use Rattle.std.specs.Option.{option_map}
 use Rattle.profile.specs.images.Entries.{bytes_of_image}
-use Rattle.profile.specs.declared.fault.Fault.{Fault}
+use Rattle.profile.specs.Fault.{Fault}
 use Rattle.command_shell_lines.specs.Requests.{Request, Areas, Asm, Boot, Break, Call, Code, Flex, Heap, Hex, Load, Mem, Modules, Nothing, Poke, Regs, Run, Set, Step, Unbreak, Unknown}
 use Rattle.debug_tables.specs.run_meter.Memory.{script_at, script_started_anew, script_with_budget, script_with_status}
 use Rattle.debug_tables.specs.run_meter.Script.{request_answer}

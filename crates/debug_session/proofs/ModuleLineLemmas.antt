@@ -3,7 +3,7 @@ use Rattle.std.proofs.Common.{◌≡◌, ℕ, zero, suc, ◌+◌, ◌/◌, ◌%�
 use Rattle.std.specs.Prelude.{unwrap_or, ◌&&◌, ◌++◌, codes, is_some}
 use Rattle.std.specs.Option.{option_map}
 use Rattle.profile.specs.Outcome.{Leaves}
-use Rattle.profile.specs.declared.fault.Fault.{Fault}
+use Rattle.profile.specs.Fault.{Fault}
 use Rattle.profile.specs.images.Entries.{Entry}
 use Rattle.arm_core.specs.declared.psr.Psr.{Psr}
 use Rattle.debug_modules.proofs.AgainLemmas.{beside_at, moment_at, put_at}

@@ -5,7 +5,7 @@ use Rattle.std.specs.Io.KnownBytes.{Appends}
 use Rattle.profile.proofs.OutputLemmas.{Appends-join}
 use Rattle.profile.specs.FaultNames.{fault_name}
 use Rattle.profile.specs.Outcome.{Leaves}
-use Rattle.profile.specs.declared.fault.Fault.{Fault}
+use Rattle.profile.specs.Fault.{Fault}
 use Rattle.debug_tables.specs.run_meter.Answers.{refused_text}
 use Rattle.debug_tables.specs.run_meter.State.{ScriptState}
 use Rattle.command_shell_lines.specs.Requests.{Request, Nothing, Hex, Asm, Boot, Run, Regs, Set, Poke, Call, Load, Step, Break, Unbreak, Mem, Code, Heap, Areas, Modules, Flex, Unknown, opens_block}

@@ -3,7 +3,7 @@ use Rattle.std.proofs.Common.{◌≡◌, ◌<◌, ◌≤◌, ℕ, zero, suc, ◌
 use Rattle.std.specs.Prelude.{is_some, min, nat_le, nat_lt, not, ◌||◌}
 use Rattle.std.proofs.lemmas.Bool.Decides.{nat_tests}
 use Rattle.arm_core.specs.Psr.{psr_bits}
-use Rattle.profile.specs.declared.fault.Fault.TheVariants as fault
+use Rattle.profile.specs.Fault.TheVariants as fault
 use Rattle.profile.specs.declared.stop.Stop.{Stop}
 use Rattle.profile.specs.declared.stop.Stop.TheVariants as stop
 use Rattle.command_shell_lines.specs.declared.debug_words.stubs.Stub.{Stub}

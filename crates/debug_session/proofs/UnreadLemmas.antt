@@ -11,7 +11,7 @@ use Rattle.arm_core.specs.breaks.Breaks.{with_break, without_break}
 use Rattle.arm_core.specs.declared.breaks.breaks.BreakError.{BreakError}
 use Rattle.profile.specs.images.Entries.{bytes_of_image, refusal_for}
 use Rattle.profile.specs.declared.images.error.ImageError.{ImageError}
-use Rattle.profile.specs.declared.fault.Fault.{Fault}
+use Rattle.profile.specs.Fault.{Fault}
 use Rattle.debug_tables.specs.run_meter.MachineState.{MachineState}
 use Rattle.debug_tables.specs.run_meter.Writes.{machine_after_poke}
 use Rattle.debug_tables.specs.run_meter.Answers.{break_text, unbreak_text}

@@ -6,7 +6,7 @@ use Rattle.profile.specs.images.Entries.{Entry, bytes_of_image, without_entry}
 use Rattle.debug_tables.specs.byte_writes.Put.{script_after_put}
 use Rattle.command_shell_lines.specs.debug_words.NamedBytes.{bytes_written, named_bytes, or_no_bytes}
 use Rattle.profile.specs.FaultNames.{fault_name}
-use Rattle.profile.specs.declared.fault.Fault.{Fault}
+use Rattle.profile.specs.Fault.{Fault}
 use Rattle.debug_tables.specs.BlockErrorTexts.{text_with_errors}
 use Rattle.debug_tables.specs.BlockErrors.{block_errors}
 use Rattle.debug_tables.specs.run_meter.Answers.{refused_text, unknown_text}

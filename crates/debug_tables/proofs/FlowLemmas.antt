@@ -4,7 +4,7 @@ use Rattle.std.proofs.lemmas.Bool.{false≢true}
 use Rattle.profile.specs.MemoryMap.{return_gate}
 use Rattle.profile.specs.Outcome.{bind}
 use Rattle.profile.specs.Word.{bit_of, field}
-use Rattle.profile.specs.declared.fault.Fault.{Fault}
+use Rattle.profile.specs.Fault.{Fault}
 use Rattle.address_map.specs.Bytes.{Bytes, word_loaded}
 use Rattle.command_shell.specs.Conditions.{condition_holds}
 use Rattle.command_shell.specs.Effect.{with_next_pc, with_result}

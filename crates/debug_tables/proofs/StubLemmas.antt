@@ -8,7 +8,7 @@ use Rattle.address_map.specs.Bytes.{ok_unless_fault, word_loaded}
 use Rattle.profile.specs.images.Entries.{Entry}
 use Rattle.command_shell.specs.Store.{owned_in}
 use Rattle.profile.specs.Outcome.{Leaves}
-use Rattle.profile.specs.declared.fault.Fault.{Fault}
+use Rattle.profile.specs.Fault.{Fault}
 use Rattle.profile.specs.declared.stop.Stop.{Stop}
 use Rattle.command_shell.specs.MachineState.{MachineState, silent, stop_of}
 use Rattle.command_shell.specs.ArmCorePsr.{Psr}

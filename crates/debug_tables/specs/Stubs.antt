@@ -7,7 +7,7 @@ use Rattle.std.specs.Int.{from_bool, to_le_bytes, w32}
 use Rattle.std.specs.List.{flat_map, position, remove}
 use Rattle.std.specs.Option.{option_map, unwrap_or}
 use Rattle.profile.specs.SwiNames.{swi_of}
-use Rattle.profile.specs.declared.fault.Fault.{Fault}
+use Rattle.profile.specs.Fault.{Fault}
 use Rattle.profile.specs.MemoryMap.{return_gate}
 use Rattle.profile.specs.Sums.{address_further}
 use Rattle.profile.specs.Word.{bit_of}

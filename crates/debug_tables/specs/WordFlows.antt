@@ -3,7 +3,7 @@
 -- go on at the next word unless they write R15, and a branch at the next word or at its destination.
 use Rattle.std.specs.Prelude.{◌≡◌, ◌⊎◌, ℕ, ◌+◌, ◌*◌, ◌%◌, ◌^◌, ◌==◌, Bool, not, ◌&&◌, ◌||◌, Result, Ok, Err, if◌then◌else◌}
 use Rattle.profile.specs.Word.{bit_of, field}
-use Rattle.profile.specs.declared.fault.Fault.{Fault}
+use Rattle.profile.specs.Fault.{Fault}
 use Rattle.address_map.specs.Bytes.{Bytes}
 use Rattle.command_shell.specs.Effect.{with_next_pc}
 use Rattle.command_shell.specs.ArmCoreState.{State}

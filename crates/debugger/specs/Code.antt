@@ -2,7 +2,7 @@
 -- a word that isn't mapped. Addresses count modulo 2^32.
 use Rattle.std.specs.Prelude.{ℕ, zero, suc, ◌+◌, ◌%◌, ◌^◌, List, [], ◌++◌, codes, Result, Ok, Err}
 use Rattle.profile.specs.Digits.{hex_word}
-use Rattle.profile.specs.declared.fault.Fault.{Fault}
+use Rattle.profile.specs.Fault.{Fault}
 use Rattle.swi_dispatch_guest.specs.Bytes.{Bytes, word_loaded}
 use Rattle.assembler_text.specs.Printing.{print}
 

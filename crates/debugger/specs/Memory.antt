@@ -3,7 +3,7 @@
 use Rattle.std.specs.Prelude.{ℕ, zero, suc, ◌+◌, ◌-◌, ◌/◌, ◌%◌, ◌^◌, ◌++◌, min, List, [], ◌∷◌, codes, Result, Ok, Err}
 use Rattle.profile.specs.Sums.{address_further}
 use Rattle.profile.specs.Digits.{hex_digit, hex_word}
-use Rattle.profile.specs.declared.fault.Fault.{Fault}
+use Rattle.profile.specs.Fault.{Fault}
 use Rattle.swi_dispatch_guest.specs.Bytes.{Bytes, byte_loaded}
 
 abbrev pub hex_byte : ℕ → List ℕ

@@ -4,8 +4,8 @@ use Rattle.std.specs.Prelude.{is_some, Option, Result, ok_or, if◌then◌else�
 use Rattle.std.specs.List.{list_any}
 use Rattle.std.proofs.lemmas.Bool.{cases_Bool, cases_lt, eq-eqb, lt-ltb, le-ltb, leb-true, and_parts, or_parts, false≢true}
 use Rattle.profile.specs.Outcome.{bind, Leaves}
-use Rattle.profile.specs.declared.error.ErrorNumber.{ErrorNumber}
-use Rattle.profile.specs.declared.error.ErrorNumber.TheVariants.{AreaUnknown, AreaBad, AreaTaken}
+use Rattle.profile.specs.ErrorNumber.{ErrorNumber}
+use Rattle.profile.specs.ErrorNumber.TheVariants.{AreaUnknown, AreaBad, AreaTaken}
 use Rattle.os_heap.proofs.RangeTests.{or_middle}
 use Rattle.os_heap.specs.Store.{Store}
 use Rattle.dynamic_areas.specs.declared.area.Area.{Area}

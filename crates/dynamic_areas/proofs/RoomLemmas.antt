@@ -2,7 +2,7 @@
 use Rattle.profile.specs.MemoryMap.{area_window_end, area_window_start, module_area_start}
 use Rattle.std.proofs.Common.{◌≡◌, ◌≢◌, ℕ, ◌+◌, ◌*◌, ◌<◌, ◌≤◌, ◌==◌, true, false, leb, List, [], ◌∷◌, length, refl, sym, ap, subst, ◌∙◌, Some, None, inl, inr, arith}
 use Rattle.std.specs.Prelude.{is_some, Option, ok_or, Ok}
-use Rattle.profile.specs.declared.error.ErrorNumber.TheVariants.{AreaUnknown}
+use Rattle.profile.specs.ErrorNumber.TheVariants.{AreaUnknown}
 use Rattle.std.proofs.Math.Bool.{and_comm}
 use Rattle.std.proofs.Math.Dec.{ltb}
 use Rattle.std.proofs.lemmas.Bool.{cases_Bool, cases_eq, cases_lt, eqb-true, eq-eqb, ne_eqb, lt-ltb, le-ltb, leb-true, or_parts, and_parts, false≢true}

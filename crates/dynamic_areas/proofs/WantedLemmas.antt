@@ -6,7 +6,7 @@ use Rattle.std.proofs.Math.Dec.{ltb}
 use Rattle.std.proofs.lemmas.Bool.{cases_Bool, eqb-true, leb-true, leb-false, ltb-false, le-leb, and_parts}
 use Rattle.profile.specs.Outcome.{bind}
 use Rattle.profile.specs.Sizes.{Sizes}
-use Rattle.profile.specs.declared.error.ErrorNumber.TheVariants.{AreaTaken, AreaTableFull, AreaNoPages}
+use Rattle.profile.specs.ErrorNumber.TheVariants.{AreaTaken, AreaTableFull, AreaNoPages}
 use Rattle.dynamic_areas.specs.declared.area.Area.{Area}
 use Rattle.dynamic_areas.specs.declared.area.Wanted.{Wanted}
 use Rattle.dynamic_areas.specs.Areas.{AreaTable, minus_one, find_area, area_with_pages, is_created}

@@ -6,7 +6,7 @@ use Rattle.std.proofs.lemmas.List.{append-nil}
 use Rattle.os_heap_words.proofs.AddressMapWords.{class_of-word}
 use Rattle.os_heap_words.proofs.Spans.{mapped_below}
 use Rattle.profile.specs.Outcome.{Gives}
-use Rattle.profile.specs.declared.error.ErrorNumber.TheVariants.{FlexAnchorInUse, FlexBadAnchor}
+use Rattle.profile.specs.ErrorNumber.TheVariants.{FlexAnchorInUse, FlexBadAnchor}
 use Rattle.os_heap.specs.Store.{is_flex_store, Store, others_in, store_of}
 use Rattle.os_heap.specs.Region.{Region}
 use Rattle.os_heap.proofs.Frame.{store_bytes}

@@ -3,7 +3,7 @@ use Rattle.std.proofs.Common.{◌≡◌, ℕ, ◌-◌, nat_eq, List, [], ◌∷�
 use Rattle.std.proofs.lemmas.Bool.{cases_Bool, eqb-true}
 use Rattle.std.proofs.lemmas.List.{append-nil, length-take-le, take-append-drop}
 use Rattle.std.proofs.Math.Seq.{take-length}
-use Rattle.profile.specs.declared.error.ErrorNumber.{ErrorNumber}
+use Rattle.profile.specs.ErrorNumber.{ErrorNumber}
 use Rattle.flex_store.specs.Blocks.{Block, contents, cut_of, find_block, more_of, bytes_with_size, bytes_after_splice, whole_words}
 use Rattle.flex_store.proofs.Filled.{AreFilled}
 

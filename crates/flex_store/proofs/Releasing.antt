@@ -3,8 +3,8 @@ use Rattle.std.proofs.Common.{◌≡◌, ℕ, Bool, ◌+◌, ◌-◌, ◌%◌, �
 use Rattle.std.specs.Prelude.{if◌then◌else◌}
 use Rattle.std.proofs.lemmas.Bool.{both_ways, cases_Bool, eqb-false, eq-eqb, or_cases, or_left, or_parts, or_right, true≢false}
 use Rattle.profile.specs.Outcome.{Gives}
-use Rattle.profile.specs.declared.error.ErrorNumber.{ErrorNumber}
-use Rattle.profile.specs.declared.error.ErrorNumber.TheVariants.{FlexHoldsAnchor}
+use Rattle.profile.specs.ErrorNumber.{ErrorNumber}
+use Rattle.profile.specs.ErrorNumber.TheVariants.{FlexHoldsAnchor}
 use Rattle.os_heap_words.specs.RawStoreRegion.{word_bytes}
 use Rattle.os_heap.specs.Records.{anchor_among}
 use Rattle.os_heap.proofs.Bytes.{is_mapped-layout}

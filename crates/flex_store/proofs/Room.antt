@@ -2,8 +2,8 @@
 use Rattle.std.proofs.Common.{◌≡◌, ℕ, Bool, ◌+◌, ◌-◌, ◌≤◌, ◌&&◌, true, false, nat_eq, List, [], ◌∷◌, ◌++◌, length, Option, Some, None, Result, Ok, Err, arith, refl, sym, ◌∙◌, ap, subst, inl, inr}
 use Rattle.std.specs.Prelude.{nat_le, nat_lt, if◌then◌else◌}
 use Rattle.std.proofs.lemmas.Bool.{cases_Bool, eqb-true, le-leb}
-use Rattle.profile.specs.declared.error.ErrorNumber.{ErrorNumber}
-use Rattle.profile.specs.declared.error.ErrorNumber.TheVariants.{FlexHoldsAnchor}
+use Rattle.profile.specs.ErrorNumber.{ErrorNumber}
+use Rattle.profile.specs.ErrorNumber.TheVariants.{FlexHoldsAnchor}
 use Rattle.os_heap.specs.Bytes.{Bytes}
 use Rattle.os_heap.specs.Store.{Store}
 use Rattle.flex_store.specs.declared.shift.Shift.{Shift}

@@ -3,7 +3,7 @@ use Rattle.std.proofs.Common.{◌≡◌, ℕ, Bool, true, false, not, Option, So
 use Rattle.std.proofs.lemmas.Bool.{cases_Bool, eqb-true, false≢true, true≢false}
 use Rattle.std.specs.Prelude.{nat_eq, nat_le, ◌^◌}
 use Rattle.profile.specs.Outcome.{Leaves}
-use Rattle.profile.specs.declared.fault.Fault.{Fault}
+use Rattle.profile.specs.Fault.{Fault}
 use Rattle.os_heap.proofs.Bytes.{is_mapped-layout, is_mapped-page}
 use Rattle.os_heap_words.proofs.AddressMapWords.{unowned}
 use Rattle.os_heap.specs.Bytes.{byte_stored, Bytes, store_fault, ok_unless_fault, with_byte, word_start}

@@ -1,7 +1,7 @@
 -- Memory that the tests of this crate go on from.
 use Rattle.std.proofs.Common.{◌≡◌, ℕ, ◌<◌, ◌≤◌, ◌++◌, ◌∷◌, Bool, true, false, List, [], Option, None, Result, Ok, Err, length, refl, sym, ◌∙◌, ap, subst, arith, inl, inr}
 use Rattle.profile.specs.Outcome.{bind, Gives}
-use Rattle.profile.specs.declared.error.ErrorNumber.{ErrorNumber}
+use Rattle.profile.specs.ErrorNumber.{ErrorNumber}
 use Rattle.std.proofs.lemmas.Bool.{cases_Bool}
 use Rattle.std.specs.Prelude.{MatchResult, if◌then◌else◌, nat_le, not, ok_or, ◌+◌, ◌-◌}
 use Rattle.os_heap.specs.Records.{is_heap_kind}
@@ -17,7 +17,7 @@ use Rattle.os_heap.proofs.Recorded.{recorded_sound, store_recorded}
 use Rattle.os_heap.specs.Calls.{store_after_init, store_with_new_heap, store_after_get, heap_at, store_holding}
 use Rattle.os_heap.specs.Ranges.{is_heap_region, overlaps}
 use Rattle.os_heap_words.specs.lists.Lists.{claim_in_items, total_for}
-use Rattle.profile.specs.declared.error.ErrorNumber.TheVariants.{HeapBadRegion, HeapOverlaps, HeapNoRoom, HeapTableFull}
+use Rattle.profile.specs.ErrorNumber.TheVariants.{HeapBadRegion, HeapOverlaps, HeapNoRoom, HeapTableFull}
 use Rattle.os_heap.specs.Store.{AreClasses, guest_count, IsSound, others_in, Store, store_of}
 use Rattle.flex_store.specs.declared.flex.Extent.{Extent}
 use Rattle.flex_store.specs.declared.flex.Flex.{Flex}

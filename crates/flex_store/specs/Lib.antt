@@ -5,7 +5,7 @@ pub use Rattle.os_heap.specs.Store
 pub use Rattle.os_heap.specs.lists
 pub use Rattle.profile.specs.Outcome
 pub use Rattle.profile.specs.Sizes
-pub use Rattle.profile.specs.declared.error.ErrorNumber
+pub use Rattle.profile.specs.ErrorNumber
 pub mod Blocks
 pub mod Calls
 pub mod Changes

@@ -2,7 +2,7 @@
 -- 2^32.
 use Rattle.std.specs.Prelude.{ℕ, zero, suc, ◌+◌, ◌%◌, ◌^◌, ◌==◌, min, List, [], ◌∷◌, codes, Result, Ok, Err, if◌then◌else◌}
 use Rattle.hex.specs.Hex.{encode_lower}
-use Rattle.profile.specs.declared.fault.Fault.{Fault}
+use Rattle.profile.specs.Fault.{Fault}
 use Rattle.address_map.specs.Bytes.{Bytes, byte_loaded}
 use Rattle.gdb_packets.specs.declared.requests.ByteRange.{ByteRange}
 

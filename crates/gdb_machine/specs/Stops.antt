@@ -3,8 +3,8 @@
 use Rattle.std.specs.Prelude.{ℕ, ◌++◌, Bool, true, false, List, [], ◌∷◌, Option, Some, None, codes, unwrap_or}
 use Rattle.std.specs.Int.{to_be_bytes, w32}
 use Rattle.hex.specs.Hex.{encode_lower}
-use Rattle.profile.specs.declared.fault.Fault.{Fault}
-use Rattle.profile.specs.declared.fault.Fault.TheVariants as fault
+use Rattle.profile.specs.Fault.{Fault}
+use Rattle.profile.specs.Fault.TheVariants as fault
 use Rattle.profile.specs.declared.stop.Stop.TheVariants as stop
 use Rattle.arm_core.specs.State.{State}
 use Rattle.gdb_machine.specs.declared.stops.GdbStop.{GdbStop}

@@ -4,8 +4,8 @@ use Rattle.std.proofs.Common.{◌≡◌, ℕ, ◌==◌, Bool, true, false, Ok, E
 use Rattle.std.specs.Prelude.{Result, if◌then◌else◌, length, not}
 use Rattle.std.proofs.lemmas.Bool.{cases_Bool, eqb-true, false≢true, or_parts}
 use Rattle.profile.specs.Outcome.{Gives, bind}
-use Rattle.profile.specs.declared.error.ErrorNumber.{ErrorNumber}
-use Rattle.profile.specs.declared.error.ErrorNumber.TheVariants.{BadPointer, BadString}
+use Rattle.profile.specs.ErrorNumber.{ErrorNumber}
+use Rattle.profile.specs.ErrorNumber.TheVariants.{BadPointer, BadString}
 use Rattle.rma.specs.Bytes.{bytes_between}
 use Rattle.instances_table.specs.plans.HeaderFault.{HeaderFault}
 use Rattle.instances_table.specs.plans.Header.{Header}

@@ -4,8 +4,8 @@
 use Rattle.std.specs.Prelude.{ℕ, ◌≡◌, ◌≤◌, ◌<◌, Bool, false, filter, not, length, ◌+◌, ◌==◌, ◌&&◌, nat_lt, List, [], ◌∷◌, ◌++◌, map, Option, Some, None, ok_or, slice_get, Result, Ok, Err, zero, suc, codes, if◌then◌else◌}
 use Rattle.std.specs.List.{list_any}
 use Rattle.profile.specs.Outcome.{bind}
-use Rattle.profile.specs.declared.error.ErrorNumber.{ErrorNumber}
-use Rattle.profile.specs.declared.error.ErrorNumber.TheVariants.{ModuleNotFound, InstanceExists, InstanceTableFull}
+use Rattle.profile.specs.ErrorNumber.{ErrorNumber}
+use Rattle.profile.specs.ErrorNumber.TheVariants.{ModuleNotFound, InstanceExists, InstanceTableFull}
 use Rattle.profile.specs.declared.images.module_header.header.Header.{Header}
 use Rattle.instances_table.specs.declared.parts.Image.{Image}
 use Rattle.instances_table.specs.declared.parts.NewInstance.{NewInstance}

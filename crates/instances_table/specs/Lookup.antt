@@ -4,8 +4,8 @@
 use Rattle.std.specs.Prelude.{ℕ, Bool, not, ◌+◌, ◌-◌, ◌%◌, ◌^◌, ◌==◌, ◌&&◌, nat_lt, List, length, Option, Some, None, option_map, ok_or, slice_get, Result, Ok, if◌then◌else◌}
 use Rattle.std.specs.List.{list_any, position}
 use Rattle.profile.specs.Outcome.{bind}
-use Rattle.profile.specs.declared.error.ErrorNumber.{ErrorNumber}
-use Rattle.profile.specs.declared.error.ErrorNumber.TheVariants.{ModuleNotFound}
+use Rattle.profile.specs.ErrorNumber.{ErrorNumber}
+use Rattle.profile.specs.ErrorNumber.TheVariants.{ModuleNotFound}
 use Rattle.instances_table.specs.declared.parts.Handler.{Handler}
 use Rattle.instances_table.specs.declared.parts.Place.{Place}
 use Rattle.instances_table.specs.declared.parts.Information.{Information}

@@ -13,7 +13,7 @@ use std::io::Write;
 use std::marker::Model;
 
 /// A writer failed.
-#[derive(Clone, Copy, Debug)]
+#[derive(Clone, Copy, Debug, PartialEq, Eq)]
 pub struct WriteFault;
 
 impl fmt::Display for WriteFault {

@@ -12,7 +12,7 @@ use std::io::Read;
 use std::marker::Model;
 
 /// A reader failed.
-#[derive(Clone, Copy, Debug)]
+#[derive(Clone, Copy, Debug, PartialEq, Eq)]
 pub struct ReadFault;
 
 impl fmt::Display for ReadFault {

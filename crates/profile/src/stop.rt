@@ -3,7 +3,7 @@
 ghost use Rattle.std.specs.Prelude.{◌≡◌};
 ghost use Rattle.profile.specs.Status.{status_after};
 
-use crate::fault::Fault;
+use crate::Fault;
 
 /// Why a run of steps ended.
 #[derive(Clone, Copy, PartialEq, Eq)]

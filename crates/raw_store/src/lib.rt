@@ -6,11 +6,15 @@
 #![tactic(auto)]
 
 pub mod block;
+pub mod error;
+pub mod fault;
+pub mod image;
 mod lanes;
+pub mod memory_map;
 pub mod store;
 
-pub use profile::memory_map::{
-    ADDRESS_LIMIT, HEAP_DESCRIPTOR, HEAP_NAME, MOST_PAGES, PAGE_SIZE, RMA_START,
-};
-pub use profile::{ErrorNumber, Fault, ImageBytes};
+pub use error::{ErrorNumber, error_text};
+pub use fault::Fault;
+pub use image::ImageBytes;
+pub use memory_map::{ADDRESS_LIMIT, HEAP_DESCRIPTOR, HEAP_NAME, MOST_PAGES, PAGE_SIZE, RMA_START};
 pub use store::RawStore;

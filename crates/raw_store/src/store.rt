@@ -7,8 +7,8 @@ ghost use Rattle.raw_store.specs.Region.{AreApartOrEmpty, word_in, word_bytes, b
 
 use crate::block::{Base, Bytes, Deed, allocate};
 use crate::lanes;
+use crate::memory_map::PAGE_SIZE;
 use byteorder::{ByteOrder, LittleEndian};
-use profile::memory_map::PAGE_SIZE;
 use std::alloc::{AllocError, Global};
 use std::marker::Model;
 use std::slice;

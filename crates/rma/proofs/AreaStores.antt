@@ -2,7 +2,7 @@
 use Rattle.std.proofs.Common.{◌≡◌, ℕ, true, false, sym, ap, subst, ◌∙◌, Ok, Err}
 use Rattle.std.specs.Prelude.{Result, is_ok}
 use Rattle.profile.specs.Outcome.{Gives, bind}
-use Rattle.profile.specs.declared.error.ErrorNumber.{ErrorNumber}
+use Rattle.profile.specs.ErrorNumber.{ErrorNumber}
 use Rattle.dynamic_areas.specs.Memory.{Mapping, mapping, free_pages}
 use Rattle.dynamic_areas.specs.AddressMap.{AddressMap}
 use Rattle.dynamic_areas.specs.Store.{Store, store_of}

@@ -4,8 +4,8 @@ use Rattle.std.proofs.Common.{if◌then◌else◌, ◌≡◌, ◌≢◌, ℕ, �
 use Rattle.std.specs.Prelude.{Option, Result, is_some, is_ok, nat_le, ok_or}
 use Rattle.std.proofs.lemmas.Bool.{both_ways, cases_Bool, eq-eqb, eqb-true, leb-true, leb-false}
 use Rattle.profile.specs.Outcome.{Gives, bind}
-use Rattle.profile.specs.declared.error.ErrorNumber.{ErrorNumber}
-use Rattle.profile.specs.declared.error.ErrorNumber.TheVariants.{BlockHoldsHeap, HeapBadDesc, HeapNotABlock, RmaBlockHoldsHeap, RmaNoRoom}
+use Rattle.profile.specs.ErrorNumber.{ErrorNumber}
+use Rattle.profile.specs.ErrorNumber.TheVariants.{BlockHoldsHeap, HeapBadDesc, HeapNotABlock, RmaBlockHoldsHeap, RmaNoRoom}
 use Rattle.dynamic_areas.specs.Items.{size_of}
 use Rattle.dynamic_areas.specs.Memory.{bytes_of}
 use Rattle.dynamic_areas.specs.AddressMap.{AddressMap}

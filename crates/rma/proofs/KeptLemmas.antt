@@ -4,7 +4,7 @@ use Rattle.std.proofs.Common.{◌≡◌, List, ℕ, true, refl, ap, ◌∙◌}
 use Rattle.std.specs.List.{filter}
 use Rattle.std.specs.Prelude.{Option, Result, is_some}
 use Rattle.profile.specs.Outcome.{Gives}
-use Rattle.profile.specs.declared.error.ErrorNumber.{ErrorNumber}
+use Rattle.profile.specs.ErrorNumber.{ErrorNumber}
 use Rattle.dynamic_areas.specs.Bytes.{AreMapped}
 use Rattle.dynamic_areas.specs.Memory.{Layout, Mapping, is_mapped, layout, mapping, place, regions}
 use Rattle.dynamic_areas.specs.AddressMap.{AddressMap}

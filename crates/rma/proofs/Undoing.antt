@@ -4,8 +4,8 @@ use Rattle.std.proofs.Common.{◌≡◌, ◌≢◌, ℕ, ◌+◌, ◌-◌, ◌�
 use Rattle.std.specs.Prelude.{Option, Result, is_some, ok_or}
 use Rattle.std.proofs.lemmas.Bool.{both_ways, false_from_ne_true, false≢true, le-leb, lt-ltb}
 use Rattle.profile.specs.Outcome.{bind}
-use Rattle.profile.specs.declared.error.ErrorNumber.{ErrorNumber}
-use Rattle.profile.specs.declared.error.ErrorNumber.TheVariants.{HeapNoRoom}
+use Rattle.profile.specs.ErrorNumber.{ErrorNumber}
+use Rattle.profile.specs.ErrorNumber.TheVariants.{HeapNoRoom}
 use Rattle.dynamic_areas.proofs.Anchors.{among_none}
 use Rattle.dynamic_areas.specs.Bytes.{in_range}
 use Rattle.dynamic_areas.specs.Items.{is_total, size_of}

@@ -5,8 +5,8 @@
 use Rattle.profile.specs.MemoryMap.{module_area_start}
 use Rattle.std.specs.Prelude.{ℕ, Bool, true, false, ◌+◌, ◌-◌, ◌*◌, ◌==◌, nat_le, nat_lt, Option, Some, None, Result, Ok, Err, if◌then◌else◌}
 use Rattle.profile.specs.Outcome.{bind}
-use Rattle.profile.specs.declared.error.ErrorNumber.{ErrorNumber}
-use Rattle.profile.specs.declared.error.ErrorNumber.TheVariants.{HeapNotABlock, HeapHoldsAnchor, HeapNoRoom, BlockHoldsHeap, RmaNotABlock, RmaHoldsAnchor, RmaNoRoom, RmaBlockHoldsHeap}
+use Rattle.profile.specs.ErrorNumber.{ErrorNumber}
+use Rattle.profile.specs.ErrorNumber.TheVariants.{HeapNotABlock, HeapHoldsAnchor, HeapNoRoom, BlockHoldsHeap, RmaNotABlock, RmaHoldsAnchor, RmaNoRoom, RmaBlockHoldsHeap}
 use Rattle.dynamic_areas.specs.OsHeapWordsLists.{round_up_8, total_for, changed_by}
 use Rattle.dynamic_areas.specs.Calls.{heap_description, store_after_get, gave_back, store_after_resize, block_sized}
 use Rattle.dynamic_areas.specs.Forgetting.{holds_heap}

@@ -3,7 +3,7 @@
 -- Reference Manual, "OS_Module", reasons 1, 4 and 11).
 use Rattle.profile.specs.MemoryMap.{module_area_start}
 use Rattle.std.specs.Prelude.{ℕ, ◌≡◌, ◌<◌, true, false, length, IfOk, Result, Ok, Err, [], ◌∷◌, ◌++◌}
-use Rattle.profile.specs.declared.error.ErrorNumber.{ErrorNumber}
+use Rattle.profile.specs.ErrorNumber.{ErrorNumber}
 use Rattle.dynamic_areas.specs.Kind.TheVariants as kind
 use Rattle.dynamic_areas.specs.Records.{without_region}
 use Rattle.dynamic_areas.specs.Calls.{OfHeap, block_sized, gave_back}

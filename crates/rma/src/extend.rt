@@ -3,7 +3,7 @@
 ghost use Rattle.profile.specs.MemoryMap.{module_area_start};
 ghost use Rattle.std.specs.Prelude.{◌≡◌, ◌<◌, ◌+◌, ◌^◌, true, is_ok, if◌then◌else◌};
 ghost use Rattle.profile.specs.Outcome.{Gives};
-ghost use Rattle.profile.specs.declared.error.ErrorNumber.TheVariants.{RmaBlockHoldsHeap, RmaNoRoom};
+ghost use Rattle.profile.specs.ErrorNumber.TheVariants.{RmaBlockHoldsHeap, RmaNoRoom};
 ghost use Rattle.dynamic_areas.specs.Calls.{block_sized, store_after_resize};
 ghost use Rattle.dynamic_areas.specs.Store.{store_of, IsSound};
 ghost use Rattle.dynamic_areas.specs.Ground.{area_store_of, IsAreaStore};

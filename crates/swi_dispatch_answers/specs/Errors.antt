@@ -4,8 +4,8 @@
 use Rattle.profile.specs.MemoryMap.{error_block_start}
 use Rattle.std.specs.Prelude.{ℕ, ◌%◌, ◌==◌, Result, Ok, Err, List, [], ◌∷◌, ◌++◌, if◌then◌else◌}
 use Rattle.profile.specs.ErrorNames.{error_code}
-use Rattle.profile.specs.declared.error.ErrorNumber.TheVariants.{BadPointer}
-use Rattle.profile.specs.declared.fault.Fault.{Fault}
+use Rattle.profile.specs.ErrorNumber.TheVariants.{BadPointer}
+use Rattle.profile.specs.Fault.{Fault}
 use Rattle.address_map.specs.Bytes.{Bytes, word_loaded, with_word, with_bytes}
 
 -- The number of an error: the word at its block, or 82 (BadPointer) where no block can stand there.

@@ -4,8 +4,8 @@ use Rattle.profile.specs.MemoryMap.{error_block_start}
 use Rattle.std.proofs.Common.{◌≡◌, ℕ, true, false, length, List, [], Option, Some, None, Result, Ok, Err, refl, sym, ◌∙◌, ap}
 use Rattle.std.proofs.lemmas.List.{length-set}
 use Rattle.std.specs.Prelude.{OnErr, option_map}
-use Rattle.profile.specs.declared.error.ErrorNumber.{ErrorNumber}
-use Rattle.profile.specs.declared.fault.Fault.TheVariants.{ErrorStop}
+use Rattle.profile.specs.ErrorNumber.{ErrorNumber}
+use Rattle.profile.specs.Fault.TheVariants.{ErrorStop}
 use Rattle.profile.specs.declared.swi.SwiName.{SwiName}
 use Rattle.profile.specs.declared.swi.SwiName.TheVariants as swi
 use Rattle.profile.specs.ErrorNames.{error_code}

@@ -1,7 +1,7 @@
 -- A call that does something at once, and then goes on or is refused, is the call that begins.
 use Rattle.std.proofs.Common.{◌≡◌, ℕ, Bool, Option, Ok, Err, ap, subst, sym, ◌∙◌}
 use Rattle.std.specs.Prelude.{OnErr, Result}
-use Rattle.profile.specs.declared.error.ErrorNumber.{ErrorNumber}
+use Rattle.profile.specs.ErrorNumber.{ErrorNumber}
 use Rattle.swi_dispatch_plans.specs.Plans.{Plan}
 use Rattle.swi_dispatch_plans.specs.Call.{Call}
 use Rattle.swi_dispatch_guest.specs.Additions.{Planned, Starts}

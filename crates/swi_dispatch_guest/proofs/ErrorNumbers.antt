@@ -1,7 +1,7 @@
 -- The number of an error that a call answers, found where R0 points after the call went back.
 use Rattle.profile.specs.MemoryMap.{error_block_start}
 use Rattle.std.proofs.Common.{◌≡◌, ◌≢◌, ◌<◌, ◌^◌, ◌+◌, ◌*◌, ◌/◌, ◌%◌, ℕ, Bool, true, List, length, refl, sym, ◌∙◌, ap, arith, rules, get_or-set_other, get_or-set_same}
-use Rattle.profile.specs.declared.error.ErrorNumber.{ErrorNumber}
+use Rattle.profile.specs.ErrorNumber.{ErrorNumber}
 use Rattle.profile.specs.ErrorNames.{error_code, error_name}
 use Rattle.os_heap.specs.Bytes.{Bytes, word_loaded}
 use Rattle.os_heap.specs.Memory.{free_pages}

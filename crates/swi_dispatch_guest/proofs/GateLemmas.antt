@@ -10,7 +10,7 @@ use Rattle.swi_dispatch_plans.specs.Areas.{AreaTable}
 use Rattle.swi_dispatch_plans.proofs.Keeping.{keeps_then}
 use Rattle.os_heap.specs.Store.{AreClasses, store_of}
 use Rattle.profile.specs.Outcome.{Gives}
-use Rattle.profile.specs.declared.error.ErrorNumber.{ErrorNumber}
+use Rattle.profile.specs.ErrorNumber.{ErrorNumber}
 use Rattle.swi_dispatch_plans.specs.PlanAction.{PlanAction}
 use Rattle.swi_dispatch_plans.specs.Code.{Code}
 use Rattle.swi_dispatch_plans.specs.Outcome.{Outcome as CodeOutcome}
@@ -24,7 +24,7 @@ use Rattle.swi_dispatch_plans.specs.Pending.{pending_of}
 use Rattle.arm_run.specs.State.{State}
 use Rattle.swi_dispatch_plans.specs.Call.{Call}
 use Rattle.swi_dispatch_plans.specs.Frame.{Frame}
-use Rattle.profile.specs.declared.fault.Fault.TheVariants.{ErrorStop}
+use Rattle.profile.specs.Fault.TheVariants.{ErrorStop}
 use Rattle.swi_dispatch_guest.specs.declared.halt.Halt.TheVariants as halt
 use Rattle.swi_dispatch_guest.specs.Gates.{Resumes, carried_on, come_back, ended_of, fault_kept, state_after_plan, kept_by, state_with_code_entered, outcome_left, plan_left, with_code}
 use Rattle.swi_dispatch_plans.specs.Trials.{module_state_carried}

@@ -5,7 +5,7 @@ use Rattle.arm_run.specs.Mode.TheVariants.{Supervisor}
 use Rattle.arm_run.specs.State.{register_in}
 use Rattle.swi_dispatch_plans.specs.CodeKind.{CodeKind}
 use Rattle.swi_dispatch_plans.specs.Plans.{Plan}
-use Rattle.profile.specs.declared.fault.Fault.TheVariants.{ErrorStop}
+use Rattle.profile.specs.Fault.TheVariants.{ErrorStop}
 use Rattle.swi_dispatch_plans.specs.Busy.{is_swi}
 use Rattle.swi_dispatch_plans.specs.Frames.{innermost_frame}
 use Rattle.swi_dispatch_plans.specs.Frame.{Frame}

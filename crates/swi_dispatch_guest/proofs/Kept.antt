@@ -2,12 +2,12 @@
 use Rattle.profile.specs.MemoryMap.{application_start, error_block_start, module_area_start, system_start}
 use Rattle.std.proofs.Common.{◌≡◌, ℕ, ◌+◌, ◌-◌, ◌*◌, ◌%◌, ◌^◌, ◌≤◌, Bool, true, false, cond, nat_le, nat_eq, List, [], ◌∷◌, length, ◌++◌, Option, Some, None, Result, Ok, Err, refl, sym, ◌∙◌, ap, subst, arith, lit<, rules}
 use Rattle.std.proofs.lemmas.Bool.{true≢false, le-leb}
-use Rattle.profile.specs.declared.error.ErrorNumber.{ErrorNumber}
+use Rattle.profile.specs.ErrorNumber.{ErrorNumber}
 use Rattle.profile.specs.ErrorNames.{error_name}
 use Rattle.std.proofs.lemmas.Bool.Decides.{nat_tests}
 use Rattle.profile.specs.Outcome.{bind, Leaves}
 use Rattle.profile.specs.Sizes.{Sizes, AreGood}
-use Rattle.profile.specs.declared.fault.Fault.{Fault}
+use Rattle.profile.specs.Fault.{Fault}
 use Rattle.os_heap.specs.AddressMap.{AddressMap}
 use Rattle.os_heap.specs.Bytes.{Bytes, in_range, ok_unless_fault, store_fault, word_stored, with_word, with_word_at, with_bytes_at, with_bytes}
 use Rattle.os_heap.specs.Memory.{bytes_of, byte_at, free_pages, Layout, layout, class_of, is_owned}

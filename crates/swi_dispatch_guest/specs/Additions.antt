@@ -2,7 +2,7 @@
 -- OS 3 Programmer's Reference Manual, "OS_Module", reasons 0, 1, 10 and 11).
 use Rattle.std.specs.Prelude.{◌≡◌, ℕ, Bool, List, Option, Result, Ok, Err}
 use Rattle.profile.specs.Outcome.{bind}
-use Rattle.profile.specs.declared.error.ErrorNumber.{ErrorNumber}
+use Rattle.profile.specs.ErrorNumber.{ErrorNumber}
 use Rattle.swi_dispatch_plans.specs.Entries.{Entry}
 use Rattle.swi_dispatch_plans.specs.Plans.{Plan}
 use Rattle.swi_dispatch_plans.specs.ModuleState.{ModuleState}

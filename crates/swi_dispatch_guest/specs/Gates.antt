@@ -3,8 +3,8 @@
 -- 3 Programmer's Reference Manual, "Modules" and "OS_Module"; frames, the gate, and that a call
 -- that gives its caller no error does nothing where there is one, are this project's own).
 use Rattle.std.specs.Prelude.{◌≡◌, ℕ, Bool, true, false, ◌==◌, List, Option, Some, None, Result, Ok, Err, if◌then◌else◌}
-use Rattle.profile.specs.declared.error.ErrorNumber.{ErrorNumber}
-use Rattle.profile.specs.declared.fault.Fault.TheVariants.{FetchUnmapped, ErrorStop, StackChanged}
+use Rattle.profile.specs.ErrorNumber.{ErrorNumber}
+use Rattle.profile.specs.Fault.TheVariants.{FetchUnmapped, ErrorStop, StackChanged}
 use Rattle.arm_run.specs.Mode.TheVariants.{Supervisor}
 use Rattle.arm_run.specs.State.{State, register_in}
 use Rattle.swi_dispatch_plans.specs.Outcome.{Outcome as CodeOutcome}

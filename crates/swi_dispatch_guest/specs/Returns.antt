@@ -2,7 +2,7 @@
 -- Programmer's Reference Manual, "An introduction to SWIs" and "Generating and handling errors";
 -- that nothing is done then is this project's own).
 use Rattle.std.specs.Prelude.{ℕ, Bool, true, false, Some}
-use Rattle.profile.specs.declared.fault.Fault.TheVariants.{ErrorStop}
+use Rattle.profile.specs.Fault.TheVariants.{ErrorStop}
 use Rattle.arm_run.specs.Psr.{Psr}
 use Rattle.swi_dispatch_guest.specs.declared.halt.Halt.{Halt}
 use Rattle.swi_dispatch_guest.specs.declared.halt.Halt.TheVariants as halt

@@ -1,8 +1,8 @@
 -- One step of the machine: an instruction, or a store call. A fault changes nothing but that the
 -- machine is halted with it.
 use Rattle.std.specs.Prelude.{◌≡◌, ℕ, Bool, true, false, ◌+◌, ◌-◌, ◌%◌, ◌^◌, ◌==◌, Option, Some, None, ok_or, Result, Ok, Err, List, length, ◌++◌, ◌∷◌, [], if◌then◌else◌}
-use Rattle.profile.specs.declared.error.ErrorNumber.{ErrorNumber}
-use Rattle.profile.specs.declared.error.ErrorNumber.TheVariants.{BadString, FrameLimit, SwiUnknown}
+use Rattle.profile.specs.ErrorNumber.{ErrorNumber}
+use Rattle.profile.specs.ErrorNumber.TheVariants.{BadString, FrameLimit, SwiUnknown}
 use Rattle.profile.specs.declared.swi.SwiName.{SwiName}
 use Rattle.profile.specs.declared.swi.SwiName.TheVariants as swi
 use Rattle.profile.specs.SwiNames.{swi_of}

@@ -3,7 +3,7 @@
 use Rattle.std.specs.Prelude.{ℕ, None, Result, Ok, List}
 use Rattle.profile.specs.MemoryMap.{application_start}
 use Rattle.profile.specs.Outcome.{bind}
-use Rattle.profile.specs.declared.fault.Fault.{Fault}
+use Rattle.profile.specs.Fault.{Fault}
 use Rattle.os_heap.specs.Bytes.{with_bytes, word_stored}
 use Rattle.arm_run.specs.Mode.{Mode}
 use Rattle.arm_run.specs.Psr.{Psr}

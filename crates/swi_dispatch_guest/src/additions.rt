@@ -3,7 +3,7 @@
 
 ghost use Rattle.std.specs.Prelude.{◌≡◌, ◌<◌, ◌^◌, false, true, Ok, OnErr, ok_or};
 ghost use Rattle.profile.specs.Outcome.{bind};
-ghost use Rattle.profile.specs.declared.error.ErrorNumber.TheVariants.{BadString};
+ghost use Rattle.profile.specs.ErrorNumber.TheVariants.{BadString};
 ghost use Rattle.swi_dispatch_plans.specs.Words.{host_string};
 ghost use Rattle.profile.specs.images.module_header.Header.{header_of};
 ghost use Rattle.swi_dispatch_plans.specs.Copies.{may_be_copied};

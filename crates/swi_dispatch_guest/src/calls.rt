@@ -3,8 +3,8 @@
 ghost use Rattle.std.specs.Prelude.{ℕ, ◌≡◌, ◌<◌, ◌≤◌, ◌^◌, false, [], None, Some, OnErr};
 ghost use Rattle.profile.specs.ErrorNames.{error_code};
 ghost use Rattle.profile.specs.Outcome.{Leaves};
-ghost use Rattle.profile.specs.declared.error.ErrorNumber.{ErrorNumber};
-ghost use Rattle.profile.specs.declared.fault.Fault.TheVariants.{ErrorStop};
+ghost use Rattle.profile.specs.ErrorNumber.{ErrorNumber};
+ghost use Rattle.profile.specs.Fault.TheVariants.{ErrorStop};
 ghost use Rattle.swi_dispatch_plans.specs.Call.{Call};
 ghost use Rattle.swi_dispatch_plans.specs.flex.Calls.{flex_called};
 ghost use Rattle.swi_dispatch_plans.specs.store.Areas.{area_changed, change_asked};

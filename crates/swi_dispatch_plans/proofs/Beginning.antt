@@ -5,7 +5,7 @@ use Rattle.std.proofs.lemmas.Bool.{true≢false}
 use Rattle.instances.specs.module_state.Sound.{IsModuleState}
 use Rattle.swi_dispatch_answers.specs.Plans.{Plan}
 use Rattle.instances.specs.Modules.{slots_of}
-use Rattle.profile.specs.declared.error.ErrorNumber.{ErrorNumber}
+use Rattle.profile.specs.ErrorNumber.{ErrorNumber}
 use Rattle.swi_dispatch_answers.specs.frames.Busy.{has_swi_of}
 use Rattle.instances.specs.Naming.{NamesOnly, slots_of_plan}
 use Rattle.instances.specs.actions.Pending.{pending_of}

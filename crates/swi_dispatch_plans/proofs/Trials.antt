@@ -16,7 +16,7 @@ use Rattle.swi_dispatch_answers.specs.Plans.{Plan, end_by, plan_after_code}
 use Rattle.instances.specs.Modules.{Module}
 use Rattle.os_heap.proofs.Frame.{IsKept, classes_same, heads_kept}
 use Rattle.os_heap.specs.Store.{AreClasses, IsSound, Store, store_of}
-use Rattle.profile.specs.declared.error.ErrorNumber.{ErrorNumber}
+use Rattle.profile.specs.ErrorNumber.{ErrorNumber}
 use Rattle.swi_dispatch_answers.specs.Errors.{error_at}
 use Rattle.instances.specs.Turns.{module_doing}
 use Rattle.swi_dispatch_plans.specs.Trials.{error_ahead, error_left}

@@ -4,8 +4,8 @@
 -- own). What each does then, and what it refuses at that, stands in `instances`.
 use Rattle.std.specs.Prelude.{ℕ, Bool, not, List, [], ok_or, Result, Ok, Err, if◌then◌else◌}
 use Rattle.profile.specs.Outcome.{bind}
-use Rattle.profile.specs.declared.error.ErrorNumber.{ErrorNumber}
-use Rattle.profile.specs.declared.error.ErrorNumber.TheVariants.{BadPointer, BadString, ImageUnknown, ModuleNotFound}
+use Rattle.profile.specs.ErrorNumber.{ErrorNumber}
+use Rattle.profile.specs.ErrorNumber.TheVariants.{BadPointer, BadString, ImageUnknown, ModuleNotFound}
 use Rattle.os_heap.specs.Bytes.{bytes_between}
 use Rattle.swi_dispatch_answers.specs.State.{register_of}
 use Rattle.profile.specs.images.Entries.{Entry, bytes_of_image}

@@ -3,8 +3,8 @@
 -- refused while module code is under way, and the order of the refusals, are this project's own).
 use Rattle.std.specs.Prelude.{ℕ, is_some, ◌==◌, ◌||◌, nat_lt, List, [], ◌∷◌, length, Result, Ok, Err, if◌then◌else◌}
 use Rattle.profile.specs.Outcome.{bind}
-use Rattle.profile.specs.declared.error.ErrorNumber.{ErrorNumber}
-use Rattle.profile.specs.declared.error.ErrorNumber.TheVariants.{FrameLimit, ModuleBusy}
+use Rattle.profile.specs.ErrorNumber.{ErrorNumber}
+use Rattle.profile.specs.ErrorNumber.TheVariants.{FrameLimit, ModuleBusy}
 use Rattle.swi_dispatch_answers.specs.Plans.{Plan}
 use Rattle.swi_dispatch_answers.specs.Words.{name_part, text_part}
 use Rattle.swi_dispatch_answers.specs.frames.Busy.{has_swi_of}

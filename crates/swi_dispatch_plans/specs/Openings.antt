@@ -4,8 +4,8 @@
 use Rattle.profile.specs.MemoryMap.{environment_text_start}
 use Rattle.std.specs.Prelude.{ℕ, nat_lt, List, length, Result, Ok, Err, if◌then◌else◌}
 use Rattle.profile.specs.Outcome.{bind}
-use Rattle.profile.specs.declared.error.ErrorNumber.{ErrorNumber}
-use Rattle.profile.specs.declared.error.ErrorNumber.TheVariants.{ModuleBusy}
+use Rattle.profile.specs.ErrorNumber.{ErrorNumber}
+use Rattle.profile.specs.ErrorNumber.TheVariants.{ModuleBusy}
 use Rattle.swi_dispatch_answers.specs.Mode.TheVariants.{User}
 use Rattle.swi_dispatch_answers.specs.State.{State, start_psr, with_pc, with_psr, with_register_in}
 use Rattle.swi_dispatch_answers.specs.InstancesTableCode.{private_of}

@@ -1,6 +1,6 @@
 -- What a call on modules finds as it begins (this project's own).
 use Rattle.std.specs.Prelude.{ℕ, Option, Result, List}
-use Rattle.profile.specs.declared.error.ErrorNumber.{ErrorNumber}
+use Rattle.profile.specs.ErrorNumber.{ErrorNumber}
 use Rattle.os_heap.specs.AddressMap.{AddressMap}
 use Rattle.swi_dispatch_answers.specs.State.{State}
 use Rattle.instances.specs.module_state.ModuleState.{ModuleState, module_state_of}

@@ -1,6 +1,6 @@
 -- A word whose form stays in the core asks for nothing outside of it.
 use Rattle.std.proofs.Common.{◌≡◌, ℕ, true, Option, Some, None, Result, Ok, Err, refl, sym, subst}
-use Rattle.profile.specs.declared.fault.Fault.{Fault}
+use Rattle.profile.specs.Fault.{Fault}
 use Rattle.arm_core.specs.State.{State}
 use Rattle.arm_decode.specs.Decoded.{decoded_as, instruction_of_word, unless_refused}
 use Rattle.arm_decode.specs.Fields.{action_in, condition_in}

@@ -1,7 +1,7 @@
 -- What a step asks for outside of the core: nothing, where its word is no instruction that is carried out, or
 -- one of a form that does all in the core (ARM2 data sheet, "Instruction set summary").
 use Rattle.std.specs.Prelude.{Bool, true, false, None, Result, Ok}
-use Rattle.profile.specs.declared.fault.Fault.{Fault}
+use Rattle.profile.specs.Fault.{Fault}
 use Rattle.arm_decode.specs.declared.form.Form.{Form}
 use Rattle.arm_decode.specs.declared.form.Form.TheVariants as form
 use Rattle.trace_effects.specs.Stored.{no_words}

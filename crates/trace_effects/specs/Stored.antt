@@ -2,7 +2,7 @@
 -- transfer"): STR the word that its address lies in, STRB a byte of that word, STM one word for each
 -- register of its list.
 use Rattle.std.specs.Prelude.{Result, Ok, Err, if◌then◌else◌}
-use Rattle.profile.specs.declared.fault.Fault.{Fault}
+use Rattle.profile.specs.Fault.{Fault}
 use Rattle.arm_step.specs.Bytes.{word_start}
 use Rattle.arm_decode.specs.Decoded.{instruction_of_word}
 use Rattle.arm_decode.specs.declared.action.Action.{Action}

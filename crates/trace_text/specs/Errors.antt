@@ -3,10 +3,10 @@ use Rattle.std.specs.Prelude.{ℕ, ◌==◌, List, [], ◌∷◌, ◌++◌, code
 use Rattle.std.specs.Fmt.{decimal}
 use Rattle.profile.specs.ErrorNames.{error_code, error_name}
 use Rattle.profile.specs.FaultNames.{fault_name}
-use Rattle.profile.specs.declared.error.ErrorNumber.{ErrorNumber}
-use Rattle.profile.specs.declared.error.ErrorNumber.TheVariants.{HeapBadReason, HeapBadDesc, HeapBadRegion, HeapOverlaps, HeapTableFull, HeapNotABlock, HeapHoldsAnchor, HeapBadShrink, HeapNoRoom, BlockHoldsHeap, AreaBadReason, AreaUnknown, AreaBad, AreaTaken, AreaTableFull, AreaInUse, AreaNoPages, RmaNotABlock, RmaHoldsAnchor, RmaNoRoom, RmaBlockHoldsHeap, ModuleBadHeader, ModuleBadReason, ModuleNotFound, ImageUnknown, InstanceExists, InstanceTableFull, ModuleBusy, FrameLimit, FlexNotReady, FlexAlready, FlexBadRange, FlexBadAnchor, FlexAnchorInUse, FlexHoldsAnchor, SwiUnknown, BadString, BadPointer}
-use Rattle.profile.specs.declared.fault.Fault.{Fault}
-use Rattle.profile.specs.declared.fault.Fault.TheVariants.{ErrorStop}
+use Rattle.profile.specs.ErrorNumber.{ErrorNumber}
+use Rattle.profile.specs.ErrorNumber.TheVariants.{HeapBadReason, HeapBadDesc, HeapBadRegion, HeapOverlaps, HeapTableFull, HeapNotABlock, HeapHoldsAnchor, HeapBadShrink, HeapNoRoom, BlockHoldsHeap, AreaBadReason, AreaUnknown, AreaBad, AreaTaken, AreaTableFull, AreaInUse, AreaNoPages, RmaNotABlock, RmaHoldsAnchor, RmaNoRoom, RmaBlockHoldsHeap, ModuleBadHeader, ModuleBadReason, ModuleNotFound, ImageUnknown, InstanceExists, InstanceTableFull, ModuleBusy, FrameLimit, FlexNotReady, FlexAlready, FlexBadRange, FlexBadAnchor, FlexAnchorInUse, FlexHoldsAnchor, SwiUnknown, BadString, BadPointer}
+use Rattle.profile.specs.Fault.{Fault}
+use Rattle.profile.specs.Fault.TheVariants.{ErrorStop}
 use Rattle.profile.specs.declared.stop.Stop.{Stop}
 use Rattle.profile.specs.declared.stop.Stop.TheVariants as stop
 

@@ -1,7 +1,7 @@
 -- The text that a register points to, between double quotes: its characters up to the first that is
 -- a control character or isn't mapped, at most 40 of them, and then `..`.
 use Rattle.std.specs.Prelude.{ℕ, zero, suc, ◌==◌, nat_lt, List, [], ◌∷◌, ◌++◌, codes, length, Option, Some, None, Result, Ok, Err, if◌then◌else◌}
-use Rattle.profile.specs.declared.fault.Fault.{Fault}
+use Rattle.profile.specs.Fault.{Fault}
 use Rattle.trace_effects.specs.Bytes.{Bytes, byte_loaded}
 use Rattle.profile.specs.Sums.{address_further}
 use Rattle.trace_store_text.specs.views.Quoted.{quoted_text}

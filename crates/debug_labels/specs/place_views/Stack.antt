@@ -5,7 +5,7 @@
 use Rattle.std.specs.Prelude.{ℕ, zero, suc, ◌*◌, ◌/◌, ◌%◌, ◌^◌, ◌==◌, ◌++◌, List, [], codes, Result, Ok, Err, if◌then◌else◌}
 use Rattle.profile.specs.Digits.{hex_word}
 use Rattle.profile.specs.MemoryMap.{return_gate}
-use Rattle.profile.specs.declared.fault.Fault.{Fault}
+use Rattle.profile.specs.Fault.{Fault}
 use Rattle.debugger.specs.Bytes.{Bytes, word_loaded, word_start}
 use Rattle.debugger.specs.State.{State, register_of}
 use Rattle.debug_labels.specs.Places.{place_of}

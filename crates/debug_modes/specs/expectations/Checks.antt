@@ -5,7 +5,7 @@ use Rattle.std.specs.List.{list_any}
 use Rattle.std.specs.Str.{bytes_eq}
 use Rattle.std.specs.Str.Lines.{lines}
 use Rattle.profile.specs.Digits.{hex_word}
-use Rattle.profile.specs.declared.fault.Fault.{Fault}
+use Rattle.profile.specs.Fault.{Fault}
 use Rattle.address_map.specs.Bytes.{Bytes, byte_loaded, word_loaded}
 use Rattle.arm_core.specs.State.{State, register_in, register_of}
 use Rattle.arm_core.specs.declared.psr.Mode.{Mode}

@@ -5,7 +5,7 @@ use Rattle.std.specs.Prelude.{ℕ, zero, suc, ◌==◌, ◌&&◌, ◌++◌, List
 use Rattle.std.specs.Fmt.{decimal}
 use Rattle.std.specs.List.{starts_with}
 use Rattle.profile.specs.Digits.{hex_number}
-use Rattle.profile.specs.declared.fault.Fault.{Fault}
+use Rattle.profile.specs.Fault.{Fault}
 use Rattle.address_map.specs.Bytes.{Bytes, byte_loaded, word_loaded}
 use Rattle.arm_core.specs.State.{State, register_of}
 use Rattle.profile.specs.Sums.{address_further}

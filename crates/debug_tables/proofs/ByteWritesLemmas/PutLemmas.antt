@@ -3,7 +3,7 @@ use Rattle.std.proofs.Common.{◌≡◌, ◌<◌, ◌≤◌, ◌+◌, ◌-◌, �
 use Rattle.std.specs.Prelude.{Option, Some, None, Result, Ok, Err, nat_lt, if◌then◌else◌}
 use Rattle.std.proofs.lemmas.Bool.Decides.{nat_tests}
 use Rattle.profile.specs.Outcome.{Leaves}
-use Rattle.profile.specs.declared.fault.Fault.{Fault}
+use Rattle.profile.specs.Fault.{Fault}
 use Rattle.address_map.specs.Bytes.{Bytes, ok_unless_fault, store_fault, with_bytes_at, with_word_at, word_start, word_stored}
 use Rattle.command_shell.specs.Memory.{script_after_poke}
 use Rattle.command_shell.specs.State.{ScriptState}

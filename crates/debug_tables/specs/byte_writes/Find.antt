@@ -5,7 +5,7 @@ use Rattle.std.specs.Prelude.{ℕ, zero, suc, Bool, true, false, ◌-◌, ◌==�
 use Rattle.std.specs.Fmt.{decimal}
 use Rattle.std.specs.List.{filter, flat_map}
 use Rattle.profile.specs.Digits.{hex_number}
-use Rattle.profile.specs.declared.fault.Fault.{Fault}
+use Rattle.profile.specs.Fault.{Fault}
 use Rattle.profile.specs.Sums.{address_further}
 use Rattle.address_map.specs.Bytes.{Bytes, byte_loaded}
 

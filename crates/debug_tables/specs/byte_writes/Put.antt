@@ -2,7 +2,7 @@
 -- would, each with what stands beside the bytes in it. Where one of the words can't be stored to, none
 -- is.
 use Rattle.std.specs.Prelude.{◌≡◌, ℕ, Bool, true, zero, suc, ◌+◌, ◌/◌, ◌%◌, List, [], ◌∷◌, length, Option, Some, None, is_none, Result, Ok}
-use Rattle.profile.specs.declared.fault.Fault.{Fault}
+use Rattle.profile.specs.Fault.{Fault}
 use Rattle.address_map.specs.Bytes.{Bytes, ok_unless_fault, store_fault, with_bytes, word_start}
 use Rattle.command_shell.specs.Memory.{script_with_machine}
 use Rattle.command_shell.specs.State.{ScriptState}

@@ -3,7 +3,7 @@
 -- one that holds the byte at an address. Addresses count modulo 2^32.
 use Rattle.std.specs.Prelude.{ℕ, zero, suc, ◌+◌, ◌-◌, ◌/◌, ◌++◌, min, List, [], codes, Result, Ok, Err}
 use Rattle.profile.specs.Digits.{hex_word}
-use Rattle.profile.specs.declared.fault.Fault.{Fault}
+use Rattle.profile.specs.Fault.{Fault}
 use Rattle.swi_dispatch_guest.specs.Bytes.{Bytes, word_loaded, word_start}
 use Rattle.profile.specs.Sums.{address_further}
 

@@ -12,7 +12,7 @@ use Rattle.debug_session.specs.State.{ScriptState}
 use Rattle.debug_session.specs.Past.{PastState}
 use Rattle.debug_session.specs.Put.{script_after_put}
 use Rattle.profile.specs.Outcome.{Leaves}
-use Rattle.profile.specs.declared.fault.Fault.{Fault}
+use Rattle.profile.specs.Fault.{Fault}
 use Rattle.gdb_machine.specs.declared.changes.RegisterWrite.{RegisterWrite}
 use Rattle.gdb_server.specs.session.Changes.{past_after_write, script_with_change, with_change}
 use Rattle.gdb_server.specs.session.Requests.{act_shown, gdb_change_shown}

@@ -7,8 +7,8 @@ use Rattle.std.specs.Int.{from_le_bytes, w32}
 use Rattle.std.specs.Prelude.{Option, Some, None, Result, ◌==◌, codes, if◌then◌else◌}
 use Rattle.hex.specs.Hex.{decode_of, decode_sized}
 use Rattle.hex.specs.declared.error.FromHexError.{FromHexError}
-use Rattle.profile.specs.declared.fault.Fault.{Fault}
-use Rattle.profile.specs.declared.fault.Fault.TheVariants as fault
+use Rattle.profile.specs.Fault.{Fault}
+use Rattle.profile.specs.Fault.TheVariants as fault
 use Rattle.address_map.specs.Bytes.{ok_unless_fault, with_bytes_at}
 use Rattle.arm_core.specs.State.{IsCore, State}
 use Rattle.debug_session.specs.Put.{put_fault, script_after_put, script_with_bytes}

@@ -11,7 +11,7 @@ use Rattle.hex.specs.Hex.{decode_of, decode_sized}
 use Rattle.address_map.specs.Bytes.{with_bytes_at}
 use Rattle.arm_core.specs.State.{IsCore}
 use Rattle.debug_session.specs.Put.{put_fault}
-use Rattle.profile.specs.declared.fault.Fault.TheVariants.{OwnedWord}
+use Rattle.profile.specs.Fault.TheVariants.{OwnedWord}
 use Rattle.gdb_server.specs.session.Back.{back_end, back_to_end, steps_back}
 use Rattle.gdb_server.specs.session.Looks.{look_reply}
 use Rattle.gdb_server.specs.session.Requests.{gdb_answered}

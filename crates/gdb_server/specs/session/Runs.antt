@@ -1,7 +1,7 @@
 -- Requests that take steps. A run goes in slices: after each the other side is asked whether the user
 -- wants the program to stop.
 use Rattle.std.specs.Prelude.{ℕ, ◌==◌, ◌&&◌, ◌||◌, nat_lt, option_map, Bool, true, false, List, [], ◌++◌, codes, Option, Some, None, if◌then◌else◌}
-use Rattle.profile.specs.declared.fault.Fault.{Fault}
+use Rattle.profile.specs.Fault.{Fault}
 use Rattle.profile.specs.declared.stop.Stop.{Stop}
 use Rattle.profile.specs.declared.stop.Stop.TheVariants as stop
 use Rattle.debug_session.specs.Answers.{stop_text}

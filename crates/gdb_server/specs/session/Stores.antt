@@ -1,7 +1,7 @@
 -- Bytes stored by GDB: as a guest's stores of whole words would, each word with what stands beside the
 -- bytes in it. Where one of the words can't be stored to, none is.
 use Rattle.std.specs.Prelude.{ℕ, ◌==◌, List, [], ◌∷◌, length, codes, Result, Ok, Err, if◌then◌else◌}
-use Rattle.profile.specs.declared.fault.Fault.{Fault}
+use Rattle.profile.specs.Fault.{Fault}
 use Rattle.gdb_machine.specs.ChangePackets.{store_refusal}
 use Rattle.debug_session.specs.Past.{PastState}
 use Rattle.debug_session.specs.PastDeed.TheVariants as deed

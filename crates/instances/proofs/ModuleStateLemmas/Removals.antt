@@ -6,8 +6,8 @@ use Rattle.std.specs.Prelude.{Option, Result, ok_or, if◌then◌else◌}
 use Rattle.std.specs.List.{list_any}
 use Rattle.std.proofs.lemmas.Bool.{both_ways, cases_Bool, eq-eqb, eqb-true, false_from_ne_true, or_parts}
 use Rattle.profile.specs.Outcome.{bind}
-use Rattle.profile.specs.declared.error.ErrorNumber.{ErrorNumber}
-use Rattle.profile.specs.declared.error.ErrorNumber.TheVariants.{HeapBadDesc, HeapHoldsAnchor, HeapNotABlock}
+use Rattle.profile.specs.ErrorNumber.{ErrorNumber}
+use Rattle.profile.specs.ErrorNumber.TheVariants.{HeapBadDesc, HeapHoldsAnchor, HeapNotABlock}
 use Rattle.rma.specs.Records.{without_region}
 use Rattle.rma.specs.Item.{Item}
 use Rattle.rma.specs.Kind.TheVariants as kind

@@ -3,7 +3,7 @@
 -- the environment text are this project's own.
 use Rattle.profile.specs.MemoryMap.{environment_text_start}
 use Rattle.std.specs.Prelude.{ℕ, List, [], ◌∷◌, ◌++◌, Result, Ok, Err, if◌then◌else◌}
-use Rattle.profile.specs.declared.error.ErrorNumber.{ErrorNumber}
+use Rattle.profile.specs.ErrorNumber.{ErrorNumber}
 use Rattle.rma.specs.AddressMap.{AddressMap}
 use Rattle.rma.specs.Bytes.{word_at, with_word_at, with_bytes_at}
 use Rattle.rma.specs.Areas.{AreaTable}

@@ -3,8 +3,8 @@ use Rattle.std.proofs.Common.{◌≡◌, ℕ, Bool, ◌+◌, ◌-◌, ◌%◌, �
 use Rattle.std.specs.Prelude.{if◌then◌else◌, nat_le}
 use Rattle.std.proofs.lemmas.Bool.{and_parts, both_ways, cases_Bool, eqb-true, eq-eqb, false_from_ne_true, false≢true, ne_eqb, not-true, or_cases, or_left, or_parts, or_right}
 use Rattle.std.proofs.lemmas.List.{append-nil, take-replicate}
-use Rattle.profile.specs.declared.error.ErrorNumber.{ErrorNumber}
-use Rattle.profile.specs.declared.error.ErrorNumber.TheVariants.{FlexAnchorInUse, FlexBadAnchor, FlexNotReady}
+use Rattle.profile.specs.ErrorNumber.{ErrorNumber}
+use Rattle.profile.specs.ErrorNumber.TheVariants.{FlexAnchorInUse, FlexBadAnchor, FlexNotReady}
 use Rattle.profile.specs.Outcome.{bind}
 use Rattle.address_map.specs.Bytes.{Bytes, bytes_between, in_range, with_bytes_at, word_start}
 use Rattle.os_heap.specs.Store.{Store}

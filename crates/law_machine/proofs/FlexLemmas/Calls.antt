@@ -3,8 +3,8 @@ use Rattle.std.proofs.Common.{◌≡◌, ℕ, Bool, ◌+◌, ◌-◌, ◌^◌, �
 use Rattle.std.specs.Prelude.{if◌then◌else◌, nat_le, nat_lt}
 use Rattle.std.proofs.lemmas.Bool.{cases_Bool, cases_lt, eqb-false, eqb-true, false≢true, ltb-false}
 use Rattle.profile.specs.Outcome.{bind}
-use Rattle.profile.specs.declared.error.ErrorNumber.{ErrorNumber}
-use Rattle.profile.specs.declared.error.ErrorNumber.TheVariants.{FlexAnchorInUse, FlexBadAnchor, FlexBadRange, FlexHoldsAnchor, FlexNotReady}
+use Rattle.profile.specs.ErrorNumber.{ErrorNumber}
+use Rattle.profile.specs.ErrorNumber.TheVariants.{FlexAnchorInUse, FlexBadAnchor, FlexBadRange, FlexHoldsAnchor, FlexNotReady}
 use Rattle.os_heap.specs.Store.{Store}
 use Rattle.flex_store.specs.Blocks.{before, behind_of, Block, contents, cut_of, find_block, FlexStore, has_anchor, block_holding, more_of, new_block, bytes_after_splice, bytes_taken_by_all}
 use Rattle.flex_store.specs.Calls.{flex_after_alloc, breaks_anchor, end_in, flex_after_extend, FlexState, header_place_in, is_anchor_byte, is_anchor_place, may_stand, mid_extended, spliced_at, with_blocks}

@@ -5,8 +5,8 @@ use Rattle.std.proofs.lemmas.Bool.{both_ways, cases_Bool, eq-eqb, eqb-false, eqb
 use Rattle.std.proofs.lemmas.List.{drop-replicate, length-replicate}
 use Rattle.std.proofs.Math.Seq.{drop-append_seam}
 use Rattle.profile.specs.Outcome.{bind}
-use Rattle.profile.specs.declared.error.ErrorNumber.{ErrorNumber}
-use Rattle.profile.specs.declared.error.ErrorNumber.TheVariants.{FlexBadAnchor, FlexBadRange, FlexNotReady}
+use Rattle.profile.specs.ErrorNumber.{ErrorNumber}
+use Rattle.profile.specs.ErrorNumber.TheVariants.{FlexBadAnchor, FlexBadRange, FlexNotReady}
 use Rattle.address_map.specs.Bytes.{with_word_at, word_start}
 use Rattle.os_heap.specs.Store.{Store}
 use Rattle.flex_store.specs.Blocks.{Block, contents, cut_of, find_block, FlexStore, has_anchor, block_holding, more_of, new_block, bytes_after_splice, bytes_taken_by, bytes_taken_by_all, whole_words}

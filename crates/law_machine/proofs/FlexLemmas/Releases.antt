@@ -1,8 +1,8 @@
 -- A release that was done leaves the store without the block.
 use Rattle.std.proofs.Common.{◌≡◌, ℕ, Bool, ◌+◌, true, false, Option, Some, None, Result, Ok, Err, refl, sym, ◌∙◌, ap}
 use Rattle.std.specs.Prelude.{if◌then◌else◌}
-use Rattle.profile.specs.declared.error.ErrorNumber.{ErrorNumber}
-use Rattle.profile.specs.declared.error.ErrorNumber.TheVariants.{FlexHoldsAnchor}
+use Rattle.profile.specs.ErrorNumber.{ErrorNumber}
+use Rattle.profile.specs.ErrorNumber.TheVariants.{FlexHoldsAnchor}
 use Rattle.address_map.specs.Records.{anchor_among}
 use Rattle.flex_store.specs.Blocks.{before, behind_of, Block, find_block, FlexStore, bytes_taken_by_all}
 use Rattle.flex_store.specs.Calls.{end_in, FlexState, header_place_in, is_anchor_byte, flex_after_release, with_blocks, state_without_anchor}

@@ -6,8 +6,8 @@ use Rattle.std.proofs.lemmas.Bool.{false≢true, leb-true}
 use Rattle.flex_store.specs.Blocks.{Block, FlexStore, bytes_taken_by_all}
 use Rattle.flex_store.specs.Calls.{FlexState, with_blocks}
 use Rattle.flex_store.specs.Memory.{laid_out, standing}
-use Rattle.profile.specs.declared.error.ErrorNumber.{ErrorNumber}
-use Rattle.profile.specs.declared.error.ErrorNumber.TheVariants.{FlexHoldsAnchor}
+use Rattle.profile.specs.ErrorNumber.{ErrorNumber}
+use Rattle.profile.specs.ErrorNumber.TheVariants.{FlexHoldsAnchor}
 
 -- it was done: no anchor broke, and there was room
 pub record IsFitted (t u : FlexState) (s : FlexStore) (front news : List Block) : Type 0 where

@@ -18,7 +18,7 @@ use Rattle.flex_store.proofs.Placing.{gone_here, gone_past, splice_move, splice_
 use Rattle.flex_store.proofs.Splicing.{filled_length, spliced_length}
 use Rattle.flex_store.proofs.Standing.{standing_has, standing_same, standing_used}
 use Rattle.flex_store.proofs.Words.{word_of}
-use Rattle.profile.specs.declared.error.ErrorNumber.TheVariants.{FlexHoldsAnchor}
+use Rattle.profile.specs.ErrorNumber.TheVariants.{FlexHoldsAnchor}
 use Rattle.law_machine.specs.flex.Laws.{all_stay, AreBytes, IsLeftBy, IsSpelledState, SpliceGoesByNumbers, SpliceShowsItsOwn, SpliceShowsOthers}
 use Rattle.law_machine.specs.flex.Numbered.{after_splice, Anchor, anchor_from, blocks_seen, Inside, IsSplicedSeen, list_seen, anchor_place_of, SeenBlock, with_places}
 use Rattle.law_machine.specs.flex.Seen.{seen_at, seen_bytes, seen_in, seen_spliced}

@@ -9,8 +9,8 @@ use Rattle.profile.specs.ErrorNames.{error_code, error_name}
 use Rattle.profile.specs.SwiNames.{swi_of}
 use Rattle.profile.specs.Reasons.{module_reason}
 use Rattle.profile.specs.Word.{bit_of}
-use Rattle.profile.specs.declared.error.ErrorNumber.{ErrorNumber}
-use Rattle.profile.specs.declared.error.ErrorNumber.TheVariants.{BadString, FrameLimit, SwiUnknown}
+use Rattle.profile.specs.ErrorNumber.{ErrorNumber}
+use Rattle.profile.specs.ErrorNumber.TheVariants.{BadString, FrameLimit, SwiUnknown}
 use Rattle.profile.specs.declared.reason.ModuleReason.{ModuleReason}
 use Rattle.profile.specs.declared.reason.ModuleReason.TheVariants as reason
 use Rattle.profile.specs.declared.swi.SwiName.{SwiName}

@@ -7,8 +7,8 @@ use Rattle.profile.specs.Outcome.{bind}
 use Rattle.profile.specs.Reasons.{area_reason, heap_reason}
 use Rattle.profile.specs.SwiNames.{swi_of}
 use Rattle.profile.specs.Word.{bit_of}
-use Rattle.profile.specs.declared.error.ErrorNumber.{ErrorNumber}
-use Rattle.profile.specs.declared.error.ErrorNumber.TheVariants.{FrameLimit, SwiUnknown}
+use Rattle.profile.specs.ErrorNumber.{ErrorNumber}
+use Rattle.profile.specs.ErrorNumber.TheVariants.{FrameLimit, SwiUnknown}
 use Rattle.profile.specs.declared.reason.HeapReason.{HeapReason}
 use Rattle.profile.specs.declared.swi.SwiName.{SwiName}
 use Rattle.profile.specs.declared.swi.SwiName.TheVariants as swi

@@ -2,7 +2,7 @@
 -- that is.
 use Rattle.std.proofs.Common.{ℕ, ◌≡◌, ◌∙◌, Bool, Some, Result, Ok, Err, length, refl, arith, get_or-set_other, get_or-set_same}
 use Rattle.profile.specs.Outcome.{bind}
-use Rattle.profile.specs.declared.error.ErrorNumber.{ErrorNumber}
+use Rattle.profile.specs.ErrorNumber.{ErrorNumber}
 use Rattle.profile.specs.declared.reason.HeapReason.{HeapReason}
 use Rattle.profile.specs.declared.reason.HeapReason.TheVariants as reason
 use Rattle.arm_core.specs.declared.psr.Mode.{Mode}

@@ -4,7 +4,7 @@ use Rattle.profile.specs.MemoryMap.{error_block_start, system_start}
 use Rattle.std.proofs.Common.{ℕ, ◌≡◌, ◌∙◌, Bool, true, false, [], ◌∷◌, ◌++◌, option_map, Option, Some, None, Result, Ok, Err, ap}
 use Rattle.std.proofs.lemmas.Bool.{both_ways, false_from_ne_true}
 use Rattle.profile.specs.ErrorNames.{error_code, error_name}
-use Rattle.profile.specs.declared.error.ErrorNumber.{ErrorNumber}
+use Rattle.profile.specs.ErrorNumber.{ErrorNumber}
 use Rattle.address_map.specs.Bytes.{Bytes, in_range, with_word_at}
 use Rattle.os_heap_words.specs.lists.Heap.{HeapList}
 use Rattle.os_heap.proofs.Stores.{clear_of-found}

@@ -7,7 +7,7 @@ use Rattle.profile.specs.Outcome.{bind}
 use Rattle.profile.specs.Reasons.{heap_reason}
 use Rattle.profile.specs.SwiNames.{swi_of}
 use Rattle.profile.specs.Word.{bit_of}
-use Rattle.profile.specs.declared.error.ErrorNumber.{ErrorNumber}
+use Rattle.profile.specs.ErrorNumber.{ErrorNumber}
 use Rattle.profile.specs.declared.reason.HeapReason.{HeapReason}
 use Rattle.profile.specs.declared.reason.HeapReason.TheVariants as reason
 use Rattle.profile.specs.declared.swi.SwiName.{SwiName}

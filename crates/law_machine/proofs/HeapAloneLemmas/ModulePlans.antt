@@ -4,8 +4,8 @@ use Rattle.std.specs.Prelude.{IfOk, IfSome, if◌then◌else◌, ok_or, option_m
 use Rattle.std.proofs.lemmas.Bool.{cases_Bool}
 use Rattle.std.proofs.lemmas.Bool.Decides.{nat_tests}
 use Rattle.profile.specs.Outcome.{bind}
-use Rattle.profile.specs.declared.error.ErrorNumber.{ErrorNumber}
-use Rattle.profile.specs.declared.error.ErrorNumber.TheVariants.{BadString, InstanceTableFull, ModuleNotFound}
+use Rattle.profile.specs.ErrorNumber.{ErrorNumber}
+use Rattle.profile.specs.ErrorNumber.TheVariants.{BadString, InstanceTableFull, ModuleNotFound}
 use Rattle.instances.proofs.GoingOn.{bound as bound_any}
 use Rattle.instances.specs.Given.{is_text_too_long}
 use Rattle.instances.specs.Plans.{clearing, deletion, reinitialisation, tidying}

@@ -3,8 +3,8 @@
 use Rattle.std.proofs.Common.{ℕ, ◌+◌, ◌≡◌, ◌≤◌, ◌<◌, ◌&&◌, ◌++◌, not, nat_lt, Bool, true, false, zero, suc, length, List, [], ◌∷◌, Option, Some, None, Result, Ok, Err, refl, arith, lit≤}
 use Rattle.std.specs.Prelude.{IfOk, IfSome, if◌then◌else◌, option_map}
 use Rattle.profile.specs.Outcome.{bind}
-use Rattle.profile.specs.declared.error.ErrorNumber.{ErrorNumber}
-use Rattle.profile.specs.declared.error.ErrorNumber.TheVariants.{BadString, InstanceTableFull}
+use Rattle.profile.specs.ErrorNumber.{ErrorNumber}
+use Rattle.profile.specs.ErrorNumber.TheVariants.{BadString, InstanceTableFull}
 use Rattle.address_map.specs.Bytes.{Bytes, bytes_between}
 use Rattle.address_map.specs.declared.region.Kind.TheVariants as kind
 use Rattle.arm_core.specs.State.{register_of}

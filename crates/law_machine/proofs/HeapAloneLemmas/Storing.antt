@@ -4,7 +4,7 @@ use Rattle.std.proofs.Common.{ℕ, suc, ◌≡◌, ◌+◌, ◌*◌, ◌%◌, �
 use Rattle.std.proofs.lemmas.Bool.{cases_Bool}
 use Rattle.std.proofs.lemmas.Bool.Decides.{nat_tests}
 use Rattle.profile.specs.Outcome.{bind}
-use Rattle.profile.specs.declared.fault.Fault.{Fault}
+use Rattle.profile.specs.Fault.{Fault}
 use Rattle.address_map.specs.Bytes.{Bytes, byte_stored, in_range, ok_unless_fault, with_byte_at, with_word, with_word_at, word_loaded, word_start, word_stored}
 use Rattle.arm_decode.specs.Decoded.{instruction_of_word}
 use Rattle.arm_decode.specs.Fields.{condition_in}

@@ -4,7 +4,7 @@ use Rattle.profile.specs.MemoryMap.{heap_name}
 use Rattle.std.proofs.Common.{ℕ, ◌≡◌, ◌+◌, ◌-◌, ◌∙◌, true, List, [], ◌∷◌, Some, Result, Ok, Err, refl, sym, ap, subst, inl, inr}
 use Rattle.std.proofs.lemmas.Bool.{cases_Bool}
 use Rattle.profile.specs.Outcome.{bind}
-use Rattle.profile.specs.declared.error.ErrorNumber.{ErrorNumber}
+use Rattle.profile.specs.ErrorNumber.{ErrorNumber}
 use Rattle.address_map.specs.Bytes.{in_range, with_word_at}
 use Rattle.address_map.specs.Items.{size_of}
 use Rattle.address_map.specs.declared.item.Item.{Item}

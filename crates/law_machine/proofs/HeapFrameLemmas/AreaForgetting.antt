@@ -4,7 +4,7 @@ use Rattle.std.proofs.Common.{ℕ, ◌≡◌, ◌+◌, ◌-◌, ◌*◌, ◌==�
 use Rattle.std.specs.Prelude.{nat_le, nat_lt}
 use Rattle.std.proofs.lemmas.Bool.{both_ways, cases_Bool, eqb-true, false≢true}
 use Rattle.profile.specs.Outcome.{bind}
-use Rattle.profile.specs.declared.error.ErrorNumber.{ErrorNumber}
+use Rattle.profile.specs.ErrorNumber.{ErrorNumber}
 use Rattle.profile.specs.declared.reason.HeapReason.TheVariants as reason
 use Rattle.address_map.specs.Bytes.{with_bytes, with_moved}
 use Rattle.address_map.specs.Items.{size_of}

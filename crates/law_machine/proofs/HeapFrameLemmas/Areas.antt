@@ -5,7 +5,7 @@ use Rattle.std.proofs.Math.Nat.{min-le_right}
 use Rattle.std.proofs.lemmas.Bool.{both_ways, cases_Bool, eqb-false, eqb-true, false_from_ne_true, ltb-false, or_parts}
 use Rattle.std.specs.Prelude.{min, nat_lt, ok_or}
 use Rattle.profile.specs.Outcome.{bind}
-use Rattle.profile.specs.declared.error.ErrorNumber.TheVariants.{AreaInUse, AreaUnknown}
+use Rattle.profile.specs.ErrorNumber.TheVariants.{AreaInUse, AreaUnknown}
 use Rattle.address_map.specs.Bytes.{in_range}
 use Rattle.os_heap_words.specs.lists.Heap.{HeapList}
 use Rattle.os_heap.proofs.Found.{found_start}

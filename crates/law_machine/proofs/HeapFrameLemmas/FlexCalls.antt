@@ -7,7 +7,7 @@ use Rattle.os_heap.proofs.Anchored.{header_outside}
 use Rattle.os_heap.proofs.Apart.{range_parts}
 use Rattle.os_heap.proofs.Found.{found_heap}
 use Rattle.os_heap.specs.Store.{Store, find_heap, is_in_flex_store}
-use Rattle.profile.specs.declared.error.ErrorNumber.{ErrorNumber}
+use Rattle.profile.specs.ErrorNumber.{ErrorNumber}
 use Rattle.flex_store.specs.Blocks.{FlexStore}
 use Rattle.flex_store.specs.Calls.{FlexState, flex_after_init, flex_after_init_over, is_flex_range, with_flex_range}
 use Rattle.flex_store.specs.declared.flex.Extent.{Extent}

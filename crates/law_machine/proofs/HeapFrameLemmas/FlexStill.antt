@@ -6,7 +6,7 @@ use Rattle.std.proofs.lemmas.Bool.{and_parts, cases_Bool, le-leb, leb-true, ltb-
 use Rattle.address_map.specs.Bytes.{Bytes, word_start}
 use Rattle.address_map.specs.Records.{anchor_among}
 use Rattle.os_heap.specs.Store.{Store}
-use Rattle.profile.specs.declared.error.ErrorNumber.{ErrorNumber}
+use Rattle.profile.specs.ErrorNumber.{ErrorNumber}
 use Rattle.law_machine.specs.sliding_stores.Ground.{anchors_in}
 use Rattle.flex_store.proofs.Filled.{new_filled}
 use Rattle.flex_store.proofs.Following.{has_following}

@@ -4,8 +4,8 @@ use Rattle.std.proofs.Common.{if◌then◌else◌, Bool, List, ℕ, ◌≡◌, �
 use Rattle.std.proofs.lemmas.Bool.{cases_Bool, leb-false}
 use Rattle.std.specs.Prelude.{nat_le}
 use Rattle.profile.specs.Outcome.{bind}
-use Rattle.profile.specs.declared.error.ErrorNumber.{ErrorNumber}
-use Rattle.profile.specs.declared.error.ErrorNumber.TheVariants.{BlockHoldsHeap, HeapHoldsAnchor, HeapBadDesc, HeapNotABlock, HeapNoRoom}
+use Rattle.profile.specs.ErrorNumber.{ErrorNumber}
+use Rattle.profile.specs.ErrorNumber.TheVariants.{BlockHoldsHeap, HeapHoldsAnchor, HeapBadDesc, HeapNotABlock, HeapNoRoom}
 use Rattle.address_map.specs.Bytes.{in_range}
 use Rattle.address_map.specs.Records.{anchor_among}
 use Rattle.address_map.specs.Items.{is_total, size_of}

@@ -2,7 +2,7 @@
 use Rattle.profile.specs.MemoryMap.{environment_text_start, module_area_start, system_start}
 use Rattle.std.proofs.Common.{ℕ, ◌+◌, ◌*◌, ◌≡◌, ◌≤◌, ◌<◌, ◌++◌, false, List, [], ◌∷◌, length, Result, Ok, Err, refl, inl, inr, arith, length-append}
 use Rattle.std.proofs.lemmas.Bool.{both_ways, cases_Bool, false_from_ne_true, le-leb, lt-ltb, ne_eqb}
-use Rattle.profile.specs.declared.error.ErrorNumber.{ErrorNumber}
+use Rattle.profile.specs.ErrorNumber.{ErrorNumber}
 use Rattle.address_map.proofs.Stores.{in_range-cases}
 use Rattle.address_map.specs.Bytes.{Bytes, in_range, with_bytes_at, with_word_at}
 use Rattle.os_heap.proofs.Apart.{range_parts}

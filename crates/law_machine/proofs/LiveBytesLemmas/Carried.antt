@@ -2,7 +2,7 @@
 -- module code comes back, where nothing slides.
 use Rattle.std.proofs.Common.{ℕ, ◌≡◌, Bool, true, false, List, [], ◌∷◌, Option, Some, None, Result, Ok, Err}
 use Rattle.std.proofs.lemmas.Bool.{true≢false}
-use Rattle.profile.specs.declared.error.ErrorNumber.{ErrorNumber}
+use Rattle.profile.specs.ErrorNumber.{ErrorNumber}
 use Rattle.instances.specs.Reading.{start_found}
 use Rattle.instances.specs.declared.answers.Start.{Start}
 use Rattle.instances.specs.module_state.ModuleState.{ModuleState}

@@ -2,7 +2,7 @@
 use Rattle.std.proofs.Common.{ℕ, Bool, true, false, ◌≡◌, ◌⊎◌, Option, Some, None, Result, Ok, Err, refl, ap, inl, inr}
 use Rattle.std.proofs.lemmas.Bool.{cases_Bool}
 use Rattle.profile.specs.Outcome.{bind}
-use Rattle.profile.specs.declared.error.ErrorNumber.{ErrorNumber}
+use Rattle.profile.specs.ErrorNumber.{ErrorNumber}
 use Rattle.address_map.specs.Bytes.{Bytes}
 use Rattle.os_heap.specs.Store.{Store, is_in_flex_store}
 use Rattle.swi_dispatch_guest.specs.Ground.{flex_state, spelled_store, store_flexed, with_flex_record}

@@ -2,7 +2,7 @@
 -- on.
 use Rattle.std.proofs.Common.{ℕ, ◌≤◌, ◌==◌, Bool, true, false, length, Option, Some, None, sym, subst}
 use Rattle.std.specs.Prelude.{IfSome, if◌then◌else◌}
-use Rattle.profile.specs.declared.fault.Fault.TheVariants.{StackChanged}
+use Rattle.profile.specs.Fault.TheVariants.{StackChanged}
 use Rattle.arm_core.specs.State.{register_in}
 use Rattle.arm_core.specs.declared.psr.Mode.TheVariants.{Supervisor}
 use Rattle.os_heap.specs.Store.{Store}

@@ -5,8 +5,8 @@ use Rattle.std.specs.Prelude.{IfOk, ok_or}
 use Rattle.std.proofs.lemmas.Bool.{true≢false}
 use Rattle.profile.specs.Outcome.{bind}
 use Rattle.profile.specs.Reasons.{module_reason}
-use Rattle.profile.specs.declared.error.ErrorNumber.{ErrorNumber}
-use Rattle.profile.specs.declared.error.ErrorNumber.TheVariants.{BadString}
+use Rattle.profile.specs.ErrorNumber.{ErrorNumber}
+use Rattle.profile.specs.ErrorNumber.TheVariants.{BadString}
 use Rattle.profile.specs.declared.reason.ModuleReason.{ModuleReason}
 use Rattle.profile.specs.declared.reason.ModuleReason.TheVariants as reason
 use Rattle.arm_core.specs.State.{State, register_of, with_register}

@@ -5,8 +5,8 @@ use Rattle.std.specs.Prelude.{nat_le, ok_or}
 use Rattle.std.proofs.lemmas.Bool.{cases_Bool}
 use Rattle.std.proofs.lemmas.Bool.Decides.{nat_tests}
 use Rattle.profile.specs.Outcome.{bind}
-use Rattle.profile.specs.declared.error.ErrorNumber.TheVariants.{BadString}
-use Rattle.profile.specs.declared.fault.Fault.{Fault}
+use Rattle.profile.specs.ErrorNumber.TheVariants.{BadString}
+use Rattle.profile.specs.Fault.{Fault}
 use Rattle.address_map.specs.Items.{is_heap_word}
 use Rattle.address_map.specs.Bytes.{Bytes, in_range, word_start, word_stored}
 use Rattle.os_heap.specs.Store.{Store, is_flex_word, owned_in}

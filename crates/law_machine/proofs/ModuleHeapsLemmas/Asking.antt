@@ -1,7 +1,7 @@
 -- What both kinds of laws need of a machine with a guest's heap.
 use Rattle.profile.specs.MemoryMap.{module_area_start}
 use Rattle.std.proofs.Common.{ℕ, ◌≡◌, ◌≢◌, Bool, true, false, List, Option, Some, None, Result, Ok, Err, refl, sym, ◌∙◌, inl, inr}
-use Rattle.profile.specs.declared.error.ErrorNumber.{ErrorNumber}
+use Rattle.profile.specs.ErrorNumber.{ErrorNumber}
 use Rattle.os_heap_words.specs.lists.Heap.{HeapList}
 use Rattle.os_heap.specs.Store.{Store}
 use Rattle.instances.specs.Reading.{start_found}

@@ -3,7 +3,7 @@ use Rattle.std.proofs.Common.{ℕ, ◌≡◌, ◌≢◌, ◌∙◌, not, Bool, L
 use Rattle.std.specs.Prelude.{IfOk}
 use Rattle.profile.specs.MemoryMap.{module_area_start}
 use Rattle.profile.specs.Outcome.{bind}
-use Rattle.profile.specs.declared.error.ErrorNumber.{ErrorNumber}
+use Rattle.profile.specs.ErrorNumber.{ErrorNumber}
 use Rattle.address_map.specs.Bytes.{bytes_between}
 use Rattle.profile.specs.images.Entries.{Entry}
 use Rattle.profile.specs.images.module_header.Header.{header_of}

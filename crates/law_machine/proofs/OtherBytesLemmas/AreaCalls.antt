@@ -3,7 +3,7 @@ use Rattle.profile.specs.MemoryMap.{module_area_start}
 use Rattle.std.proofs.Common.{ℕ, ◌≡◌, ◌+◌, ◌*◌, ◌≤◌, ◌<◌, ◌∙◌, ◌⊎◌, true, false, List, length, Some, Result, Ok, Err, refl, sym, ap, subst, inl, inr, arith}
 use Rattle.std.proofs.lemmas.Bool.{cases_Bool, le-leb, lt-ltb, or_left}
 use Rattle.profile.specs.Outcome.{bind}
-use Rattle.profile.specs.declared.error.ErrorNumber.{ErrorNumber}
+use Rattle.profile.specs.ErrorNumber.{ErrorNumber}
 use Rattle.address_map.specs.Bytes.{Bytes, in_range, with_bytes, with_moved, word_start}
 use Rattle.address_map.specs.Items.{is_head, is_heap_word}
 use Rattle.os_heap_words.specs.lists.Heap.{HeapList}

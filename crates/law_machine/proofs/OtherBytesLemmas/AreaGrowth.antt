@@ -3,7 +3,7 @@ use Rattle.profile.specs.MemoryMap.{heap_name, module_area_start}
 use Rattle.std.proofs.Common.{ℕ, ◌≡◌, ◌+◌, ◌-◌, ◌*◌, ◌∙◌, false, Option, Some, None, Result, Ok, Err, refl, sym, subst, inl, inr}
 use Rattle.std.specs.Prelude.{nat_le, nat_lt}
 use Rattle.std.proofs.lemmas.Bool.{cases_Bool}
-use Rattle.profile.specs.declared.error.ErrorNumber.{ErrorNumber}
+use Rattle.profile.specs.ErrorNumber.{ErrorNumber}
 use Rattle.address_map.specs.Bytes.{in_range, with_word_at}
 use Rattle.address_map.specs.Items.{size_of}
 use Rattle.os_heap_words.proofs.ListsLemmas.HeapWords.{part_back}

@@ -1,7 +1,7 @@
 -- What a flex call writes that a machine makes.
 use Rattle.std.proofs.Common.{ℕ, ◌≡◌, ◌⊎◌, Bool, true, Option, Some, Result, Ok, Err, refl, ap, subst, inl, inr}
 use Rattle.profile.specs.Outcome.{bind}
-use Rattle.profile.specs.declared.error.ErrorNumber.{ErrorNumber}
+use Rattle.profile.specs.ErrorNumber.{ErrorNumber}
 use Rattle.profile.specs.declared.swi.SwiName.TheVariants as swi
 use Rattle.arm_core.specs.State.{register_of}
 use Rattle.os_heap.specs.Store.{Store}

@@ -1,7 +1,7 @@
 -- What a step writes in which module code comes back.
 use Rattle.std.proofs.Common.{ℕ, ◌≡◌, ◌≤◌, ◌==◌, ◌⊎◌, Bool, true, false, length, Option, Some, None, refl, sym, subst, inl}
 use Rattle.std.specs.Prelude.{IfSome, if◌then◌else◌}
-use Rattle.profile.specs.declared.fault.Fault.TheVariants.{StackChanged}
+use Rattle.profile.specs.Fault.TheVariants.{StackChanged}
 use Rattle.arm_core.specs.State.{register_in}
 use Rattle.arm_core.specs.declared.psr.Mode.TheVariants.{Supervisor}
 use Rattle.os_heap.specs.Store.{Store}

@@ -3,7 +3,7 @@ use Rattle.std.proofs.Common.{ℕ, ◌≡◌, ◌+◌, ◌%◌, ◌^◌, ◌∙�
 use Rattle.std.specs.Prelude.{ok_or}
 use Rattle.profile.specs.Outcome.{bind}
 use Rattle.profile.specs.Word.{bit_of}
-use Rattle.profile.specs.declared.error.ErrorNumber.TheVariants.{BadString}
+use Rattle.profile.specs.ErrorNumber.TheVariants.{BadString}
 use Rattle.address_map.specs.Bytes.{Bytes}
 use Rattle.arm_core.specs.State.{State}
 use Rattle.arm_core.specs.declared.turn.StepEnd.{StepEnd}

@@ -3,8 +3,8 @@ use Rattle.profile.specs.MemoryMap.{error_block_start}
 use Rattle.std.proofs.Common.{ℕ, ◌≡◌, ◌*◌, ◌∙◌, ◌⊎◌, codes, Bool, true, false, length, List, Option, Some, None, Result, Ok, Err, refl, inl, inr}
 use Rattle.profile.specs.Outcome.{bind}
 use Rattle.profile.specs.Reasons.{area_reason}
-use Rattle.profile.specs.declared.error.ErrorNumber.{ErrorNumber}
-use Rattle.profile.specs.declared.error.ErrorNumber.TheVariants.{BadString}
+use Rattle.profile.specs.ErrorNumber.{ErrorNumber}
+use Rattle.profile.specs.ErrorNumber.TheVariants.{BadString}
 use Rattle.profile.specs.declared.reason.AreaReason.{AreaReason}
 use Rattle.profile.specs.declared.reason.AreaReason.TheVariants as area
 use Rattle.arm_core.specs.State.{State, register_of}

@@ -1,7 +1,7 @@
 -- What a call on modules writes that is carried on, and what those write at once that add a module.
 use Rattle.std.proofs.Common.{ℕ, ◌≡◌, ◌∙◌, ◌⊎◌, not, Bool, true, false, List, [], ◌∷◌, length, Option, Some, None, Result, Ok, Err, refl, subst, inl, inr}
 use Rattle.std.specs.Prelude.{IfOk}
-use Rattle.profile.specs.declared.error.ErrorNumber.{ErrorNumber}
+use Rattle.profile.specs.ErrorNumber.{ErrorNumber}
 use Rattle.address_map.specs.Bytes.{bytes_between, in_range}
 use Rattle.profile.specs.images.Entries.{Entry}
 use Rattle.dynamic_areas.specs.Ground.{AreaStore, IsAreaStore}

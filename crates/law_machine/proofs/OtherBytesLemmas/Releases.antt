@@ -3,7 +3,7 @@
 use Rattle.profile.specs.MemoryMap.{environment_text_start, module_area_start}
 use Rattle.std.proofs.Common.{ℕ, ◌≡◌, ◌+◌, ◌*◌, ◌++◌, ◌∙◌, ◌⊎◌, false, List, [], ◌∷◌, length, Result, Ok, Err, refl, sym, subst, inl, inr, length-append}
 use Rattle.std.proofs.lemmas.Bool.{cases_Bool}
-use Rattle.profile.specs.declared.error.ErrorNumber.{ErrorNumber}
+use Rattle.profile.specs.ErrorNumber.{ErrorNumber}
 use Rattle.address_map.specs.Bytes.{in_range, with_word_at}
 use Rattle.os_heap.specs.Calls.{gave_back}
 use Rattle.os_heap.specs.Store.{Store}

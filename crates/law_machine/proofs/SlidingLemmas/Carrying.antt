@@ -1,7 +1,7 @@
 -- A call on modules that is carried on: what it leaves of the machine beside what its actions do to
 -- the module state.
 use Rattle.std.proofs.Common.{ℕ, Bool, true, false, ◌≡◌, ◌≤◌, List, Option, Some, None, Result, Ok, Err, length, refl}
-use Rattle.profile.specs.declared.error.ErrorNumber.{ErrorNumber}
+use Rattle.profile.specs.ErrorNumber.{ErrorNumber}
 use Rattle.instances_table.specs.declared.plans.code.Code.{Code}
 use Rattle.instances_table.specs.declared.plans.given.Given.{Given}
 use Rattle.instances_table.specs.plans.Carrying.{Carried}

@@ -5,7 +5,7 @@ use Rattle.std.specs.Prelude.{if◌then◌else◌, ok_or}
 use Rattle.std.proofs.lemmas.Bool.{cases_Bool}
 use Rattle.profile.specs.Outcome.{bind}
 use Rattle.profile.specs.SwiNames.{swi_of}
-use Rattle.profile.specs.declared.error.ErrorNumber.{ErrorNumber}
+use Rattle.profile.specs.ErrorNumber.{ErrorNumber}
 use Rattle.profile.specs.declared.reason.ModuleReason.{ModuleReason}
 use Rattle.profile.specs.declared.reason.ModuleReason.TheVariants as reason
 use Rattle.profile.specs.declared.swi.SwiName.{SwiName}
@@ -40,7 +40,7 @@ use Rattle.profile.specs.images.module_header.Header.{header_of}
 use Rattle.rma.specs.Copies.{may_be_copied}
 use Rattle.rma.specs.NewImages.{may_be_in_place}
 use Rattle.profile.specs.Word.{bit_of}
-use Rattle.profile.specs.declared.error.ErrorNumber.TheVariants.{BadPointer, BadString, FrameLimit, ImageUnknown, SwiUnknown}
+use Rattle.profile.specs.ErrorNumber.TheVariants.{BadPointer, BadString, FrameLimit, ImageUnknown, SwiUnknown}
 use Rattle.swi_dispatch_guest.specs.Opening.{Opening}
 use Rattle.swi_dispatch_guest.specs.declared.halt.Halt.{Halt}
 use Rattle.swi_dispatch_guest.specs.declared.halt.Halt.TheVariants as halt

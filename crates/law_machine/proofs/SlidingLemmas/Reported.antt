@@ -1,7 +1,7 @@
 -- Flex calls show in R0 whether the store had room.
 use Rattle.std.proofs.Common.{ℕ, Bool, true, false, ◌≡◌, ◌∙◌, Some, Result, Ok, Err, length, ap}
 use Rattle.std.proofs.lemmas.Bool.{false≢true}
-use Rattle.profile.specs.declared.error.ErrorNumber.{ErrorNumber}
+use Rattle.profile.specs.ErrorNumber.{ErrorNumber}
 use Rattle.arm_core.specs.State.{register_of, with_register}
 use Rattle.os_heap.specs.Store.{Store}
 use Rattle.swi_dispatch_guest.specs.Ground.{flex_state}

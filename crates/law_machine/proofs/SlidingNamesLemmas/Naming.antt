@@ -1,6 +1,6 @@
 -- Turns of a store by the names of its flex blocks.
 use Rattle.std.proofs.Common.{ℕ, Bool, true, false, ◌≡◌, ◌∙◌, List, [], ◌∷◌, Option, Some, None, Result, Ok, Err, refl, sym, ap, subst}
-use Rattle.profile.specs.declared.error.ErrorNumber.{ErrorNumber}
+use Rattle.profile.specs.ErrorNumber.{ErrorNumber}
 use Rattle.swi_dispatch_guest.specs.Ground.{spelled_store}
 use Rattle.law_machine.specs.flex.Laws.{IsOfWords, anchor_of_call}
 use Rattle.law_machine.specs.flex.Numbered.{Anchor, SeenBlock, blocks_seen, anchor_place_of}

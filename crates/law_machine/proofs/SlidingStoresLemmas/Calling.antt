@@ -3,7 +3,7 @@ use Rattle.std.proofs.Common.{ℕ, Bool, true, false, nat_eq, ◌%◌, is_some, 
 use Rattle.std.specs.Prelude.{if◌then◌else◌}
 use Rattle.std.proofs.lemmas.Bool.{cases_Bool, eqb-false, eqb-true, false≢true}
 use Rattle.profile.specs.Outcome.{bind}
-use Rattle.profile.specs.declared.error.ErrorNumber.{ErrorNumber}
+use Rattle.profile.specs.ErrorNumber.{ErrorNumber}
 use Rattle.os_heap.specs.Store.{IsSound, Store, is_in_flex_store}
 use Rattle.dynamic_areas.specs.Ground.{AreaStore, IsAreaStore}
 use Rattle.swi_dispatch_guest.specs.Ground.{flex_of, flex_state, records_with, spelled_store, store_flexed}

@@ -2,7 +2,7 @@
 -- sheet, "Single data transfer" and "Block data transfer").
 use Rattle.profile.specs.MemoryMap.{return_gate}
 use Rattle.std.specs.Prelude.{ℕ, Bool, true, false, not, ◌&&◌, ◌*◌, ◌==◌, Result, Ok, Err, ◌≡◌}
-use Rattle.profile.specs.declared.fault.Fault.{Fault}
+use Rattle.profile.specs.Fault.{Fault}
 use Rattle.address_map.specs.Bytes.{Bytes, in_range, word_loaded, word_start}
 use Rattle.arm_decode.specs.Decoded.{instruction_of_word}
 use Rattle.arm_decode.specs.Fields.{condition_in}

@@ -4,7 +4,7 @@
 -- a block, are this project's own).
 use Rattle.std.specs.Prelude.{ℕ, ◌≡◌, ◌≤◌, ◌<◌, ◌↔◌, ◌+◌, ◌-◌, ◌%◌, true, false, Some, Err}
 use Rattle.std.specs.List.{list_any}
-use Rattle.profile.specs.declared.error.ErrorNumber.TheVariants.{HeapOverlaps}
+use Rattle.profile.specs.ErrorNumber.TheVariants.{HeapOverlaps}
 use Rattle.profile.specs.declared.reason.HeapReason.TheVariants as reason
 use Rattle.address_map.specs.Bytes.{shares_address}
 use Rattle.address_map.specs.Records.{anchor_among}

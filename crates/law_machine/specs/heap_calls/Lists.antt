@@ -1,7 +1,7 @@
 -- Calls of OS_Heap one after another, on any heaps of a store: what they leave, and what those on
 -- one heap are given and answer.
 use Rattle.std.specs.Prelude.{ℕ, ◌==◌, ◌&&◌, Bool, true, false, Option, Some, None, Result, Ok, Err, List, [], ◌∷◌, ◌++◌, if◌then◌else◌}
-use Rattle.profile.specs.declared.error.ErrorNumber.{ErrorNumber}
+use Rattle.profile.specs.ErrorNumber.{ErrorNumber}
 use Rattle.profile.specs.declared.reason.HeapReason.{HeapReason}
 use Rattle.profile.specs.declared.reason.HeapReason.TheVariants as reason
 use Rattle.os_heap_words.specs.lists.Heap.{HeapList}

@@ -8,7 +8,7 @@ use Rattle.profile.specs.ErrorNames.{error_code, error_name}
 use Rattle.profile.specs.Outcome.{bind}
 use Rattle.profile.specs.Reasons.{module_reason}
 use Rattle.profile.specs.Sizes.{Sizes}
-use Rattle.profile.specs.declared.error.ErrorNumber.{ErrorNumber}
+use Rattle.profile.specs.ErrorNumber.{ErrorNumber}
 use Rattle.profile.specs.declared.reason.ModuleReason.{ModuleReason}
 use Rattle.profile.specs.declared.reason.ModuleReason.TheVariants as reason
 use Rattle.profile.specs.declared.swi.SwiName.{SwiName}

@@ -2,7 +2,7 @@
 -- which no address in the store stands (Acorn C manual, "flex"; RISC OS 3 Programmer's Reference
 -- Manual, "OS_Module", reason 8).
 use Rattle.std.specs.Prelude.{◌≡◌, Bool, true, false, List, [], ◌∷◌, Some, Result, Ok, Err}
-use Rattle.profile.specs.declared.error.ErrorNumber.{ErrorNumber}
+use Rattle.profile.specs.ErrorNumber.{ErrorNumber}
 use Rattle.flex_store.specs.Runs.{FlexCall}
 use Rattle.law_machine.specs.flex.Numbered.{Anchor, SeenBlock}
 use Rattle.law_machine.specs.flex_names.Laws.{IsCalledNamed}

@@ -3,7 +3,7 @@
 -- Manual, "OS_Module", reason 8).
 use Rattle.std.specs.Prelude.{ℕ, zero, suc, ◌+◌, ◌≡◌, ◌⊎◌, Bool, true, false, List, [], ◌∷◌, Option, Some, None, Result, Ok, Err, if◌then◌else◌}
 use Rattle.address_map.specs.Bytes.{in_range}
-use Rattle.profile.specs.declared.error.ErrorNumber.{ErrorNumber}
+use Rattle.profile.specs.ErrorNumber.{ErrorNumber}
 use Rattle.flex_store.specs.Runs.{Alloc, Extend, FlexCall, MidExtend, Release}
 use Rattle.law_machine.specs.flex.Numbered.{Anchor, IsCalledSeen}
 use Rattle.law_machine.specs.flex.Padding.{IsCalledPadding}

@@ -2,7 +2,7 @@
 -- it (Acorn C manual, "flex"; RISC OS 3 Programmer's Reference Manual, "OS_Module", reason 8).
 use Rattle.std.specs.Prelude.{ℕ, ◌≡◌, Bool, true, List, [], ◌∷◌, Option, None, Some, Result, Ok, Err}
 use Rattle.profile.specs.Outcome.{bind}
-use Rattle.profile.specs.declared.error.ErrorNumber.{ErrorNumber}
+use Rattle.profile.specs.ErrorNumber.{ErrorNumber}
 use Rattle.os_heap.specs.Store.{Store}
 use Rattle.swi_dispatch_guest.specs.Ground.{flex_of, flex_state, store_flexed, with_flex_record}
 use Rattle.law_machine.specs.flex.Laws.{IsOfWords, anchor_of_call}

@@ -3,7 +3,7 @@
 use Rattle.profile.specs.MemoryMap.{module_area_start, system_start}
 use Rattle.std.specs.Prelude.{ℕ, ◌≡◌, ◌+◌, ◌-◌, ◌*◌, false, Some, Result, Ok, List, [], ◌∷◌, ◌++◌}
 use Rattle.profile.specs.Outcome.{Gives}
-use Rattle.profile.specs.declared.error.ErrorNumber.{ErrorNumber}
+use Rattle.profile.specs.ErrorNumber.{ErrorNumber}
 use Rattle.dynamic_areas.specs.Bytes.{Bytes, in_range}
 use Rattle.dynamic_areas.specs.Records.{anchor_among, without_region}
 use Rattle.dynamic_areas.specs.BlockMove.{BlockMove}

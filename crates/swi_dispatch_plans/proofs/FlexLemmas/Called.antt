@@ -2,7 +2,7 @@
 -- says.
 use Rattle.std.proofs.Common.{◌≡◌, Result, Ok, Err, refl, subst}
 use Rattle.profile.specs.Outcome.{Gives}
-use Rattle.profile.specs.declared.error.ErrorNumber.{ErrorNumber}
+use Rattle.profile.specs.ErrorNumber.{ErrorNumber}
 use Rattle.os_heap.specs.AddressMap.{AddressMap}
 use Rattle.swi_dispatch_plans.proofs.FlexFrameLemmas.Calls.{flex_left, flex_stays_so, state_is}
 use Rattle.swi_dispatch_plans.specs.flex_frame.CallLaws.{IsLeft}

@@ -3,7 +3,7 @@ use Rattle.std.proofs.Common.{◌≡◌, ℕ, true, Option, Some, None, Result, 
 use Rattle.std.specs.Prelude.{MatchResult, is_some}
 use Rattle.std.proofs.lemmas.Bool.{cases_Bool}
 use Rattle.profile.specs.Outcome.{Gives}
-use Rattle.profile.specs.declared.error.ErrorNumber.{ErrorNumber}
+use Rattle.profile.specs.ErrorNumber.{ErrorNumber}
 use Rattle.os_heap.specs.Memory.{regions}
 use Rattle.os_heap.specs.AddressMap.{AddressMap}
 use Rattle.swi_dispatch_plans.proofs.FlexFrameLemmas.Calls.{ok_is, state_is}

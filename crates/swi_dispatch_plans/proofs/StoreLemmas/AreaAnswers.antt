@@ -1,6 +1,6 @@
 -- OS_ChangeDynamicArea where no area has the number.
 use Rattle.std.proofs.Common.{◌≡◌, ℕ, Option, Some, None, Err, List, refl}
-use Rattle.profile.specs.declared.error.ErrorNumber.{ErrorNumber}
+use Rattle.profile.specs.ErrorNumber.{ErrorNumber}
 use Rattle.os_heap.specs.Store.{Store}
 use Rattle.instances.specs.Area.{Area}
 use Rattle.instances.specs.Areas.{area_in, find_area}

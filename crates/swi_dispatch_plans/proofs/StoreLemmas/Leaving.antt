@@ -1,7 +1,7 @@
 -- What calls on heaps leave, by what `os_heap` says of them, and what leaves the memory alone.
 use Rattle.std.proofs.Common.{ℕ, Result, refl}
 use Rattle.profile.specs.Outcome.{Gives}
-use Rattle.profile.specs.declared.error.ErrorNumber.{ErrorNumber}
+use Rattle.profile.specs.ErrorNumber.{ErrorNumber}
 use Rattle.os_heap.specs.AddressMap.{AddressMap}
 use Rattle.os_heap.specs.Calls.{store_after_init, store_after_change, gave_back, store_after_resize}
 use Rattle.os_heap.specs.Sound.{KeepsLayout, KeepsOtherRanges, KeepsRangesInOrder, KeepsRest}

@@ -4,8 +4,8 @@
 -- numbers, registers and refusals are this project's own).
 use Rattle.std.specs.Prelude.{ℕ, Bool, true, false, Option, Some, Result, Ok}
 use Rattle.profile.specs.Outcome.{bind}
-use Rattle.profile.specs.declared.error.ErrorNumber.{ErrorNumber}
-use Rattle.profile.specs.declared.error.ErrorNumber.TheVariants.{SwiUnknown}
+use Rattle.profile.specs.ErrorNumber.{ErrorNumber}
+use Rattle.profile.specs.ErrorNumber.TheVariants.{SwiUnknown}
 use Rattle.profile.specs.declared.swi.SwiName.{SwiName}
 use Rattle.profile.specs.declared.swi.SwiName.TheVariants as swi
 use Rattle.os_heap.specs.AddressMap.{AddressMap}

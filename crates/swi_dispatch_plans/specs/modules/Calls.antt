@@ -3,7 +3,7 @@
 -- unknown here.
 use Rattle.std.specs.Prelude.{Option, Some, Result}
 use Rattle.profile.specs.Reasons.{module_reason}
-use Rattle.profile.specs.declared.error.ErrorNumber.TheVariants.{ModuleBadReason}
+use Rattle.profile.specs.ErrorNumber.TheVariants.{ModuleBadReason}
 use Rattle.profile.specs.declared.reason.ModuleReason.{ModuleReason}
 use Rattle.profile.specs.declared.reason.ModuleReason.TheVariants as reason
 use Rattle.swi_dispatch_answers.specs.State.{State, register_of}

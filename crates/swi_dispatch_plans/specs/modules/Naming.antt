@@ -3,7 +3,7 @@
 -- whole string.
 use Rattle.std.specs.Prelude.{Result, Ok, List, ℕ}
 use Rattle.profile.specs.Outcome.{bind}
-use Rattle.profile.specs.declared.error.ErrorNumber.{ErrorNumber}
+use Rattle.profile.specs.ErrorNumber.{ErrorNumber}
 use Rattle.swi_dispatch_answers.specs.State.{State, register_of, with_register}
 use Rattle.swi_dispatch_answers.specs.declared.refusal.Refusal.{Refusal}
 use Rattle.swi_dispatch_answers.specs.Refusals.{or_error}

@@ -4,7 +4,7 @@
 use Rattle.std.specs.Prelude.{ℕ, ◌*◌, Option, Some, None, Result, Ok, List, codes}
 use Rattle.profile.specs.Outcome.{bind}
 use Rattle.profile.specs.Reasons.{area_reason}
-use Rattle.profile.specs.declared.error.ErrorNumber.TheVariants.{AreaBadReason, BadString}
+use Rattle.profile.specs.ErrorNumber.TheVariants.{AreaBadReason, BadString}
 use Rattle.profile.specs.declared.reason.AreaReason.{AreaReason}
 use Rattle.profile.specs.declared.reason.AreaReason.TheVariants as reason
 use Rattle.swi_dispatch_answers.specs.State.{State, register_of, with_register}

@@ -3,7 +3,7 @@
 use Rattle.std.specs.Prelude.{Option, Some, None, Result, Ok}
 use Rattle.profile.specs.Outcome.{bind}
 use Rattle.profile.specs.Reasons.{heap_reason}
-use Rattle.profile.specs.declared.error.ErrorNumber.TheVariants.{HeapBadReason}
+use Rattle.profile.specs.ErrorNumber.TheVariants.{HeapBadReason}
 use Rattle.profile.specs.declared.reason.HeapReason.{HeapReason}
 use Rattle.profile.specs.declared.reason.HeapReason.TheVariants as reason
 use Rattle.swi_dispatch_answers.specs.State.{State, register_of, with_register}

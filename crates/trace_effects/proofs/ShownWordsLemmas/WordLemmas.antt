@@ -2,8 +2,8 @@
 use Rattle.std.proofs.Common.{◌≡◌, ℕ, ◌+◌, ◌*◌, ◌%◌, ◌^◌, ◌<◌, ◌≤◌, Bool, true, false, nat_le, List, slice_index, Option, Some, None, is_some, Ok, Err, refl, sym, ap, ◌∙◌, arith, cond, inl, inr}
 use Rattle.std.proofs.lemmas.Bool.{cases_Bool}
 use Rattle.std.proofs.lemmas.Bool.Decides.{nat_tests}
-use Rattle.profile.specs.declared.fault.Fault.{Fault}
-use Rattle.profile.specs.declared.fault.Fault.TheVariants.{AddressException, DataUnmapped}
+use Rattle.profile.specs.Fault.{Fault}
+use Rattle.profile.specs.Fault.TheVariants.{AddressException, DataUnmapped}
 use Rattle.arm_step.specs.Bytes.{Bytes, load_fault, ok_unless_fault, word_at, word_loaded, word_start}
 use Rattle.arm_step.specs.Lent.{IsLent}
 use Rattle.arm_step.specs.Memory.{byte_at, bytes_of, is_mapped}

@@ -2,7 +2,7 @@
 -- its old one. One is shown on the instruction's line, more each on a line below.
 use Rattle.std.specs.Prelude.{ℕ, zero, suc, ◌==◌, List, [], ◌∷◌, ◌++◌, codes, length, slice_index, Result, Ok, Err, if◌then◌else◌}
 use Rattle.profile.specs.Digits.{hex_word}
-use Rattle.profile.specs.declared.fault.Fault.{Fault}
+use Rattle.profile.specs.Fault.{Fault}
 use Rattle.arm_step.specs.Bytes.{Bytes, word_loaded}
 use Rattle.profile.specs.Sums.{address_further}
 

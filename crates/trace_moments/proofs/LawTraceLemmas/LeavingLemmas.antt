@@ -6,8 +6,8 @@ use Rattle.profile.specs.ErrorNames.{error_code, error_name}
 use Rattle.profile.specs.Outcome.{bind}
 use Rattle.profile.specs.Reasons.{area_reason, heap_reason, module_reason}
 use Rattle.profile.specs.SwiNames.{swi_of}
-use Rattle.profile.specs.declared.error.ErrorNumber.{ErrorNumber}
-use Rattle.profile.specs.declared.error.ErrorNumber.TheVariants.{FrameLimit, SwiUnknown}
+use Rattle.profile.specs.ErrorNumber.{ErrorNumber}
+use Rattle.profile.specs.ErrorNumber.TheVariants.{FrameLimit, SwiUnknown}
 use Rattle.profile.specs.declared.reason.AreaReason.{AreaReason}
 use Rattle.profile.specs.declared.reason.AreaReason.TheVariants as area
 use Rattle.profile.specs.declared.reason.HeapReason.{HeapReason}

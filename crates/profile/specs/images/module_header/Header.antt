@@ -4,7 +4,7 @@
 -- of a fixed order. A start word that is no entry counts as none.
 use Rattle.std.specs.Prelude.{ℕ, List, length, Result, Ok, Err, nat_lt, if◌then◌else◌, unwrap_or}
 use Rattle.std.specs.Option.{ok_or}
-use Rattle.profile.specs.Outcome.{bind}
+use Rattle.raw_store.specs.Outcome.{bind}
 use Rattle.profile.specs.declared.images.module_header.fault.HeaderFault.{HeaderFault}
 use Rattle.profile.specs.declared.images.module_header.fault.HeaderFault.TheVariants.{Short, Initialise, Finalise, Title}
 use Rattle.profile.specs.declared.images.module_header.header.Header.{Header}

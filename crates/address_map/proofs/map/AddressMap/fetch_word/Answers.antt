@@ -1,5 +1,5 @@
 use Rattle.std.proofs.Common.{◌∙◌, arith, sym}
-use Rattle.raw_store.specs.Fault.TheVariants.{DataUnmapped}
+use Rattle.raw_store.specs.declared.fault.Fault.TheVariants.{DataUnmapped}
 use Rattle.address_map.specs.Bytes.{word_start}
 use Rattle.address_map.specs.Memory.{bytes_of}
 use Rattle.address_map.proofs.Loads.{fetch_clear, fetch_refused, place_fits_word, word_read, word_refused}

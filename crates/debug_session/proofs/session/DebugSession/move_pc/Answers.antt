@@ -6,7 +6,7 @@ use Rattle.debug_modules.specs.Halted.{halted_at_text, halting_fault}
 use Rattle.debug_tables.specs.run_meter.GuestState.{state_of}
 use Rattle.debug_tables.specs.run_meter.MachineState.{stop_of}
 use Rattle.debug_tables.specs.run_meter.Value.{MachineValue}
-use Rattle.profile.specs.declared.fault.Fault.{Fault}
+use Rattle.profile.specs.Fault.{Fault}
 use Rattle.debug_tables.specs.run_meter.Memory.{script_at}
 use Rattle.debug_modules.specs.PastDeed.TheVariants.{Place}
 use Rattle.debug_session.specs.DebugScript.{set_pc_by}

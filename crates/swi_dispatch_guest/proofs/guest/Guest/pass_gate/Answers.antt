@@ -1,7 +1,7 @@
 use Rattle.std.proofs.Common.{refl, sym, ap, ◌∙◌}
 use Rattle.arm_run.specs.State.{State}
 use Rattle.os_heap.specs.Store.{store_of}
-use Rattle.profile.specs.declared.fault.Fault.TheVariants.{ErrorStop}
+use Rattle.profile.specs.Fault.TheVariants.{ErrorStop}
 use Rattle.swi_dispatch_guest.specs.declared.halt.Halt.TheVariants as halt
 use Rattle.swi_dispatch_guest.specs.MachineState.{MachineState, Tables}
 use Rattle.swi_dispatch_guest.specs.Returns.{outcome_of_halt}

@@ -1,5 +1,5 @@
 use Rattle.std.proofs.Common.{◌≡◌, ◌+◌, ℕ, List, Option, Some, None, Result, Ok, Err, ap, refl, subst, ◌∙◌}
-use Rattle.profile.specs.declared.error.ErrorNumber.TheVariants.{BadString}
+use Rattle.profile.specs.ErrorNumber.TheVariants.{BadString}
 use Rattle.os_heap.specs.Memory.{bytes_of}
 use Rattle.arm_run.specs.State.{register_of}
 use Rattle.os_heap.specs.Store.{store_of}

@@ -1,7 +1,7 @@
 //! The errors of store calls: their numbers, and the texts that stand in a guest's error block.
 
 ghost use Rattle.std.specs.Prelude.{◌≡◌};
-ghost use Rattle.profile.specs.ErrorNames.{error_code, error_name};
+ghost use Rattle.raw_store.specs.ErrorNames.{error_code, error_name};
 
 /// An error of a store call, which the guest sees by its number and its text.
 ///

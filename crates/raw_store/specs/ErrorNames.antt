@@ -1,7 +1,7 @@
 -- The errors of the store calls: the number and the text of each. Both are this project's own.
 use Rattle.std.specs.Prelude.{ℕ, List, codes}
-use Rattle.profile.specs.declared.error.ErrorNumber.{ErrorNumber}
-use Rattle.profile.specs.declared.error.ErrorNumber.TheVariants.{HeapBadReason, HeapBadDesc, HeapBadRegion, HeapOverlaps, HeapTableFull, HeapNotABlock, HeapHoldsAnchor, HeapBadShrink, HeapNoRoom, BlockHoldsHeap, AreaBadReason, AreaUnknown, AreaBad, AreaTaken, AreaTableFull, AreaInUse, AreaNoPages, RmaNotABlock, RmaHoldsAnchor, RmaNoRoom, RmaBlockHoldsHeap, ModuleBadHeader, ModuleBadReason, ModuleNotFound, ImageUnknown, InstanceExists, InstanceTableFull, ModuleBusy, FrameLimit, FlexNotReady, FlexAlready, FlexBadRange, FlexBadAnchor, FlexAnchorInUse, FlexHoldsAnchor, SwiUnknown, BadString, BadPointer}
+use Rattle.raw_store.specs.declared.error.ErrorNumber.{ErrorNumber}
+use Rattle.raw_store.specs.declared.error.ErrorNumber.TheVariants.{HeapBadReason, HeapBadDesc, HeapBadRegion, HeapOverlaps, HeapTableFull, HeapNotABlock, HeapHoldsAnchor, HeapBadShrink, HeapNoRoom, BlockHoldsHeap, AreaBadReason, AreaUnknown, AreaBad, AreaTaken, AreaTableFull, AreaInUse, AreaNoPages, RmaNotABlock, RmaHoldsAnchor, RmaNoRoom, RmaBlockHoldsHeap, ModuleBadHeader, ModuleBadReason, ModuleNotFound, ImageUnknown, InstanceExists, InstanceTableFull, ModuleBusy, FrameLimit, FlexNotReady, FlexAlready, FlexBadRange, FlexBadAnchor, FlexAnchorInUse, FlexHoldsAnchor, SwiUnknown, BadString, BadPointer}
 
 abbrev pub error_code : ErrorNumber → ℕ
 error_code HeapBadReason = 1

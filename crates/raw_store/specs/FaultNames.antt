@@ -1,8 +1,8 @@
 -- The names of the faults, as the script language prints them, and their texts.
 use Rattle.std.specs.Prelude.{ℕ, List, ◌++◌, codes}
 use Rattle.std.specs.Fmt.{decimal}
-use Rattle.profile.specs.declared.fault.Fault.{Fault}
-use Rattle.profile.specs.declared.fault.Fault.TheVariants.{FetchUnmapped, UndefinedInstruction, Unallocated, PcOperand, MultiplySame, EmptyList, UserBankWriteback, AddressException, DataUnmapped, OwnedWord, StackChanged, ErrorStop}
+use Rattle.raw_store.specs.declared.fault.Fault.{Fault}
+use Rattle.raw_store.specs.declared.fault.Fault.TheVariants.{FetchUnmapped, UndefinedInstruction, Unallocated, PcOperand, MultiplySame, EmptyList, UserBankWriteback, AddressException, DataUnmapped, OwnedWord, StackChanged, ErrorStop}
 
 abbrev pub fault_name : Fault → List ℕ
 fault_name FetchUnmapped = codes "FetchUnmapped"

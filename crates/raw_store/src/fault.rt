@@ -1,7 +1,7 @@
 //! The faults that stop a machine, and their names.
 
 ghost use Rattle.std.specs.Prelude.{◌≡◌, Some};
-ghost use Rattle.profile.specs.FaultNames.{fault_name, fault_text};
+ghost use Rattle.raw_store.specs.FaultNames.{fault_name, fault_text};
 
 use std::error::Error;
 use std::fmt;
