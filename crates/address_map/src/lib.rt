@@ -26,6 +26,7 @@ pub use follow::{BlockMove, moved_to};
 pub use item::Item;
 pub use laws::pages_are_counted;
 pub use map::AddressMap;
+pub use raw_store::memory_map::{ERROR_BLOCK, PAGE_SIZE, RETURN_GATE};
 pub use raw_store::{ErrorNumber, HEAP_DESCRIPTOR, HEAP_NAME, RMA_START};
 pub use region::{Kind, Region, do_meet};
 pub use view::View;

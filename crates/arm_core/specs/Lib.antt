@@ -1,11 +1,16 @@
 -- The core without memory: its registers, its status, and what one instruction leaves of them. Begin
 -- with State, then Operate.
 pub use Rattle.arm_decode.specs.Decoded
+pub use Rattle.arm_decode.specs.Fault
 pub use Rattle.arm_decode.specs.Fields
 pub use Rattle.arm_decode.specs.Names
+pub use Rattle.arm_decode.specs.Outcome
 pub use Rattle.arm_decode.specs.Refusals
 pub use Rattle.arm_decode.specs.Shifted
+pub use Rattle.arm_decode.specs.Stop
+pub use Rattle.arm_decode.specs.Sum
 pub use Rattle.arm_decode.specs.Table
+pub use Rattle.arm_decode.specs.Word
 pub use Rattle.arm_decode.specs.declared.action.Action
 pub use Rattle.arm_decode.specs.declared.action.BlockTransfer
 pub use Rattle.arm_decode.specs.declared.action.Multiply

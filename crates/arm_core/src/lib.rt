@@ -19,8 +19,8 @@ pub mod turn;
 
 pub use arm_decode::shifted::rotate_right;
 pub use arm_decode::{
-    Address, Bits, BlockMode, BlockTransfer, Condition, Form, Indexing, Multiply, Offset, Operand,
-    Operate, Operation, Shift, ShiftedRegister, Transfer, row_of,
+    ADDRESS_LIMIT, Address, Bits, BlockMode, BlockTransfer, Condition, Form, Indexing, Multiply,
+    Offset, Operand, Operate, Operation, Shift, ShiftedRegister, Transfer, add, is_bit_set, row_of,
 };
 pub use cpu::Cpu;
 pub use psr::{Mode, Psr};

@@ -1,3 +1,5 @@
+pub use Rattle.profile.proofs.OutputLemmas
+pub use Rattle.profile.proofs.TextLinesLemmas.LineLemmas
 pub mod Codes
 pub mod Flags
 pub mod Masks

@@ -34,9 +34,14 @@ pub use form::{Form, row_of};
 pub use instr::Instr;
 pub use operand::Operand;
 pub use operation::Operation;
+pub use profile::images::{Images, is_image_name};
 pub use profile::memory_map::{ADDRESS_LIMIT, APPLICATION_START, SVC_STACK_END};
+pub use profile::text_lines::{Lines, cut, cut_line};
 pub use profile::word::{Sum, add, is_bit_set, subtract};
-pub use profile::{Fault, SwiName};
+pub use profile::{
+    ErrorNumber, Fault, HexText, MOST_BYTES, ReadFault, Sink, Source, Stop, SwiName, WriteFault,
+    error_text, push_all, push_parts,
+};
 pub use register::{Register, RegisterList};
 pub use shift::{Shift, ShiftedRegister};
 pub use shifted::{Shifted, rotate, rotate_through, shift_left, shift_right, shift_signed};

@@ -1,8 +1,8 @@
 -- What is known of a word whose form and fields the table allows.
 use Rattle.std.proofs.Common.{◌≡◌, ◌<◌, ◌+◌, ◌-◌, ◌*◌, ◌%◌, ◌^◌, ◌&&◌, ℕ, Bool, true, false, not, nat_eq, Result, Ok, Option, None, ap, subst, sym, ◌∙◌, refl, if◌then◌else◌}
 use Rattle.arm_core.specs.Shifted.{rotated_right}
-use Rattle.profile.specs.Word.{bit_of, field}
-use Rattle.profile.specs.Fault.{Fault}
+use Rattle.arm_core.specs.Word.{bit_of, field}
+use Rattle.arm_core.specs.Fault.{Fault}
 use Rattle.arm_core.specs.Decoded.{instruction_of_word, decoded_as, unless_refused}
 use Rattle.arm_core.specs.Fields.{condition_in, action_in, immediate_in, operate_in, shifted_in, transfer_in}
 use Rattle.arm_core.specs.Names.{shift_of}

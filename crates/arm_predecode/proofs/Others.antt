@@ -1,6 +1,6 @@
 -- What is known of a word of LDM, STM, MUL and MLA, of MOV to R15, and of LDR from beside it.
 use Rattle.std.proofs.Common.{◌≡◌, ◌<◌, ◌-◌, ◌*◌, ◌%◌, ◌^◌, ◌&&◌, ℕ, Bool, true, false, not, length, Ok, None, ap, subst, sym, ◌∙◌, refl, if◌then◌else◌}
-use Rattle.profile.specs.Word.{bit_of, field}
+use Rattle.arm_core.specs.Word.{bit_of, field}
 use Rattle.arm_core.specs.Listed.{registers_of_list}
 use Rattle.arm_core.specs.Fields.{action_in, block_transfer_in, condition_in, multiply_in, operate_in, shifted_in, transfer_in}
 use Rattle.arm_core.specs.Names.{shift_of}

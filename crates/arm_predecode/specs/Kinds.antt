@@ -1,7 +1,7 @@
 -- What each kind of an op says of the word and its parts: the instruction that the word is, and the parts of it that the kind needs.
 use Rattle.std.specs.Prelude.{◌≡◌, ◌≢◌, ◌<◌, ◌+◌, ◌-◌, if◌then◌else◌, ◌*◌, ◌%◌, ◌^◌, ◌&&◌, ◌==◌, ℕ, Bool, true, false, not, length, ⊤, Ok}
 use Rattle.arm_core.specs.Shifted.{rotated_right}
-use Rattle.profile.specs.Word.{field, bit_of}
+use Rattle.arm_core.specs.Word.{field, bit_of}
 use Rattle.arm_core.specs.Decoded.{instruction_of_word}
 use Rattle.arm_core.specs.Fields.{block_transfer_in, condition_in, immediate_in, multiply_in, operate_in, shifted_in, transfer_in}
 use Rattle.arm_core.specs.Names.{block_mode_of, indexing_of, shift_of}

@@ -1,7 +1,7 @@
 //! LDM and STM predecoded.
 
 ghost use Rattle.std.specs.Prelude.{◌≡◌, ◌<◌, ◌≤◌, ◌&&◌, not, Ok, None, true, false};
-ghost use Rattle.profile.specs.Word.{bit_of};
+ghost use Rattle.arm_core.specs.Word.{bit_of};
 ghost use Rattle.arm_core.specs.Fields.{block_transfer_in, condition_in};
 ghost use Rattle.arm_core.specs.Refusals.{refusal};
 ghost use Rattle.arm_core.specs.Table.{form_of};

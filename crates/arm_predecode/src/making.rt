@@ -1,7 +1,7 @@
 //! Words of each form predecoded.
 
 ghost use Rattle.std.specs.Prelude.{◌≡◌, ◌<◌, ◌&&◌, ◌+◌, ◌%◌, ◌^◌, Ok, None, IfSome, false, true, not};
-ghost use Rattle.profile.specs.Word.{bit_of, field};
+ghost use Rattle.arm_core.specs.Word.{bit_of, field};
 ghost use Rattle.arm_core.specs.Fields.{condition_in, immediate_in, operate_in, shifted_in};
 ghost use Rattle.arm_core.specs.Names.{shift_of};
 ghost use Rattle.arm_core.specs.Refusals.{is_test, refusal};

@@ -1,7 +1,7 @@
 //! MOV of a register to R15 predecoded.
 
 ghost use Rattle.std.specs.Prelude.{◌≡◌, ◌<◌, Ok, None};
-ghost use Rattle.profile.specs.Word.{field};
+ghost use Rattle.arm_core.specs.Word.{field};
 ghost use Rattle.arm_core.specs.Fields.{condition_in, operate_in, shifted_in};
 ghost use Rattle.arm_core.specs.Names.{shift_of};
 ghost use Rattle.arm_core.specs.Refusals.{refusal};

@@ -3,8 +3,7 @@
 ghost use Rattle.std.specs.Prelude.{◌≡◌};
 
 use crate::kind::OpKind;
-use arm_core::{Condition, Form, Shift, row_of};
-use profile::word::is_bit_set;
+use arm_core::{Condition, Form, Shift, is_bit_set, row_of};
 use std::marker::Model;
 
 /// A word with its parts. What its kind says of them holds.

@@ -1,7 +1,7 @@
 //! LDR and STR predecoded.
 
 ghost use Rattle.std.specs.Prelude.{◌≡◌, ◌<◌, ◌-◌, ◌%◌, ◌^◌, Ok, None, IfSome, true, false, if◌then◌else◌};
-ghost use Rattle.profile.specs.Word.{bit_of, field};
+ghost use Rattle.arm_core.specs.Word.{bit_of, field};
 ghost use Rattle.arm_core.specs.Fields.{condition_in, shifted_in, transfer_in};
 ghost use Rattle.arm_core.specs.Names.{shift_of};
 ghost use Rattle.arm_core.specs.Refusals.{refusal};
@@ -16,8 +16,7 @@ ghost use Rattle.arm_core.specs.Shift.{Shift};
 use crate::kind::OpKind;
 use crate::op::Op;
 use crate::transfers::{number_kind, offset_kind};
-use arm_core::{Address, Bits, Indexing, Offset, Shift, ShiftedRegister, Transfer};
-use profile::word::is_bit_set;
+use arm_core::{Address, Bits, Indexing, Offset, Shift, ShiftedRegister, Transfer, is_bit_set};
 
 /// LDR or STR that the table allows, with neither base nor loaded or stored register R15.
 fn plain_transfer(offset: Offset, word: u32) -> Option<Transfer>

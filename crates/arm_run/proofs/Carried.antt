@@ -1,7 +1,7 @@
 -- What a word does whose instruction is known, and where branches lead.
 use Rattle.std.proofs.Common.{◌≡◌, ◌≢◌, ◌+◌, ◌*◌, ◌/◌, ◌%◌, ◌^◌, ℕ, Bool, true, false, Result, Ok, Err, refl, sym, ◌∙◌, ap, subst, arith, if◌then◌else◌}
-use Rattle.profile.specs.Word.{field}
-use Rattle.profile.specs.Fault.{Fault}
+use Rattle.arm_core.specs.Word.{field}
+use Rattle.arm_core.specs.Fault.{Fault}
 use Rattle.arm_step.specs.Bytes.{Bytes}
 use Rattle.arm_core.specs.Decoded.{instruction_of_word}
 use Rattle.arm_core.specs.Fields.{condition_in}

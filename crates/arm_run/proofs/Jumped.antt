@@ -1,7 +1,7 @@
 -- MOV to R15 leads there.
 use Rattle.std.proofs.Common.{◌≡◌, ◌+◌, ◌*◌, ◌/◌, ◌%◌, ◌^◌, ℕ, Bool, true, false, Result, Ok, refl, sym, ◌∙◌, ap, subst, arith, if◌then◌else◌}
 use Rattle.arm_step.specs.Shifted.{Shifted}
-use Rattle.profile.specs.declared.word.Sum.{Sum}
+use Rattle.arm_core.specs.Sum.{Sum}
 use Rattle.arm_step.specs.Bytes.{Bytes}
 use Rattle.arm_core.specs.Fields.{shifted_in, operate_in}
 use Rattle.arm_core.specs.Refusals.{is_test}

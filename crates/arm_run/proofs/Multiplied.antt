@@ -1,6 +1,6 @@
 -- MUL and MLA lead on.
 use Rattle.std.proofs.Common.{◌≡◌, ◌<◌, ◌+◌, ◌%◌, ◌^◌, ℕ, Bool, Result, Ok, refl, sym, ◌∙◌, ap, subst, arith, if◌then◌else◌}
-use Rattle.profile.specs.Word.{field}
+use Rattle.arm_core.specs.Word.{field}
 use Rattle.arm_step.specs.Bytes.{Bytes}
 use Rattle.arm_core.specs.Fields.{multiply_in}
 use Rattle.arm_core.specs.Action.TheVariants as action

@@ -2,7 +2,7 @@
 use Rattle.std.proofs.Common.{◌≡◌, ◌<◌, ◌*◌, ℕ, Bool, true, false, not, nat_eq, refl, sym, ◌∙◌, ap, subst, arith, if◌then◌else◌}
 use Rattle.std.proofs.lemmas.Bool.Decides.{nat_tests}
 use Rattle.arm_core.specs.Shifted.{rotated_right, rotation_of}
-use Rattle.profile.specs.Word.{field, bit_of}
+use Rattle.arm_core.specs.Word.{field, bit_of}
 use Rattle.arm_step.specs.Shifted.{Shifted}
 use Rattle.arm_core.specs.Fields.{shifted_in}
 use Rattle.arm_core.specs.Names.{shift_of}

@@ -1,8 +1,8 @@
 -- Data processing leads on.
 use Rattle.std.proofs.Common.{◌≡◌, ◌<◌, ◌+◌, ℕ, Bool, true, false, not, ◌&&◌, nat_eq, Result, Ok, refl, sym, ◌∙◌, ap, subst}
-use Rattle.profile.specs.Word.{field}
+use Rattle.arm_core.specs.Word.{field}
 use Rattle.arm_step.specs.Shifted.{Shifted}
-use Rattle.profile.specs.declared.word.Sum.{Sum}
+use Rattle.arm_core.specs.Sum.{Sum}
 use Rattle.arm_step.specs.Bytes.{Bytes}
 use Rattle.arm_core.specs.Fields.{immediate_in, shifted_in, operate_in}
 use Rattle.arm_core.specs.Refusals.{is_test}

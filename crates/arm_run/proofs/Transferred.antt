@@ -1,9 +1,9 @@
 -- LDR and STR lead on.
 use Rattle.std.proofs.Common.{◌≡◌, ◌<◌, ◌+◌, ◌-◌, ◌*◌, ◌%◌, ◌^◌, ℕ, Bool, true, false, nat_eq, Option, Result, Ok, refl, sym, ◌∙◌, ap, subst, arith, if◌then◌else◌}
 use Rattle.std.proofs.lemmas.Bool.Decides.{nat_tests}
-use Rattle.profile.specs.Outcome.{bind}
-use Rattle.profile.specs.Word.{field, bit_of}
-use Rattle.profile.specs.Fault.{Fault}
+use Rattle.arm_core.specs.Outcome.{bind}
+use Rattle.arm_core.specs.Word.{field, bit_of}
+use Rattle.arm_core.specs.Fault.{Fault}
 use Rattle.arm_step.specs.Bytes.{Bytes}
 use Rattle.arm_core.specs.Fields.{address_in, shifted_in, transfer_in}
 use Rattle.arm_core.specs.Names.{direction_of, shift_of}

@@ -1,7 +1,7 @@
 -- What data processing and MUL leave of the core, but for its position, where neither the first operand nor the destination is R15.
 use Rattle.std.specs.Prelude.{ℕ, Bool, true, false, ◌+◌, ◌*◌, ◌%◌, ◌^◌, if◌then◌else◌}
 use Rattle.arm_step.specs.Shifted.{Shifted}
-use Rattle.profile.specs.declared.word.Sum.{Sum}
+use Rattle.arm_core.specs.Sum.{Sum}
 use Rattle.arm_core.specs.Refusals.{is_test}
 use Rattle.arm_core.specs.Operation.{Operation}
 use Rattle.arm_core.specs.Effect.{with_result_flags}

@@ -1,7 +1,7 @@
 -- Steps one after another, each an instruction that is done, none of which begins on a break but the first.
 use Rattle.std.specs.Prelude.{◌≡◌, ◌<◌, ◌⊎◌, ℕ, zero, suc, Bool, true, false, List, Result, Ok, Err}
-use Rattle.profile.specs.declared.stop.Stop.{Stop}
-use Rattle.profile.specs.declared.stop.Stop.TheVariants as stop
+use Rattle.arm_core.specs.Stop.{Stop}
+use Rattle.arm_core.specs.Stop.TheVariants as stop
 use Rattle.arm_core.specs.declared.turn.StepEnd.{StepEnd}
 use Rattle.arm_step.specs.Bytes.{Bytes}
 use Rattle.arm_core.specs.State.{State}

@@ -16,9 +16,8 @@ use crate::standing::{current, position, set_current, slowly, stand};
 use arm_core::Cpu;
 use arm_core::registers::split_lowest;
 use arm_predecode::Op;
-use arm_step::AddressMap;
+use arm_step::{AddressMap, PAGE_SIZE};
 use byteorder::{ByteOrder, LittleEndian};
-use profile::memory_map::PAGE_SIZE;
 
 /// Where the words of a block begin, and the base after it.
 #[inline(always)]

@@ -1,7 +1,7 @@
 //! Data processing by predecoded words.
 
 ghost use Rattle.std.specs.Prelude.{◌≡◌, ◌<◌, ◌≤◌, ◌&&◌, false, not};
-ghost use Rattle.profile.specs.Word.{field};
+ghost use Rattle.arm_core.specs.Word.{field};
 ghost use Rattle.arm_core.specs.Refusals.{is_test};
 ghost use Rattle.arm_core.specs.Operand.{rotated_immediate, shifted_value};
 ghost use Rattle.arm_core.specs.Operate.{sum_of_operation};
@@ -10,10 +10,9 @@ ghost use Rattle.arm_run.specs.Operated.{state_after_operation};
 ghost use Rattle.arm_run.specs.Standing.{LeadsOn};
 
 use crate::standing::{current, set_current};
-use arm_core::{Cpu, Operation, Psr, Shift};
+use arm_core::{Cpu, Operation, Psr, Shift, add, is_bit_set};
 use arm_predecode::Op;
-use arm_step::{Shifted, rotate, shift_left, shift_right, shift_signed};
-use profile::word::{Sum, add, is_bit_set, subtract};
+use arm_step::{Shifted, Sum, rotate, shift_left, shift_right, shift_signed, subtract};
 
 /// Data processing with an immediate operand.
 #[tactic(auto, using(crate::proofs::SumsLed::immediate_leads))]

@@ -14,9 +14,8 @@ use crate::standing::{end_at, fetch, position, slowly, stand};
 use arm_core::breaks::Breaks;
 use arm_core::{Cpu, StepEnd};
 use arm_predecode::DecodeCache;
-use arm_step::AddressMap;
 use arm_step::fetch_page::FetchPage;
-use profile::Stop;
+use arm_step::{AddressMap, Stop};
 
 /// Takes up to so many steps, as long as each is an instruction that is done, and no further than
 /// to a break. Answers how many, and the turn that comes next where that is another, or why a run

@@ -2,9 +2,9 @@
 use Rattle.std.proofs.Common.{◌≡◌, ◌≢◌, ◌⊎◌, ℕ, zero, suc, ◌+◌, ◌*◌, ◌/◌, ◌%◌, ◌<◌, ◌≤◌, ◌^◌, Bool, true, false, cond, ◌&&◌, nat_lt, nat_eq, List, [], ◌∷◌, ◌++◌, length, map, refl, ap, sym, ◌∙◌, arith, Option, Some, None, Result, Ok, Err, inl, inr, append-nil}
 use Rattle.std.proofs.lemmas.Bool.Decides.{nat_tests}
 use Rattle.std.proofs.lemmas.List.{map-append, length-map}
-use Rattle.profile.specs.Outcome.{bind}
-use Rattle.profile.specs.Word.{bit_of}
-use Rattle.profile.specs.Fault.{Fault}
+use Rattle.address_map.specs.Outcome.{bind}
+use Rattle.arm_core.specs.Word.{bit_of}
+use Rattle.arm_core.specs.Fault.{Fault}
 use Rattle.address_map.specs.Bytes.{Bytes, word_at, word_start, with_word, with_word_at, ok_unless_fault}
 use Rattle.arm_decode.specs.declared.action.Action.TheVariants as action
 use Rattle.arm_decode.specs.declared.action.BlockTransfer.{BlockTransfer}

@@ -1,9 +1,9 @@
 -- Each way to store keeps the owned bytes, so a step does.
 use Rattle.std.proofs.Common.{◌≡◌, ℕ, ◌+◌, ◌-◌, ◌%◌, ◌^◌, Bool, true, false, cond, not, ◌&&◌, nat_le, nat_lt, nat_eq, List, [], ◌∷◌, length, refl, ap, sym, ◌∙◌, arith, Option, Some, None, Result, Ok, Err, subst, lit<}
 use Rattle.std.proofs.lemmas.Bool.Decides.{nat_tests}
-use Rattle.profile.specs.Outcome.{bind}
-use Rattle.profile.specs.Fault.{Fault}
-use Rattle.profile.specs.Fault.TheVariants.{AddressException, DataUnmapped, OwnedWord}
+use Rattle.address_map.specs.Outcome.{bind}
+use Rattle.arm_core.specs.Fault.{Fault}
+use Rattle.arm_core.specs.Fault.TheVariants.{AddressException, DataUnmapped, OwnedWord}
 use Rattle.address_map.specs.Bytes.{Bytes, ok_unless_fault, store_fault, with_byte, with_word, byte_stored, word_stored, word_loaded}
 use Rattle.arm_decode.specs.Decoded.{instruction_of_word}
 use Rattle.arm_decode.specs.Fields.{condition_in}

@@ -2,7 +2,7 @@
 use Rattle.std.proofs.Common.{◌≡◌, ℕ, zero, suc, ◌&&◌, length, map, slice_index, slice_get, Option, Some, None, Ok, Err, ◌+◌, ◌-◌, ◌*◌, ◌<◌, Bool, true, false, cond, nat_eq, List, [], ◌∷◌, ap, sym, ◌∙◌, refl, arith}
 use Rattle.std.proofs.lemmas.Bool.Decides.{nat_tests}
 use Rattle.std.proofs.lemmas.List.{length-map}
-use Rattle.profile.specs.Fault.{Fault}
+use Rattle.arm_core.specs.Fault.{Fault}
 use Rattle.address_map.specs.Bytes.{Bytes, word_at, with_word, with_word_at, ok_unless_fault}
 use Rattle.address_map.specs.Memory.{bytes_of, byte_at, layout}
 use Rattle.address_map.specs.declared.map.AddressMap.{AddressMap}

@@ -2,7 +2,7 @@
 use Rattle.std.proofs.Common.{◌≡◌, ℕ, zero, suc, ◌+◌, ◌*◌, ◌%◌, ◌/◌, ◌^◌, ◌<◌, ◌≤◌, Bool, true, false, cond, not, ◌&&◌, ◌||◌, nat_lt, ltb, List, ◌∷◌, slice_index, refl, ap, sym, ◌∙◌, arith, Some, None, is_some, Ok, Err}
 use Rattle.std.proofs.lemmas.Bool.{le-ltb, lt-ltb}
 use Rattle.std.proofs.lemmas.Bool.Decides.{nat_tests}
-use Rattle.profile.specs.Fault.TheVariants.{OwnedWord}
+use Rattle.arm_core.specs.Fault.TheVariants.{OwnedWord}
 use Rattle.address_map.specs.Bytes.{Bytes, word_at}
 use Rattle.address_map.specs.Lent.{IsLent, any_owned}
 use Rattle.address_map.specs.Memory.{bytes_of, place, is_mapped, is_owned}

@@ -1,7 +1,7 @@
 -- The words of a load placed in the registers of a list, one more at a time.
 use Rattle.std.proofs.Common.{◌≡◌, ℕ, ◌+◌, ◌<◌, ◌≤◌, true, List, [], ◌∷◌, ◌++◌, length, take, get_or, refl, arith}
 use Rattle.std.proofs.lemmas.List.{length-take-le, take_all, take_more}
-use Rattle.profile.specs.Word.{bit_of}
+use Rattle.arm_core.specs.Word.{bit_of}
 use Rattle.arm_core.specs.Effect.{with_result_in}
 use Rattle.arm_core.specs.Listed.{listed_below}
 use Rattle.arm_core.specs.State.{State}

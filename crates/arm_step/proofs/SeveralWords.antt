@@ -7,8 +7,8 @@ use Rattle.address_map.specs.Bytes.{Bytes, word_at, word_loaded, ok_unless_fault
 use Rattle.address_map.specs.Memory.{bytes_of, byte_at, layout}
 use Rattle.address_map.specs.declared.map.AddressMap.{AddressMap}
 use Rattle.arm_step.specs.Words.{are_words_mapped, are_free, memory_words_at, with_words, words_loaded}
-use Rattle.profile.specs.Fault.{Fault}
-use Rattle.profile.specs.Fault.TheVariants.{AddressException, DataUnmapped}
+use Rattle.arm_core.specs.Fault.{Fault}
+use Rattle.arm_core.specs.Fault.TheVariants.{AddressException, DataUnmapped}
 
 pub record IsLoaded (b : Bytes) (a w : ℕ) : Type 0 where
   pub mapped : b.mapped a ≡ true

@@ -1,7 +1,7 @@
 -- What STM puts away LDM brings back: STM with write-back and without S, then LDM by the opposite way of counting with the same list and
 -- base, whatever the listed registers became in between.
 use Rattle.std.specs.Prelude.{◌≡◌, ◌<◌, ◌⊎◌, ℕ, Bool, true, false, Ok}
-use Rattle.profile.specs.Word.{bit_of}
+use Rattle.arm_core.specs.Word.{bit_of}
 use Rattle.address_map.specs.Bytes.{Bytes}
 use Rattle.arm_decode.specs.declared.action.Action.TheVariants as action
 use Rattle.arm_decode.specs.declared.action.BlockTransfer.{BlockTransfer}

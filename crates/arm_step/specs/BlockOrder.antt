@@ -1,7 +1,7 @@
 -- Where the words of LDM and STM lie, in the words of the table (ARM2 data sheet, "Block data transfer"): beside the base, and in the order of
 -- their registers.
 use Rattle.std.specs.Prelude.{ℕ, Bool, true, false, ◌≡◌, ◌≤◌, ◌<◌, ◌+◌, ◌-◌, ◌*◌, ◌%◌, ◌^◌, length, map, Ok}
-use Rattle.profile.specs.Word.{bit_of}
+use Rattle.arm_core.specs.Word.{bit_of}
 use Rattle.address_map.specs.Bytes.{Bytes, word_at}
 use Rattle.arm_decode.specs.declared.action.Action.TheVariants as action
 use Rattle.arm_decode.specs.declared.action.BlockTransfer.{BlockTransfer}

@@ -1,8 +1,8 @@
 -- LDM and STM (ARM2 data sheet, "Block data transfer"). Which base is stored, and that a fault moves nothing, are this project's choice.
 use Rattle.std.specs.Prelude.{ℕ, Bool, not, ◌&&◌, ◌+◌, ◌-◌, ◌*◌, ◌%◌, ◌^◌, ◌==◌, if◌then◌else◌, List, [], ◌∷◌, length, map, slice_get, Option, Some, None, Result, Ok}
-use Rattle.profile.specs.Outcome.{bind}
-use Rattle.profile.specs.Word.{bit_of}
-use Rattle.profile.specs.Fault.{Fault}
+use Rattle.address_map.specs.Outcome.{bind}
+use Rattle.arm_core.specs.Word.{bit_of}
+use Rattle.arm_core.specs.Fault.{Fault}
 use Rattle.address_map.specs.Bytes.{Bytes, word_start}
 use Rattle.arm_decode.specs.declared.action.BlockTransfer.{BlockTransfer}
 use Rattle.arm_decode.specs.declared.address.BlockMode.{BlockMode}

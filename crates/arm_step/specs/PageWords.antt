@@ -1,7 +1,7 @@
 -- Words that lie in one page of 4096 bytes: which do, and the words that some bytes are.
 use Rattle.std.specs.Prelude.{ℕ, zero, suc, Bool, ◌&&◌, ◌+◌, ◌*◌, ◌%◌, ◌^◌, nat_lt, nat_le, if◌then◌else◌, List, [], ◌∷◌, slice_index}
-use Rattle.profile.specs.Fault.{Fault}
-use Rattle.profile.specs.Fault.TheVariants.{AddressException, DataUnmapped}
+use Rattle.arm_core.specs.Fault.{Fault}
+use Rattle.arm_core.specs.Fault.TheVariants.{AddressException, DataUnmapped}
 use Rattle.address_map.specs.Bytes.{word_at}
 
 -- whether `n` words from `a` on lie in one page, and are at least one

@@ -1,7 +1,7 @@
 -- One step of the core over memory. `owned` says which bytes the store calls keep their records in.
 use Rattle.std.specs.Prelude.{◌≡◌, ℕ, Bool, ◌==◌, if◌then◌else◌, Some, None, Result, Ok, Err}
-use Rattle.profile.specs.Fault.{Fault}
-use Rattle.profile.specs.Fault.TheVariants.{FetchUnmapped}
+use Rattle.arm_core.specs.Fault.{Fault}
+use Rattle.arm_core.specs.Fault.TheVariants.{FetchUnmapped}
 use Rattle.address_map.specs.Bytes.{Bytes, word_loaded}
 use Rattle.arm_decode.specs.Decoded.{instruction_unless_refused, instruction_of_word}
 use Rattle.arm_decode.specs.Fields.{condition_in, transfer_of_word, block_transfer_in}

@@ -1,8 +1,8 @@
 -- LDR and STR (ARM2 data sheet, "Single data transfer").
 use Rattle.std.specs.Prelude.{ℕ, Bool, true, false, ◌+◌, ◌-◌, ◌*◌, ◌%◌, ◌^◌, if◌then◌else◌, Result, Ok}
-use Rattle.profile.specs.Outcome.{bind}
+use Rattle.address_map.specs.Outcome.{bind}
 use Rattle.arm_decode.specs.Shifted.{rotated_right}
-use Rattle.profile.specs.Fault.{Fault}
+use Rattle.arm_core.specs.Fault.{Fault}
 use Rattle.address_map.specs.Bytes.{Bytes, byte_loaded, word_loaded, byte_stored, word_stored}
 use Rattle.arm_decode.specs.Refusals.{writes_base}
 use Rattle.arm_decode.specs.declared.action.Transfer.{Transfer}

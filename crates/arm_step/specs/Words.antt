@@ -1,8 +1,8 @@
 -- Several words of memory, one after another from an address that is a multiple of 4, and the faults over all of them: any word past the
 -- address space first, then any that isn't mapped, then any that a store must leave alone.
 use Rattle.std.specs.Prelude.{ℕ, zero, suc, Bool, true, not, ◌&&◌, ◌+◌, ◌*◌, ◌^◌, nat_lt, if◌then◌else◌, List, [], ◌∷◌, length, Option, Some, None, Result}
-use Rattle.profile.specs.Fault.{Fault}
-use Rattle.profile.specs.Fault.TheVariants.{AddressException, DataUnmapped, OwnedWord}
+use Rattle.arm_core.specs.Fault.{Fault}
+use Rattle.arm_core.specs.Fault.TheVariants.{AddressException, DataUnmapped, OwnedWord}
 use Rattle.address_map.specs.Bytes.{Bytes, word_at, with_word, ok_unless_fault}
 
 unfoldable pub are_words_mapped : Bytes → ℕ → ℕ → Bool

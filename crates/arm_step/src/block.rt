@@ -2,7 +2,7 @@
 
 ghost use Rattle.std.specs.Prelude.{◌≡◌, ◌<◌, ◌≤◌, ◌^◌, ◌%◌, true, length};
 ghost use Rattle.arrayvec.specs.ArrayVec.{array_vec_len};
-ghost use Rattle.profile.specs.Outcome.{Leaves};
+ghost use Rattle.address_map.specs.Outcome.{Leaves};
 ghost use Rattle.address_map.specs.Memory.{bytes_of, is_owned, layout, class_of};
 ghost use Rattle.arm_decode.specs.Fields.{block_transfer_in};
 ghost use Rattle.arm_step.specs.PageWords.{are_in_page};
@@ -16,9 +16,8 @@ use crate::words::{MOST_WORDS, load_words, store_words};
 use address_map::AddressMap;
 use arm_core::registers::size_of;
 use arm_core::{Cpu, Mode};
-use arm_decode::{BlockMode, BlockTransfer, Register, RegisterList};
+use arm_decode::{BlockMode, BlockTransfer, Fault, Register, RegisterList};
 use arrayvec::ArrayVec;
-use profile::Fault;
 
 /// The lowest address of a block of some words, with its base, and the base that is written back.
 #[inline(always)]

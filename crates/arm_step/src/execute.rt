@@ -6,20 +6,17 @@ ghost use Rattle.arm_step.specs.Turns.{Turns};
 ghost use Rattle.arm_decode.specs.Decoded.{instruction_of_word};
 ghost use Rattle.arm_decode.specs.Fields.{operate_in, multiply_in};
 ghost use Rattle.arm_step.specs.Step.{or_fault, acted_if_decoded, Operates, Multiplies, acted_at, acted_on_block, result_of_word, result_of_step};
-ghost use Rattle.profile.specs.Outcome.{Leaves};
+ghost use Rattle.address_map.specs.Outcome.{Leaves};
 
 use crate::block::transfer_block;
 use crate::transfer::transfer_one;
-use address_map::AddressMap;
+use address_map::{AddressMap, RETURN_GATE};
 use arm_core::condition::is_met;
-use arm_core::{Cpu, StepEnd};
+use arm_core::{Cpu, StepEnd, is_bit_set};
 use arm_decode::{
-    Address, Bits, BlockTransfer, Condition, Form, Multiply, Offset, Operand, Operate,
+    Address, Bits, BlockTransfer, Condition, Fault, Form, Multiply, Offset, Operand, Operate,
     ShiftedRegister, Transfer, row_of,
 };
-use profile::Fault;
-use profile::memory_map::RETURN_GATE;
-use profile::word::is_bit_set;
 
 /// Takes one step: fetches the word at the program counter and carries it out.
 ///

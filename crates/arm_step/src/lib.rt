@@ -15,7 +15,8 @@ pub mod page_words;
 pub mod transfer;
 pub mod words;
 
-pub use address_map::AddressMap;
+pub use address_map::{AddressMap, PAGE_SIZE};
 pub use arm_core::{Cpu, Mode, Psr, StepEnd, StepEnd as Turn};
 pub use arm_decode::shifted::{Shifted, rotate, shift_left, shift_right, shift_signed};
+pub use arm_decode::{Stop, Sum, subtract};
 pub use execute::step;

@@ -1,8 +1,8 @@
 //! LDM and STM of words in one page, as nearly all are: the page is looked up once for all of them.
 
 ghost use Rattle.std.specs.Prelude.{◌≡◌, ◌<◌, ◌%◌, ◌*◌, ◌==◌, true, false, Some, length};
-ghost use Rattle.profile.specs.Word.{bit_of};
-ghost use Rattle.profile.specs.Outcome.{Leaves};
+ghost use Rattle.arm_core.specs.Word.{bit_of};
+ghost use Rattle.address_map.specs.Outcome.{Leaves};
 ghost use Rattle.address_map.specs.Memory.{bytes_of, is_owned, layout, class_of, place};
 ghost use Rattle.arm_core.specs.Effect.{status_operand};
 ghost use Rattle.arm_core.specs.declared.psr.Mode.TheVariants.{User};
@@ -17,8 +17,7 @@ use crate::page_words::{free_place, lend_words, word_in};
 use address_map::AddressMap;
 use arm_core::registers::{size_of, split_lowest};
 use arm_core::{Cpu, Mode};
-use arm_decode::{BlockTransfer, Register, RegisterList};
-use profile::Fault;
+use arm_decode::{BlockTransfer, Fault, Register, RegisterList};
 
 /// LDM of words in one page.
 #[inline(always)]

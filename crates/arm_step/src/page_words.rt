@@ -6,10 +6,9 @@ ghost use Rattle.address_map.specs.Memory.{bytes_of, is_owned, place};
 ghost use Rattle.arm_step.specs.PageWords.{are_in_page, missing, words_in};
 ghost use Rattle.arm_step.specs.Words.{words_loaded, words_store_fault};
 
-use address_map::AddressMap;
+use address_map::{AddressMap, PAGE_SIZE};
+use arm_decode::{ADDRESS_LIMIT, Fault};
 use byteorder::{ByteOrder, LittleEndian};
-use profile::Fault;
-use profile::memory_map::{ADDRESS_LIMIT, PAGE_SIZE};
 
 /// Whether some words lie in one page, and are at least one.
 #[inline(always)]

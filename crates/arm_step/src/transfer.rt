@@ -1,15 +1,14 @@
 //! LDR and STR.
 
 ghost use Rattle.std.specs.Prelude.{◌≡◌, ◌<◌, ◌≤◌, ◌^◌, ◌%◌};
-ghost use Rattle.profile.specs.Outcome.{Leaves};
+ghost use Rattle.address_map.specs.Outcome.{Leaves};
 ghost use Rattle.address_map.specs.Memory.{bytes_of, is_owned, layout, class_of};
 ghost use Rattle.arm_step.specs.Transfers.{offset_amount, moved_base, transfer_address, with_base, value_loaded, value_stored, result_of_load, result_of_store, result_of_transfer};
 
 use address_map::AddressMap;
 use arm_core::Cpu;
 use arm_decode::shifted::rotate_right;
-use arm_decode::{Address, Direction, Indexing, Offset, Transfer};
-use profile::Fault;
+use arm_decode::{Address, Direction, Fault, Indexing, Offset, Transfer};
 
 /// The byte at an address, or the word there, rotated so that the byte at the address is lowest.
 #[inline(always)]

@@ -2,14 +2,13 @@
 
 ghost use Rattle.std.specs.Prelude.{ℕ, ◌≡◌, ◌<◌, ◌≤◌, ◌+◌, ◌*◌, ◌^◌, ◌%◌, true, Ok, Err, length, MatchResult, IfOk};
 ghost use Rattle.arrayvec.specs.ArrayVec.{array_vec_len};
-ghost use Rattle.profile.specs.Outcome.{Leaves};
+ghost use Rattle.address_map.specs.Outcome.{Leaves};
 ghost use Rattle.address_map.specs.Memory.{bytes_of, is_owned, layout, class_of};
 ghost use Rattle.arm_step.specs.Words.{are_words_mapped, are_free, words_loaded, words_store_fault, words_stored, with_words};
 
 use address_map::AddressMap;
+use arm_decode::{ADDRESS_LIMIT, Fault};
 use arrayvec::ArrayVec;
-use profile::Fault;
-use profile::memory_map::ADDRESS_LIMIT;
 
 /// The most words that one instruction moves.
 pub(crate) const MOST_WORDS: usize = 16;

@@ -1,3 +1,4 @@
+pub use Rattle.arm_decode.proofs.LineLemmas
 pub mod Pieces
 pub mod Rotations
 pub mod Listed

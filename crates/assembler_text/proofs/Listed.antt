@@ -2,9 +2,9 @@
 use Rattle.std.proofs.Common.{◌≡◌, ◌<◌, ◌≤◌, ◌+◌, ◌-◌, ℕ, Bool, true, false, not, ◌&&◌, suc, List, [], ◌++◌, Option, refl, sym, subst, arith}
 use Rattle.std.specs.Prelude.{codes}
 use Rattle.std.specs.Io.KnownBytes.{Appends}
-use Rattle.profile.specs.Output.{AddsAllBut}
-use Rattle.profile.specs.Word.{bit_of}
-use Rattle.profile.proofs.OutputLemmas.{AddsAllBut-start, AddsAllBut-more, Appends-from_all_but}
+use Rattle.arm_decode.specs.Output.{AddsAllBut}
+use Rattle.arm_decode.specs.Word.{bit_of}
+use Rattle.arm_decode.proofs.OutputLemmas.{AddsAllBut-start, AddsAllBut-more, Appends-from_all_but}
 use Rattle.assembler_text.specs.Names.{text_if}
 use Rattle.assembler_text.specs.Transfers.{listed_from, listed_piece, listed_text, register_names_text}
 

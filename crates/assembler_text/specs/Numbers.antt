@@ -2,7 +2,7 @@
 -- and the immediate operands of data processing (ARM2 data sheet, "Immediate operand rotates").
 use Rattle.std.specs.Prelude.{ℕ, Bool, false, ◌-◌, ◌*◌, ◌==◌, nat_le, List, ◌++◌, codes, decimal, Option, Some, None, find, if◌then◌else◌}
 use Rattle.std.specs.List.{range_with_len}
-use Rattle.profile.specs.Digits.{hex_number}
+use Rattle.arm_decode.specs.Digits.{hex_number}
 use Rattle.arm_decode.specs.Shifted.{rotated_right}
 
 abbrev pub number_text : ℕ → List ℕ

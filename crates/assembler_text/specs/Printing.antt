@@ -2,8 +2,8 @@
 -- instruction; where that leaves a choice, as between `#&FF000000` and `#&FF,8`, between
 -- `LDR R0,[R1]` and `LDR R0,[R1,#0]` or in the bases of numbers, the choice is this project's own).
 use Rattle.std.specs.Prelude.{ℕ, Bool, ◌+◌, ◌*◌, ◌%◌, ◌^◌, List, ◌++◌, codes, Result, Ok, Err, if◌then◌else◌}
-use Rattle.profile.specs.Digits.{hex_word}
-use Rattle.profile.specs.Fault.{Fault}
+use Rattle.arm_decode.specs.Digits.{hex_word}
+use Rattle.arm_decode.specs.Fault.{Fault}
 use Rattle.arm_decode.specs.Decoded.{instruction_of_word}
 use Rattle.arm_decode.specs.Refusals.{is_move, is_pc, is_test}
 use Rattle.arm_decode.specs.declared.action.Action.{Action}

@@ -2,7 +2,7 @@
 -- "Single data transfer" and "Block data transfer", "Assembler syntax").
 use Rattle.std.specs.Prelude.{ℕ, Bool, false, ◌-◌, ◌&&◌, ◌==◌, not, List, [], ◌∷◌, ◌++◌, codes, filter, if◌then◌else◌}
 use Rattle.std.specs.List.{range_with_len}
-use Rattle.profile.specs.Word.{bit_of}
+use Rattle.arm_decode.specs.Word.{bit_of}
 use Rattle.arm_decode.specs.Names.{is_up}
 use Rattle.arm_decode.specs.declared.action.BlockTransfer.{BlockTransfer}
 use Rattle.arm_decode.specs.declared.action.Transfer.{Transfer}

@@ -10,4 +10,8 @@ pub mod operands;
 pub mod printing;
 pub mod transfers;
 
+pub use arm_decode::{
+    ADDRESS_LIMIT, ErrorNumber, HexText, Images, Lines, MOST_BYTES, ReadFault, Source, cut,
+    cut_line, error_text, is_image_name,
+};
 pub use printing::disassemble;

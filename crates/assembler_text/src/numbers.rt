@@ -1,12 +1,12 @@
 //! Numbers and immediate operands.
 
 ghost use Rattle.std.specs.Prelude.{◌≡◌, ◌≤◌, ◌<◌, true, IfSome};
-ghost use Rattle.profile.specs.Output.{Writes};
+ghost use Rattle.arm_decode.specs.Output.{Writes};
 ghost use Rattle.assembler_text.specs.Numbers.{gives, immediate_text, is_field, least_rotation, rotated_back};
 
 use arm_decode::shifted::rotate_right;
+use arm_decode::{HexText, Sink, WriteFault, push_parts};
 use itoa::Buffer;
-use profile::{HexText, Sink, WriteFault, push_parts};
 
 /// Writes `#v` where the rotation field is the least that gives v, else `#b,r`.
 pub(crate) fn push_immediate<W: Sink>(

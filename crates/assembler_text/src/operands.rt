@@ -1,14 +1,15 @@
 //! The operands of data processing.
 
 ghost use Rattle.std.specs.Prelude.{◌≡◌, ◌≤◌, true};
-ghost use Rattle.profile.specs.Output.{Writes};
+ghost use Rattle.arm_decode.specs.Output.{Writes};
 ghost use Rattle.assembler_text.specs.Operands.{amount_text, by_register_text, operand_text, shifted_text, shifting_text};
 
 use crate::names::{RegisterName, shift_text};
 use crate::numbers::push_immediate;
-use arm_decode::{Operand, Register, Shift, ShiftedRegister};
+use arm_decode::{
+    Operand, Register, Shift, ShiftedRegister, Sink, WriteFault, push_all, push_parts,
+};
 use itoa::Buffer;
-use profile::{Sink, WriteFault, push_all, push_parts};
 
 /// Writes the second operand of data processing.
 pub(crate) fn push_operand<W: Sink>(operand: Operand, sink: &mut W) -> Result<(), WriteFault>

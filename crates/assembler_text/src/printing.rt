@@ -1,14 +1,15 @@
 //! The one text of each word.
 
 ghost use Rattle.std.specs.Prelude.{◌≡◌, ◌<◌, ◌^◌, true};
-ghost use Rattle.profile.specs.Output.{Writes};
+ghost use Rattle.arm_decode.specs.Output.{Writes};
 ghost use Rattle.assembler_text.specs.Printing.{action_text, branch_target, branch_text, data_text, flags_text, swi_text, multiply_head, multiply_operands, multiply_text, operate_head, operate_text, print, operate_registers_text};
 
 use crate::names::{RegisterName, choose_text, condition_text, operation_text, text_if};
 use crate::operands::push_operand;
 use crate::transfers::{push_block, push_transfer};
-use arm_decode::{Action, Condition, Multiply, Operate, Operation, decode};
-use profile::{HexText, Sink, WriteFault, push_parts};
+use arm_decode::{
+    Action, Condition, HexText, Multiply, Operate, Operation, Sink, WriteFault, decode, push_parts,
+};
 
 /// Writes the text of a word at its address: its instruction, or, where it is no instruction,
 /// `DCD &` and eight digits.

@@ -1,17 +1,16 @@
 //! Single and block data transfers.
 
 ghost use Rattle.std.specs.Prelude.{◌≡◌, ◌≤◌, ◌<◌, ◌&&◌, true, not, IfOk};
-ghost use Rattle.profile.specs.Output.{Writes};
-ghost use Rattle.profile.specs.Word.{bit_of};
+ghost use Rattle.arm_decode.specs.Output.{Writes};
+ghost use Rattle.arm_decode.specs.Word.{bit_of};
 ghost use Rattle.assembler_text.specs.Transfers.{operand_address_text, after_text, base_text, before_text, block_head, block_transfer_text, braces_text, close_text, is_nothing, listed_piece, listed_text, offset_text, sign_text, transfer_head, transfer_text, is_user};
 
 use crate::names::{RegisterName, block_mode_text, choose_text, condition_text, text_if};
 use crate::operands::push_shifted;
 use arm_decode::{
-    Address, BlockTransfer, Condition, Direction, Indexing, Offset, Register, RegisterList,
-    Transfer,
+    Address, BlockTransfer, Condition, Direction, HexText, Indexing, Offset, Register,
+    RegisterList, Sink, Transfer, WriteFault, push_all, push_parts,
 };
-use profile::{HexText, Sink, WriteFault, push_all, push_parts};
 
 /// Writes LDR or STR.
 pub(crate) fn push_transfer<W: Sink>(

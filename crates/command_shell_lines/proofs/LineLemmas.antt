@@ -2,7 +2,7 @@
 use Rattle.std.proofs.Common.{◌≡◌, ◌<◌, ℕ, List, [], ◌∷◌, length, ap, ◌∙◌, arith, refl}
 use Rattle.std.specs.Prelude.{◌==◌}
 use Rattle.std.specs.List.{slice_split}
-use Rattle.profile.proofs.TextLinesLemmas.LineLemmas.{some_part}
+use Rattle.assembler_text.proofs.LineLemmas.{some_part}
 use Rattle.command_shell_lines.specs.Requests.{request_of_words, Unknown}
 
 unknown_words : (word first second : List ℕ) (more : List (List ℕ)) → 0 < length more

@@ -1,6 +1,6 @@
 -- How often a source was pulled, from one call to the next.
 use Rattle.std.proofs.Common.{◌≡◌, ◌≤◌, ◌+◌, ℕ, Option, Some, None, arith, refl}
-use Rattle.profile.specs.Pulls.{PullsOnce, PullsAtMost}
+use Rattle.assembler_text.specs.Pulls.{PullsOnce, PullsAtMost}
 
 -- so many calls at most
 pub record HasPulled (from now : Option ℕ) (most : ℕ) : Type 0 where

@@ -4,7 +4,7 @@ use Rattle.std.specs.Prelude.{ℕ, Bool, true, false, ◌++◌, not, List, [], �
 use Rattle.std.specs.Fmt.{decimal}
 use Rattle.std.specs.Str.{bytes_eq}
 use Rattle.command_shell_lines.specs.Requests.{Request, Boot, Load, words}
-use Rattle.profile.specs.images.Entries.{Entry, bytes_of_image}
+use Rattle.assembler_text.specs.Entries.{Entry, bytes_of_image}
 
 -- the name of a block's image, and the line at which the block begins
 pub record FailedBlockPlace : Type 0 where

@@ -4,7 +4,7 @@ use Rattle.std.specs.Prelude.{ℕ, Bool, true, false, ◌==◌, ◌&&◌, nat_lt
 use Rattle.std.specs.Char.{to_ascii_lowercase}
 use Rattle.std.specs.List.{slice_split}
 use Rattle.std.specs.Str.{bytes_eq}
-use Rattle.profile.specs.images.Entries.{can_name_image}
+use Rattle.assembler_text.specs.Entries.{can_name_image}
 use Rattle.command_shell_lines.specs.Numbers.{script_number}
 use Rattle.command_shell_lines.specs.Operands.{cpu_register_named, word_address, origin_of, count_up_to}
 use Rattle.command_shell_lines.specs.declared.requests.ScriptCommand.{ScriptCommand}

@@ -5,7 +5,7 @@ ghost use Rattle.command_shell_lines.specs.Blocks.{block_lines, after_block, lin
 
 use crate::hex_pairs::append_spelled;
 use crate::requests::is_block_end;
-use profile::text_lines::Lines;
+use assembler_text::Lines;
 use std::alloc::{AllocError, Global};
 
 /// What the lines of a HEX block spell.

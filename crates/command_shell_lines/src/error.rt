@@ -3,7 +3,7 @@
 ghost use Rattle.std.specs.Prelude.{◌≡◌};
 ghost use Rattle.command_shell_lines.specs.declared.error.ReadingError.TheVariants.{Memory, ReadFault as IsReadFault};
 
-use profile::ReadFault;
+use assembler_text::ReadFault;
 use std::alloc::AllocError;
 use thiserror::Error;
 

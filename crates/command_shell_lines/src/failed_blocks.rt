@@ -7,9 +7,8 @@ ghost use Rattle.command_shell_lines.specs.Requests.{request_of_command};
 ghost use Rattle.command_shell_lines.specs.FailedBlocks.{block_reason, block_text, line_of_block, reason_for};
 
 use crate::requests::ScriptCommand;
+use assembler_text::{Images, cut};
 use itoa::Buffer;
-use profile::images::Images;
-use profile::text_lines::cut;
 use std::alloc::{AllocError, Global};
 use std::marker::Model;
 

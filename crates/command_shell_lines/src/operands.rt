@@ -4,7 +4,7 @@ ghost use Rattle.std.specs.Prelude.{◌≡◌, ◌≤◌, ◌<◌, ◌%◌, ◌^
 ghost use Rattle.command_shell_lines.specs.Operands.{cpu_register_named, word_address, origin_of, count_up_to};
 
 use crate::numbers::number_of;
-use profile::memory_map::ADDRESS_LIMIT;
+use assembler_text::ADDRESS_LIMIT;
 use std::marker::Model;
 
 /// A register that a script can set: R0 to R14.

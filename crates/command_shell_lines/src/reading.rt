@@ -1,11 +1,10 @@
 //! A script read whole, up to the longest that is taken.
 
 ghost use Rattle.std.specs.Prelude.{◌≡◌, ◌≤◌, ◌<◌, true, length, IfOk, IfSome};
-ghost use Rattle.profile.specs.Pulls.{PullsAtMost};
+ghost use Rattle.assembler_text.specs.Pulls.{PullsAtMost};
 
 use crate::error::ReadingError;
-use profile::Source;
-use profile::memory_map::MOST_BYTES;
+use assembler_text::{MOST_BYTES, Source};
 use std::alloc::Global;
 
 const CHUNK: usize = 4096;

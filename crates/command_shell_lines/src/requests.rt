@@ -4,12 +4,11 @@ ghost use Rattle.std.specs.Prelude.{◌≡◌, ◌<◌, true, [], ◌∷◌, len
 ghost use Rattle.command_shell_lines.specs.Numbers.{script_number};
 ghost use Rattle.command_shell_lines.specs.Operands.{cpu_register_named, word_address, origin_of, count_up_to};
 ghost use Rattle.command_shell_lines.specs.Requests.{Hex, Boot, Set, Poke, Mem, Code, is_same_word, is_end_of_block, is_load, words, request_if_named, named_at, both_numbered, request_of, request_of_word, request_of_number, request_of_two, request_of_three, request_of_words, request_of_command};
-ghost use Rattle.profile.specs.images.Entries.{can_name_image};
+ghost use Rattle.assembler_text.specs.Entries.{can_name_image};
 
 use crate::numbers::number_of;
 use crate::operands::{Origin, RegisterNumber, WordAddress, count_up_to};
-use profile::images::is_image_name;
-use profile::text_lines::cut;
+use assembler_text::{cut, is_image_name};
 
 /// The most bytes of memory that a line shows.
 const MAX_BYTES_SHOWN: u32 = 4096;

@@ -1,8 +1,8 @@
 -- The loop over the words that are shown.
 use Rattle.std.proofs.Common.{◌≡◌, ◌<◌, ◌≤◌, ◌+◌, ◌-◌, ◌%◌, ◌^◌, ℕ, suc, List, [], ◌++◌, Option, refl, sym, subst, arith}
 use Rattle.std.specs.Io.KnownBytes.{Appends}
-use Rattle.profile.specs.Output.{AddsAllBut}
-use Rattle.profile.proofs.OutputLemmas.{AddsAllBut-start, AddsAllBut-more, Appends-from_all_but}
+use Rattle.swi_dispatch_guest.specs.Output.{AddsAllBut}
+use Rattle.swi_dispatch_guest.proofs.OutputLemmas.{AddsAllBut-start, AddsAllBut-more, Appends-from_all_but}
 use Rattle.swi_dispatch_guest.specs.Bytes.{Bytes}
 use Rattle.debugger.specs.Code.{code_line, code_text}
 

@@ -3,7 +3,7 @@ use Rattle.std.proofs.Common.{◌≡◌, ℕ, ◌+◌, ◌-◌, ◌%◌, ◌^◌
 use Rattle.std.proofs.lemmas.Bool.Decides.{nat_tests}
 use Rattle.std.specs.Prelude.{nat_le, IsSome, IfSome}
 use Rattle.std.specs.Option.{option_map}
-use Rattle.profile.proofs.OutputLemmas.{AddsAllBut-start, AddsAllBut-more, AddsAllBut-same, Appends-from_all_but}
+use Rattle.swi_dispatch_guest.proofs.OutputLemmas.{AddsAllBut-start, AddsAllBut-more, AddsAllBut-same, Appends-from_all_but}
 use Rattle.swi_dispatch_guest.proofs.Spans.{mapped_below}
 use Rattle.swi_dispatch_guest.specs.Item.{Item}
 use Rattle.swi_dispatch_guest.specs.AddressMap.{AddressMap}

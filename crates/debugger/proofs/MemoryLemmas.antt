@@ -1,10 +1,10 @@
 -- How the bytes and the lines of memory go on.
 use Rattle.std.proofs.Common.{◌≡◌, ℕ, suc, ◌+◌, ◌-◌, ◌/◌, ◌<◌, [], ◌++◌, ap, ◌∙◌, arith, refl}
 use Rattle.std.specs.Prelude.{min}
-use Rattle.profile.proofs.OutputLemmas.{AddsAllBut-start, AddsAllBut-more, AddsAllBut-same, Appends-from_all_but}
+use Rattle.swi_dispatch_guest.proofs.OutputLemmas.{AddsAllBut-start, AddsAllBut-more, AddsAllBut-same, Appends-from_all_but}
 use Rattle.swi_dispatch_guest.specs.Bytes.{Bytes}
 use Rattle.debugger.specs.Memory.{byte_text, bytes_text, line_text, lines_text, memory_text}
-use Rattle.profile.specs.Sums.{address_further}
+use Rattle.swi_dispatch_guest.specs.Sums.{address_further}
 
 pub no_bytes : (b : Bytes) (at left : ℕ) → left ≡ 0 → bytes_text b at left ≡ []
 unfolding bytes_text

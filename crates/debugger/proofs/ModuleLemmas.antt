@@ -4,7 +4,7 @@ use Rattle.std.specs.Prelude.{slice_get, option_map}
 use Rattle.std.specs.List.{flat_map}
 use Rattle.std.proofs.lemmas.List.{drop_more, drop_all}
 use Rattle.std.proofs.lemmas.Option.{slice_get-get_or}
-use Rattle.profile.proofs.OutputLemmas.{AddsAllBut-start, AddsAllBut-more, AddsAllBut-same, Appends-from_all_but}
+use Rattle.swi_dispatch_guest.proofs.OutputLemmas.{AddsAllBut-start, AddsAllBut-more, AddsAllBut-same, Appends-from_all_but}
 use Rattle.swi_dispatch_guest.specs.Bytes.{Bytes}
 use Rattle.swi_dispatch_guest.specs.Lookup.{shown_of_instance, shown_of_place, instance_count}
 use Rattle.swi_dispatch_guest.specs.Modules.{Instance, Module}

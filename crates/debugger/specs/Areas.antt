@@ -4,7 +4,7 @@
 use Rattle.std.specs.Prelude.{ℕ, ◌*◌, ◌++◌, List, codes}
 use Rattle.std.specs.Fmt.{decimal}
 use Rattle.std.specs.List.{flat_map}
-use Rattle.profile.specs.Digits.{hex_word}
+use Rattle.assembler_text.specs.Digits.{hex_word}
 use Rattle.swi_dispatch_guest.specs.Area.{Area}
 
 -- ` size 65536 max 4194304`

@@ -1,8 +1,8 @@
 -- Memory as instructions: a line for each word, with its address, its eight digits and its text; or
 -- a word that isn't mapped. Addresses count modulo 2^32.
 use Rattle.std.specs.Prelude.{ℕ, zero, suc, ◌+◌, ◌%◌, ◌^◌, List, [], ◌++◌, codes, Result, Ok, Err}
-use Rattle.profile.specs.Digits.{hex_word}
-use Rattle.profile.specs.Fault.{Fault}
+use Rattle.assembler_text.specs.Digits.{hex_word}
+use Rattle.swi_dispatch_guest.specs.Fault.{Fault}
 use Rattle.swi_dispatch_guest.specs.Bytes.{Bytes, word_loaded}
 use Rattle.assembler_text.specs.Printing.{print}
 

@@ -5,7 +5,7 @@
 use Rattle.std.specs.Prelude.{ℕ, ◌+◌, ◌++◌, List, [], ◌∷◌, codes, Option}
 use Rattle.std.specs.Option.{option_map}
 use Rattle.std.specs.Fmt.{decimal}
-use Rattle.profile.specs.Digits.{hex_word}
+use Rattle.assembler_text.specs.Digits.{hex_word}
 use Rattle.swi_dispatch_guest.specs.Item.{Item}
 use Rattle.swi_dispatch_guest.specs.Item.TheVariants.{Live, Free}
 use Rattle.swi_dispatch_guest.specs.Items.{total_of, size_of}

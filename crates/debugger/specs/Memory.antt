@@ -1,9 +1,9 @@
 -- Memory as text: lines of 16 bytes, each line with the address of its first byte. A byte is two
 -- hexadecimal digits after a space, or `--` where no memory is mapped. Addresses count modulo 2^32.
 use Rattle.std.specs.Prelude.{ℕ, zero, suc, ◌+◌, ◌-◌, ◌/◌, ◌%◌, ◌^◌, ◌++◌, min, List, [], ◌∷◌, codes, Result, Ok, Err}
-use Rattle.profile.specs.Sums.{address_further}
-use Rattle.profile.specs.Digits.{hex_digit, hex_word}
-use Rattle.profile.specs.Fault.{Fault}
+use Rattle.swi_dispatch_guest.specs.Sums.{address_further}
+use Rattle.assembler_text.specs.Digits.{hex_digit, hex_word}
+use Rattle.swi_dispatch_guest.specs.Fault.{Fault}
 use Rattle.swi_dispatch_guest.specs.Bytes.{Bytes, byte_loaded}
 
 abbrev pub hex_byte : ℕ → List ℕ

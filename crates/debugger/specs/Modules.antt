@@ -6,7 +6,7 @@ use Rattle.std.specs.Prelude.{ℕ, Bool, true, false, ◌+◌, ◌*◌, ◌++◌
 use Rattle.std.specs.Fmt.{decimal}
 use Rattle.std.specs.List.{flat_map}
 use Rattle.std.specs.Result.{result_unwrap_or}
-use Rattle.profile.specs.Digits.{hex_word}
+use Rattle.assembler_text.specs.Digits.{hex_word}
 use Rattle.swi_dispatch_guest.specs.Bytes.{Bytes, word_loaded}
 use Rattle.swi_dispatch_guest.specs.ModuleInfo.{ModuleInfo}
 use Rattle.swi_dispatch_guest.specs.InstanceInfo.{InstanceInfo}

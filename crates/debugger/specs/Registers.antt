@@ -1,7 +1,7 @@
 -- The registers as text: four lines of four, each a name of three places and eight hexadecimal
 -- digits, and a line of the status, a set flag in capitals.
 use Rattle.std.specs.Prelude.{ℕ, Bool, ◌+◌, ◌++◌, nat_lt, List, [], ◌∷◌, codes, if◌then◌else◌}
-use Rattle.profile.specs.Digits.{hex_word}
+use Rattle.assembler_text.specs.Digits.{hex_word}
 use Rattle.swi_dispatch_guest.specs.ArmCoreMode.{Mode}
 use Rattle.swi_dispatch_guest.specs.ArmCoreMode.TheVariants.{User, FastInterrupt, Interrupt, Supervisor}
 use Rattle.swi_dispatch_guest.specs.ArmCorePsr.{Psr}

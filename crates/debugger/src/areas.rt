@@ -1,14 +1,13 @@
 //! The view AREAS: each dynamic area, and the pool.
 
 ghost use Rattle.std.specs.List.{flat_map};
-ghost use Rattle.profile.specs.Output.{Writes};
+ghost use Rattle.swi_dispatch_guest.specs.Output.{Writes};
 ghost use Rattle.debugger.specs.Areas.{area_text, areas_text, area_extent_text, pool_text};
 ghost use Rattle.swi_dispatch_guest.specs.GuestState.{state_of};
 
+use assembler_text::HexText;
 use itoa::Buffer;
-use profile::memory_map::PAGE_SIZE;
-use profile::{HexText, Sink, WriteFault, push_parts};
-use swi_dispatch_guest::{Area, Machine};
+use swi_dispatch_guest::{Area, Machine, PAGE_SIZE, Sink, WriteFault, push_parts};
 
 /// Writes a line for each area by number, `area 1 base 01800000 size 65536 max 4194304 RMA`, with
 /// its size and its maximum in bytes, and then how many pages are in the pool, `pool 173 pages`.

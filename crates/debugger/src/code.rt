@@ -1,13 +1,12 @@
 //! Words of memory and their instructions, as text.
 
 ghost use Rattle.swi_dispatch_guest.specs.AddressMapMemory.{bytes_of};
-ghost use Rattle.profile.specs.Output.{Writes};
+ghost use Rattle.swi_dispatch_guest.specs.Output.{Writes};
 ghost use Rattle.debugger.specs.Code.{line_address_text, code_line, code_text, word_text};
 ghost use Rattle.swi_dispatch_guest.specs.GuestState.{state_of};
 
-use assembler_text::disassemble;
-use profile::{HexText, Sink, WriteFault, push_all, push_parts};
-use swi_dispatch_guest::{AddressMap, Machine};
+use assembler_text::{HexText, disassemble};
+use swi_dispatch_guest::{AddressMap, Machine, Sink, WriteFault, push_all, push_parts};
 
 /// Writes a line for each of `count` words from an address on: the word and its instruction, or
 /// that it isn't mapped. Addresses count modulo 2^32.

@@ -4,13 +4,15 @@ ghost use Rattle.std.specs.Prelude.{◌≡◌, ◌+◌, ◌&&◌, nat_le, ◌++�
 ghost use Rattle.swi_dispatch_guest.specs.AddressMapMemory.{bytes_of};
 ghost use Rattle.swi_dispatch_guest.specs.Listed.{all_listed};
 ghost use Rattle.swi_dispatch_guest.specs.State.{flex_in, IsFlex};
-ghost use Rattle.profile.specs.Output.{Writes};
+ghost use Rattle.swi_dispatch_guest.specs.Output.{Writes};
 ghost use Rattle.debugger.specs.Flex.{flex_blocks_text, flex_text, holder_in, flex_holder_text, own_text, range_text};
 ghost use Rattle.swi_dispatch_guest.specs.GuestState.{state_of};
 
+use assembler_text::HexText;
 use itoa::Buffer;
-use profile::{HexText, Sink, WriteFault, push_parts};
-use swi_dispatch_guest::{AddressMap, Flex, FlexBlock, FlexBlocks, Machine};
+use swi_dispatch_guest::{
+    AddressMap, Flex, FlexBlock, FlexBlocks, Machine, Sink, WriteFault, push_parts,
+};
 
 /// Writes the flex store, `flex 0000A000 0000A400 used 48`, and its blocks by address, as `block
 /// anchor 00009000 at 0000A008 size 10`, and ` in 0000A008 offset 8` at the end where the anchor

@@ -2,17 +2,18 @@
 
 ghost use Rattle.std.specs.Prelude.{◌≡◌, ◌≤◌, ◌+◌, ◌^◌, true, [], IsSome, IfOk, IfSome, OnOk, OnErr, is_some, unwrap_or};
 ghost use Rattle.std.specs.Io.KnownBytes.{Appends};
-ghost use Rattle.profile.specs.Output.{Writes};
+ghost use Rattle.swi_dispatch_guest.specs.Output.{Writes};
 ghost use Rattle.swi_dispatch_guest.specs.Items.{size_of};
 ghost use Rattle.swi_dispatch_guest.specs.HeapCalls.{items_of};
 ghost use Rattle.swi_dispatch_guest.specs.Store.{store_of, find_heap, IsSound};
 ghost use Rattle.debugger.specs.Heap.{use_text, limits_text, heap_item_text, heap_items_text, heap_text, heap_blocks_text};
 ghost use Rattle.swi_dispatch_guest.specs.GuestState.{state_of};
 
+use assembler_text::HexText;
 use itoa::Buffer;
-use profile::memory_map::HEAP_DESCRIPTOR;
-use profile::{HexText, Sink, WriteFault, push_parts};
-use swi_dispatch_guest::{AddressMap, Blocks, Item, Machine};
+use swi_dispatch_guest::{
+    AddressMap, Blocks, HEAP_DESCRIPTOR, Item, Machine, Sink, WriteFault, push_parts,
+};
 
 /// Where the words of a heap's descriptor stand that show its base and its end.
 const BASE: u32 = 8;

@@ -3,13 +3,13 @@
 ghost use Rattle.std.specs.Prelude.{◌≡◌, ◌<◌};
 ghost use Rattle.swi_dispatch_guest.specs.Bytes.{byte_loaded};
 ghost use Rattle.swi_dispatch_guest.specs.AddressMapMemory.{bytes_of};
-ghost use Rattle.profile.specs.Digits.{hex_digit};
-ghost use Rattle.profile.specs.Output.{Writes};
+ghost use Rattle.assembler_text.specs.Digits.{hex_digit};
+ghost use Rattle.swi_dispatch_guest.specs.Output.{Writes};
 ghost use Rattle.debugger.specs.Memory.{hex_byte, loaded_text, byte_text, bytes_text, line_text, memory_text};
 ghost use Rattle.swi_dispatch_guest.specs.GuestState.{state_of};
 
-use profile::{HexText, Sink, WriteFault, push_all, push_parts};
-use swi_dispatch_guest::{AddressMap, Machine};
+use assembler_text::HexText;
+use swi_dispatch_guest::{AddressMap, Machine, Sink, WriteFault, push_all, push_parts};
 
 /// How many bytes stand on a line.
 const LINE_BYTES: u32 = 16;

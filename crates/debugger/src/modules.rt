@@ -2,15 +2,17 @@
 
 ghost use Rattle.std.specs.Prelude.{◌≡◌, ◌<◌, slice_get};
 ghost use Rattle.swi_dispatch_guest.specs.AddressMapMemory.{bytes_of};
-ghost use Rattle.profile.specs.Output.{Writes};
+ghost use Rattle.swi_dispatch_guest.specs.Output.{Writes};
 ghost use Rattle.swi_dispatch_guest.specs.Lookup.{shown_of_place};
 ghost use Rattle.debugger.specs.Modules.{instance_line, instances_text, module_line, module_text, modules_text, one_text, preferred_text};
 ghost use Rattle.swi_dispatch_guest.specs.GuestState.{state_of};
 
+use assembler_text::HexText;
 use itoa::Buffer;
-use profile::memory_map::PRIVATE_WORDS;
-use profile::{HexText, Sink, WriteFault, push_parts};
-use swi_dispatch_guest::{AddressMap, InstanceInfo, Instances, Machine, ModuleInfo};
+use swi_dispatch_guest::{
+    AddressMap, InstanceInfo, Instances, Machine, ModuleInfo, PRIVATE_WORDS, Sink, WriteFault,
+    push_parts,
+};
 
 /// Writes a line for each module, oldest first, `module Title at 01800014 length 47`, and under it
 /// a line for each of its instances, `  Base word 01C02000 00000000 preferred`, with the address of

@@ -1,12 +1,12 @@
 //! The view REGS: the registers of the present mode and the status.
 
 ghost use Rattle.std.specs.Prelude.{◌≡◌, ◌≤◌, ◌++◌, codes};
-ghost use Rattle.profile.specs.Output.{Writes};
+ghost use Rattle.swi_dispatch_guest.specs.Output.{Writes};
 ghost use Rattle.debugger.specs.Registers.{register_label, row_text, flags_and_mode_text, status_text, cpu_registers_text, flag_letter, flag_letters, mode_text};
 ghost use Rattle.swi_dispatch_guest.specs.GuestState.{state_of};
 
-use profile::{HexText, Sink, WriteFault, push_all, push_parts};
-use swi_dispatch_guest::{Cpu, Machine, Mode, Psr};
+use assembler_text::HexText;
+use swi_dispatch_guest::{Cpu, Machine, Mode, Psr, Sink, WriteFault, push_all, push_parts};
 
 /// Writes the registers of the present mode, four on a line, and a line of the status, in which a
 /// set flag stands in capitals.

@@ -28,6 +28,9 @@ pub use Rattle.os_heap.specs.Store
 pub use Rattle.os_heap.specs.Words
 pub use Rattle.os_heap.specs.declared.payload.Payload
 pub use Rattle.os_heap.specs.lists
+pub use Rattle.profile.specs.ErrorNumber
+pub use Rattle.profile.specs.MemoryMap
+pub use Rattle.profile.specs.Outcome
 pub mod Areas
 pub mod Changing
 pub mod Creating

@@ -23,5 +23,6 @@ pub use os_heap::{
     AddressMap, BASE, BlockMove, Blocks, Heaps, Item, Kind, Payload, changed_by, follow, make,
     mark_item, moved_to, put, put_free, put_link, round_up_8, total_for, word,
 };
+pub use profile::{ErrorNumber, HEAP_DESCRIPTOR, PAGE_SIZE, RMA_MAXIMUM, RMA_START};
 pub use start::start_memory;
 pub use table::MODULE_AREA;

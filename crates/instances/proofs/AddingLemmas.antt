@@ -32,7 +32,7 @@ use Rattle.instances_table.specs.Modules.{Module}
 use Rattle.rma.proofs.FlexFrameLemmas.Keeping.{keeps_same}
 use Rattle.rma.specs.AddressMap.{AddressMap}
 use Rattle.rma.specs.Areas.{AreaTable}
-use Rattle.profile.specs.ErrorNumber.{ErrorNumber}
+use Rattle.instances_table.specs.ErrorNumber.{ErrorNumber}
 
 -- where no record lies no image begins, since none is empty
 pub no_image : (at : ℕ) (rs : List Region) → AreSolid rs → is_in_record rs at ≡ false → has_image at rs ≡ false

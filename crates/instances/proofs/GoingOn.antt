@@ -4,9 +4,9 @@ use Rattle.std.proofs.Common.{◌≡◌, ◌==◌, ℕ, Bool, true, false, Some,
 use Rattle.std.specs.Prelude.{IfOk, Option, Result, if◌then◌else◌, slice_get}
 use Rattle.std.specs.Str.{str_eq_ignore_ascii_case}
 use Rattle.std.proofs.lemmas.Bool.{cases_Bool, false≢true}
-use Rattle.profile.specs.Outcome.{Leaves, bind}
-use Rattle.profile.specs.ErrorNumber.{ErrorNumber}
-use Rattle.profile.specs.ErrorNumber.TheVariants.{InstanceExists}
+use Rattle.instances_table.specs.Outcome.{Leaves, bind}
+use Rattle.instances_table.specs.ErrorNumber.{ErrorNumber}
+use Rattle.instances_table.specs.ErrorNumber.TheVariants.{InstanceExists}
 use Rattle.instances_table.specs.plans.Header.{Header}
 use Rattle.rma.specs.Ground.{AreaStore, IsAreaStore}
 use Rattle.instances_table.specs.declared.plans.action.PlanAction.{PlanAction}

@@ -3,9 +3,9 @@
 use Rattle.std.proofs.Common.{◌≡◌, ℕ, ◌==◌, Bool, true, false, Ok, Err, IfOk, List, [], ◌∷◌, ◌++◌, refl, sym, ap, subst, ◌∙◌, inl, inr}
 use Rattle.std.specs.Prelude.{Result, if◌then◌else◌, length, not}
 use Rattle.std.proofs.lemmas.Bool.{cases_Bool, eqb-true, false≢true, or_parts}
-use Rattle.profile.specs.Outcome.{Gives, bind}
-use Rattle.profile.specs.ErrorNumber.{ErrorNumber}
-use Rattle.profile.specs.ErrorNumber.TheVariants.{BadPointer, BadString}
+use Rattle.instances_table.specs.Outcome.{Gives, bind}
+use Rattle.instances_table.specs.ErrorNumber.{ErrorNumber}
+use Rattle.instances_table.specs.ErrorNumber.TheVariants.{BadPointer, BadString}
 use Rattle.rma.specs.Bytes.{bytes_between}
 use Rattle.instances_table.specs.plans.HeaderFault.{HeaderFault}
 use Rattle.instances_table.specs.plans.Header.{Header}

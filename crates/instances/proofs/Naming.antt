@@ -1,6 +1,6 @@
 -- A call that is carried on comes to no instance that its plan doesn't name: such a slot is not
 -- named later, and is used after as before.
-use Rattle.profile.specs.MemoryMap.{environment_text_start}
+use Rattle.instances_table.specs.MemoryMap.{environment_text_start}
 use Rattle.std.proofs.Common.{◌≡◌, ℕ, ◌==◌, ◌||◌, Bool, true, false, Some, None, List, [], ◌∷◌, ◌++◌, refl, sym, ap, subst, ◌∙◌, inl, inr, zero, suc, arith}
 use Rattle.std.proofs.Math.Bool.{or-false}
 use Rattle.std.specs.Prelude.{IfSome, Option, if◌then◌else◌, slice_get}

@@ -7,9 +7,9 @@ use Rattle.std.specs.Str.{str_eq_ignore_ascii_case}
 use Rattle.std.proofs.lemmas.Bool.{cases_Bool, or_left, or_right}
 use Rattle.std.proofs.lemmas.List.Quantifiers.{position-Some}
 use Rattle.std.proofs.lemmas.Option.{slice_get-get_or}
-use Rattle.profile.specs.Outcome.{bind}
-use Rattle.profile.specs.ErrorNumber.{ErrorNumber}
-use Rattle.profile.specs.ErrorNumber.TheVariants.{InstanceExists, InstanceTableFull, ModuleNotFound}
+use Rattle.instances_table.specs.Outcome.{bind}
+use Rattle.instances_table.specs.ErrorNumber.{ErrorNumber}
+use Rattle.instances_table.specs.ErrorNumber.TheVariants.{InstanceExists, InstanceTableFull, ModuleNotFound}
 use Rattle.arrayvec.specs.ArrayVec.{ArrayVec}
 use Rattle.instances_table.specs.declared.plans.action.PlanAction.TheVariants.{Insert, Initialise}
 use Rattle.instances_table.specs.declared.plans.given.Given.{Given}

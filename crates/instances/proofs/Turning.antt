@@ -1,5 +1,5 @@
 -- A turn of a call: what it makes of the module state and of the plan, and that both go on well.
-use Rattle.profile.specs.MemoryMap.{module_area_start}
+use Rattle.instances_table.specs.MemoryMap.{module_area_start}
 use Rattle.std.proofs.Common.{◌≡◌, ℕ, Bool, true, false, Some, None, inl, inr, List, [], ◌∷◌, map, refl, sym, ap, subst, ◌∙◌}
 use Rattle.std.specs.Prelude.{Option, if◌then◌else◌}
 use Rattle.std.proofs.lemmas.Bool.{cases_Bool, false≢true}

@@ -3,9 +3,9 @@
 -- the image; and the plan of the rest. The order of the refusals, the slots, and that an image in
 -- place meets nothing else that is recorded, are this project's own.
 use Rattle.std.specs.Prelude.{◌≡◌, ℕ, not, List, [], length, ok_or, IfOk, MatchResult, Result, Ok, Err, if◌then◌else◌}
-use Rattle.profile.specs.Outcome.{bind}
-use Rattle.profile.specs.ErrorNumber.{ErrorNumber}
-use Rattle.profile.specs.ErrorNumber.TheVariants.{BadPointer, BadString, ModuleBadHeader, InstanceTableFull}
+use Rattle.instances_table.specs.Outcome.{bind}
+use Rattle.instances_table.specs.ErrorNumber.{ErrorNumber}
+use Rattle.instances_table.specs.ErrorNumber.TheVariants.{BadPointer, BadString, ModuleBadHeader, InstanceTableFull}
 use Rattle.rma.specs.Bytes.{bytes_between}
 use Rattle.rma.specs.Memory.{mapping}
 use Rattle.rma.specs.AddressMap.{AddressMap}

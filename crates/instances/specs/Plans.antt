@@ -1,9 +1,9 @@
 -- The plans of the calls on instances that are there (RISC OS 3 Programmer's Reference Manual,
 -- "OS_Module", reasons 3, 4, 8 and 9).
 use Rattle.std.specs.Prelude.{ℕ, List, [], Result, Ok, Err, if◌then◌else◌}
-use Rattle.profile.specs.Outcome.{bind}
-use Rattle.profile.specs.ErrorNumber.{ErrorNumber}
-use Rattle.profile.specs.ErrorNumber.TheVariants.{BadString}
+use Rattle.instances_table.specs.Outcome.{bind}
+use Rattle.instances_table.specs.ErrorNumber.{ErrorNumber}
+use Rattle.instances_table.specs.ErrorNumber.TheVariants.{BadString}
 use Rattle.instances_table.specs.plans.Calls.{delete_plan, clear_plan, reinit_plan, tidy_plan}
 use Rattle.instances_table.specs.plans.Plans.{Plan}
 use Rattle.instances_table.specs.Modules.{Module, slots_of}

@@ -1,8 +1,8 @@
 -- What the calls answer that read of the modules and of their private words (RISC OS 3 Programmer's
 -- Reference Manual, "OS_Module", reasons 2, 12 and 18).
 use Rattle.std.specs.Prelude.{ℕ, ◌+◌, ◌%◌, ◌^◌, ◌==◌, List, Option, Some, None, Result, Ok, if◌then◌else◌}
-use Rattle.profile.specs.Outcome.{bind}
-use Rattle.profile.specs.ErrorNumber.{ErrorNumber}
+use Rattle.instances_table.specs.Outcome.{bind}
+use Rattle.instances_table.specs.ErrorNumber.{ErrorNumber}
 use Rattle.rma.specs.Bytes.{word_at}
 use Rattle.instances_table.specs.plans.Code.{private_of}
 use Rattle.instances_table.specs.declared.parts.Place.{Place}

@@ -1,6 +1,6 @@
 //! The calls that add a module whose image gets a block of the module area.
 ghost use Rattle.std.specs.Prelude.{◌≡◌, ◌≤◌, ◌<◌, ◌∷◌, [], false, length, IfOk, Ok};
-ghost use Rattle.profile.specs.Outcome.{Gives};
+ghost use Rattle.instances_table.specs.Outcome.{Gives};
 ghost use Rattle.rma.specs.Bytes.{bytes_between, AreMapped};
 ghost use Rattle.rma.specs.Memory.{is_mapped};
 ghost use Rattle.rma.specs.Store.{store_of};
@@ -16,8 +16,7 @@ use crate::given::{given_module, is_too_long};
 use crate::instances::Instances;
 use instances_table::Image;
 use instances_table::plans::{Header, HeaderFault, Plan};
-use profile::ErrorNumber;
-use rma::{AddressMap, Areas, Rma};
+use rma::{AddressMap, Areas, ErrorNumber, Rma};
 
 impl Instances {
     /// Loads a module: its image gets a block of the module area at once. Then the instances of an

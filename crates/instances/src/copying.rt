@@ -1,6 +1,6 @@
 //! The calls that add a module whose image is a copy of bytes in memory.
 ghost use Rattle.std.specs.Prelude.{◌≡◌, false, true, IfOk, Ok};
-ghost use Rattle.profile.specs.Outcome.{Gives};
+ghost use Rattle.instances_table.specs.Outcome.{Gives};
 ghost use Rattle.rma.specs.Bytes.{bytes_between};
 ghost use Rattle.rma.specs.Ground.{area_store_of};
 ghost use Rattle.rma.specs.Store.{store_of};
@@ -15,8 +15,7 @@ use crate::adding::header_at;
 use crate::instances::Instances;
 use instances_table::Image;
 use instances_table::plans::{Header, Plan};
-use profile::ErrorNumber;
-use rma::{AddressMap, Areas, Rma};
+use rma::{AddressMap, Areas, ErrorNumber, Rma};
 
 impl Instances {
     /// Inserts a module whose image is a copy of the `len` bytes from an address on: it gets a

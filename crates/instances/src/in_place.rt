@@ -1,6 +1,6 @@
 //! The calls that add a module whose image stays where it stands.
 ghost use Rattle.std.specs.Prelude.{◌≡◌, false, true, IfOk, Ok};
-ghost use Rattle.profile.specs.Outcome.{Gives};
+ghost use Rattle.instances_table.specs.Outcome.{Gives};
 ghost use Rattle.rma.specs.Bytes.{bytes_between};
 ghost use Rattle.rma.specs.Store.{store_of};
 ghost use Rattle.rma.specs.NewImages.{may_be_in_place};
@@ -14,8 +14,7 @@ use crate::adding::header_at;
 use crate::instances::Instances;
 use instances_table::Image;
 use instances_table::plans::{Header, Plan};
-use profile::ErrorNumber;
-use rma::{AddressMap, Areas, Rma};
+use rma::{AddressMap, Areas, ErrorNumber, Rma};
 
 impl Instances {
     /// Inserts a module whose image is the `len` bytes from an address on, which are recorded as an

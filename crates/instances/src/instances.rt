@@ -1,7 +1,7 @@
 //! The modules of a machine and their instances: looked up, described, named and preferred.
 
 ghost use Rattle.std.specs.Prelude.{◌≡◌, ◌<◌, [], Option, option_map, slice_get, IfSome};
-ghost use Rattle.profile.specs.Outcome.{Leaves};
+ghost use Rattle.instances_table.specs.Outcome.{Leaves};
 ghost use Rattle.rma.specs.Bytes.{AreMapped};
 ghost use Rattle.rma.specs.Memory.{byte_at, is_mapped};
 ghost use Rattle.rma.specs.Ground.{AreaStore};
@@ -15,8 +15,7 @@ ghost use Rattle.instances.specs.Turns.{MayGoOn};
 use crate::answers::{Found, Reported};
 use crate::module_state::private_value;
 use instances_table::{InstanceInfo, InstanceTable, ModuleInfo, Place};
-use profile::ErrorNumber;
-use rma::AddressMap;
+use rma::{AddressMap, ErrorNumber};
 use std::marker::Model;
 
 /// The modules of a machine and their instances.

@@ -7,7 +7,7 @@ ghost use Rattle.instances.specs.Adding.{instantiation};
 use crate::given::{given_instance, is_too_long};
 use crate::instances::Instances;
 use instances_table::plans::Plan;
-use profile::ErrorNumber;
+use rma::ErrorNumber;
 
 impl Instances {
     /// A new instance of a module, `Title%Name`, is added and initialised with a text.

@@ -9,7 +9,7 @@ ghost use Rattle.instances.specs.Plans.{clearing, deletion, reinitialisation, ti
 use crate::given::{given_only, is_too_long};
 use crate::instances::Instances;
 use instances_table::plans::Plan;
-use profile::ErrorNumber;
+use rma::ErrorNumber;
 
 impl Instances {
     /// The instance that a name means, as `lookup` takes it, is finalised and removed.

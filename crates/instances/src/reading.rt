@@ -11,7 +11,7 @@ use crate::answers::Start;
 use crate::instances::Instances;
 use arrayvec::ArrayVec;
 use instances_table::{Handler, MOST_INSTANCES, ModuleInfo};
-use profile::ErrorNumber;
+use rma::ErrorNumber;
 
 impl Instances {
     /// How many modules there are, at most 64.

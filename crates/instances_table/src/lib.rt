@@ -21,4 +21,5 @@ pub mod table;
 pub use images::is_in_module_area;
 pub use loaded::MOST_INSTANCES;
 pub use parts::{Handler, Image, Information, InstanceInfo, ModuleInfo, Name, NewInstance, Place};
+pub use profile::{ENVIRONMENT_TEXT, error_text};
 pub use table::InstanceTable;

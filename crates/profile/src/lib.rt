@@ -21,6 +21,9 @@ pub mod word;
 pub use config::Config;
 pub use device::Device;
 pub use digits::HexText;
+pub use raw_store::memory_map::{
+    ENVIRONMENT_TEXT, HEAP_DESCRIPTOR, MOST_BYTES, PAGE_SIZE, PRIVATE_WORDS, RMA_MAXIMUM, RMA_START,
+};
 pub use raw_store::{ErrorNumber, Fault, ImageBytes, error_text, memory_map};
 pub use reason::{AreaReason, HeapReason, ModuleReason};
 pub use sink::{MemorySink, Sink, WriteFault, push_all, push_parts};

@@ -1,8 +1,8 @@
 -- The area store after calls on the module area's heap alone.
 use Rattle.std.proofs.Common.{◌≡◌, ℕ, true, false, sym, ap, subst, ◌∙◌, Ok, Err}
 use Rattle.std.specs.Prelude.{Result, is_ok}
-use Rattle.profile.specs.Outcome.{Gives, bind}
-use Rattle.profile.specs.ErrorNumber.{ErrorNumber}
+use Rattle.dynamic_areas.specs.Outcome.{Gives, bind}
+use Rattle.dynamic_areas.specs.ErrorNumber.{ErrorNumber}
 use Rattle.dynamic_areas.specs.Memory.{Mapping, mapping, free_pages}
 use Rattle.dynamic_areas.specs.AddressMap.{AddressMap}
 use Rattle.dynamic_areas.specs.Store.{Store, store_of}

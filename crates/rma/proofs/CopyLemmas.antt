@@ -1,5 +1,5 @@
 -- The bytes of the module area that a copy may be made of are those that one live block holds.
-use Rattle.profile.specs.MemoryMap.{module_area_start}
+use Rattle.dynamic_areas.specs.MemoryMap.{module_area_start}
 use Rattle.std.proofs.Common.{◌≡◌, ◌≢◌, ℕ, ◌+◌, ◌-◌, ◌*◌, ◌<◌, ◌≤◌, ◌⊎◌, Bool, true, false, Some, List, [], ◌∷◌, max, min, zero, suc, refl, sym, ap, subst, ◌∙◌, inl, inr, arith}
 use Rattle.std.specs.Prelude.{Option, nat_lt}
 use Rattle.std.specs.List.{list_any, range_with_len}

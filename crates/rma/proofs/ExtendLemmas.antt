@@ -1,11 +1,11 @@
 -- Blocks of the module area, and where a change of one is sure to be done once the area is grown.
-use Rattle.profile.specs.MemoryMap.{module_area_start}
+use Rattle.dynamic_areas.specs.MemoryMap.{module_area_start}
 use Rattle.std.proofs.Common.{if◌then◌else◌, ◌≡◌, ◌≢◌, ℕ, ◌+◌, ◌-◌, ◌==◌, ◌*◌, ◌^◌, ◌<◌, ◌≤◌, ◌⊎◌, Bool, true, false, refl, sym, ap, subst, ◌∙◌, Some, None, Ok, Err, inl, inr, arith}
 use Rattle.std.specs.Prelude.{Option, Result, is_some, is_ok, nat_le, ok_or}
 use Rattle.std.proofs.lemmas.Bool.{both_ways, cases_Bool, eq-eqb, eqb-true, leb-true, leb-false}
-use Rattle.profile.specs.Outcome.{Gives, bind}
-use Rattle.profile.specs.ErrorNumber.{ErrorNumber}
-use Rattle.profile.specs.ErrorNumber.TheVariants.{BlockHoldsHeap, HeapBadDesc, HeapNotABlock, RmaBlockHoldsHeap, RmaNoRoom}
+use Rattle.dynamic_areas.specs.Outcome.{Gives, bind}
+use Rattle.dynamic_areas.specs.ErrorNumber.{ErrorNumber}
+use Rattle.dynamic_areas.specs.ErrorNumber.TheVariants.{BlockHoldsHeap, HeapBadDesc, HeapNotABlock, RmaBlockHoldsHeap, RmaNoRoom}
 use Rattle.dynamic_areas.specs.Items.{size_of}
 use Rattle.dynamic_areas.specs.Memory.{bytes_of}
 use Rattle.dynamic_areas.specs.AddressMap.{AddressMap}

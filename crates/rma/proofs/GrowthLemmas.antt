@@ -1,11 +1,11 @@
 -- The module area where it grows: how far its heap reaches then.
-use Rattle.profile.specs.MemoryMap.{module_area_start}
+use Rattle.dynamic_areas.specs.MemoryMap.{module_area_start}
 use Rattle.std.proofs.Common.{◌≡◌, ◌==◌, ℕ, Bool, ◌||◌, ◌+◌, ◌-◌, ◌*◌, ◌/◌, ◌<◌, ◌≤◌, List, [], ◌∷◌, true, false, refl, sym, ap, ◌∙◌, subst, Some, None, Ok, Err, inl, inr, arith}
 use Rattle.std.specs.Prelude.{Option, Result, is_ok, is_some, nat_le, nat_lt, min}
 use Rattle.std.proofs.lemmas.Bool.{cases_Bool, cases_lt, lt-ltb, le-ltb, le-leb, lt-leb, leb-false, leb-true, ltb-true, ltb-false}
-use Rattle.profile.specs.Outcome.{Leaves}
-use Rattle.profile.specs.ErrorNumber.{ErrorNumber}
-use Rattle.profile.specs.ErrorNumber.TheVariants.{AreaNoPages, RmaNoRoom}
+use Rattle.dynamic_areas.specs.Outcome.{Leaves}
+use Rattle.dynamic_areas.specs.ErrorNumber.{ErrorNumber}
+use Rattle.dynamic_areas.specs.ErrorNumber.TheVariants.{AreaNoPages, RmaNoRoom}
 use Rattle.dynamic_areas.specs.Bytes.{in_range}
 use Rattle.dynamic_areas.specs.Heap.{HeapList, AreTotals}
 use Rattle.dynamic_areas.specs.Calls.{with_end}

@@ -1,5 +1,5 @@
 -- Records of images in the module area: one more, and one less.
-use Rattle.profile.specs.MemoryMap.{module_area_start}
+use Rattle.dynamic_areas.specs.MemoryMap.{module_area_start}
 use Rattle.std.proofs.Common.{◌≡◌, ◌≢◌, ℕ, ◌+◌, ◌-◌, ◌==◌, ◌%◌, ◌&&◌, ◌<◌, ◌≤◌, ◌⊎◌, Bool, true, false, List, [], ◌∷◌, ◌++◌, length, refl, sym, ap, subst, ◌∙◌, Some, None, Ok, inl, inr, arith, length-append}
 use Rattle.std.specs.Prelude.{Option}
 use Rattle.std.proofs.lemmas.Bool.{and_parts, cases_Bool, both_ways, false_from_ne_true, false≢true, eq-eqb, le-leb, lt-ltb, or_parts}

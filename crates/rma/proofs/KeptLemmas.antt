@@ -1,10 +1,10 @@
 -- What calls on the module area keep: nothing done, a call of the heap, and one call after another.
-use Rattle.profile.specs.MemoryMap.{module_area_start}
+use Rattle.dynamic_areas.specs.MemoryMap.{module_area_start}
 use Rattle.std.proofs.Common.{◌≡◌, List, ℕ, true, refl, ap, ◌∙◌}
 use Rattle.std.specs.List.{filter}
 use Rattle.std.specs.Prelude.{Option, Result, is_some}
-use Rattle.profile.specs.Outcome.{Gives}
-use Rattle.profile.specs.ErrorNumber.{ErrorNumber}
+use Rattle.dynamic_areas.specs.Outcome.{Gives}
+use Rattle.dynamic_areas.specs.ErrorNumber.{ErrorNumber}
 use Rattle.dynamic_areas.specs.Bytes.{AreMapped}
 use Rattle.dynamic_areas.specs.Memory.{Layout, Mapping, is_mapped, layout, mapping, place, regions}
 use Rattle.dynamic_areas.specs.AddressMap.{AddressMap}

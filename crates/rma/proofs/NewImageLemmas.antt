@@ -2,10 +2,10 @@
 use Rattle.std.proofs.Common.{◌≡◌, ℕ, ◌+◌, ◌%◌, ◌-◌, ◌<◌, ◌≤◌, true, false, List, [], ◌∷◌, ◌++◌, length, refl, sym, ap, subst, ◌∙◌, Some, None, Ok, Err, arith}
 use Rattle.std.specs.Prelude.{MatchResult, Option, Result}
 use Rattle.std.proofs.lemmas.Bool.{both_ways, false_from_ne_true, le-leb, lt-ltb}
-use Rattle.profile.specs.MemoryMap.{module_area_maximum, module_area_start}
-use Rattle.profile.specs.Outcome.{Gives}
-use Rattle.profile.specs.ErrorNumber.{ErrorNumber}
-use Rattle.profile.specs.ErrorNumber.TheVariants.{RmaNoRoom}
+use Rattle.dynamic_areas.specs.MemoryMap.{module_area_maximum, module_area_start}
+use Rattle.dynamic_areas.specs.Outcome.{Gives}
+use Rattle.dynamic_areas.specs.ErrorNumber.{ErrorNumber}
+use Rattle.dynamic_areas.specs.ErrorNumber.TheVariants.{RmaNoRoom}
 use Rattle.dynamic_areas.proofs.Equations.{stored_bytes, stored_moved}
 use Rattle.dynamic_areas.proofs.InRange.{range_inside}
 use Rattle.dynamic_areas.specs.Bytes.{AreMapped, Bytes, in_range, with_bytes, with_bytes_at, with_moved, with_moved_at}

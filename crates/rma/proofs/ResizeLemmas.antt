@@ -2,9 +2,9 @@
 use Rattle.std.proofs.Common.{if◌then◌else◌, ◌≡◌, ◌≢◌, ℕ, ◌+◌, ◌-◌, ◌==◌, ◌<◌, ◌≤◌, ◌⊎◌, Bool, true, false, List, [], ◌∷◌, refl, sym, ap, ◌∙◌, Some, None, Ok, Err, inl, inr, option_map, arith}
 use Rattle.std.specs.Prelude.{Option, Result, is_some, is_ok, ok_or, nat_le}
 use Rattle.std.proofs.lemmas.Bool.{cases_Bool, cases_eq, le-leb, leb-true, eqb-true, false_from_ne_true}
-use Rattle.profile.specs.Outcome.{bind}
-use Rattle.profile.specs.ErrorNumber.{ErrorNumber}
-use Rattle.profile.specs.ErrorNumber.TheVariants.{BlockHoldsHeap, HeapNoRoom, HeapNotABlock}
+use Rattle.dynamic_areas.specs.Outcome.{bind}
+use Rattle.dynamic_areas.specs.ErrorNumber.{ErrorNumber}
+use Rattle.dynamic_areas.specs.ErrorNumber.TheVariants.{BlockHoldsHeap, HeapNoRoom, HeapNotABlock}
 use Rattle.dynamic_areas.proofs.Anchors.{among_none, none_among}
 use Rattle.dynamic_areas.specs.Items.{size_of}
 use Rattle.dynamic_areas.specs.Records.{anchor_among}

@@ -1,11 +1,11 @@
 -- A claim without growth, and the release of its block.
-use Rattle.profile.specs.MemoryMap.{module_area_start}
+use Rattle.dynamic_areas.specs.MemoryMap.{module_area_start}
 use Rattle.std.proofs.Common.{◌≡◌, ◌≢◌, ℕ, ◌+◌, ◌-◌, ◌≤◌, true, false, refl, sym, ap, subst, ◌∙◌, Some, None, Ok, Err, inl, inr, arith}
 use Rattle.std.specs.Prelude.{Option, Result, is_some, ok_or}
 use Rattle.std.proofs.lemmas.Bool.{both_ways, false_from_ne_true, false≢true, le-leb, lt-ltb}
-use Rattle.profile.specs.Outcome.{bind}
-use Rattle.profile.specs.ErrorNumber.{ErrorNumber}
-use Rattle.profile.specs.ErrorNumber.TheVariants.{HeapNoRoom}
+use Rattle.dynamic_areas.specs.Outcome.{bind}
+use Rattle.dynamic_areas.specs.ErrorNumber.{ErrorNumber}
+use Rattle.dynamic_areas.specs.ErrorNumber.TheVariants.{HeapNoRoom}
 use Rattle.dynamic_areas.proofs.Anchors.{among_none}
 use Rattle.dynamic_areas.specs.Bytes.{in_range}
 use Rattle.dynamic_areas.specs.Items.{is_total, size_of}

@@ -2,11 +2,11 @@
 -- pages (RISC OS 3 Programmer's Reference Manual, "OS_Module", reasons 5, 6, 7 and 13; the numbers
 -- and the order of the refusals, and that the area grows by the fewest pages that suffice, are this
 -- project's own). All sums are exact.
-use Rattle.profile.specs.MemoryMap.{module_area_start}
+use Rattle.dynamic_areas.specs.MemoryMap.{module_area_start}
 use Rattle.std.specs.Prelude.{ℕ, Bool, true, false, ◌+◌, ◌-◌, ◌*◌, ◌==◌, nat_le, nat_lt, Option, Some, None, Result, Ok, Err, if◌then◌else◌}
-use Rattle.profile.specs.Outcome.{bind}
-use Rattle.profile.specs.ErrorNumber.{ErrorNumber}
-use Rattle.profile.specs.ErrorNumber.TheVariants.{HeapNotABlock, HeapHoldsAnchor, HeapNoRoom, BlockHoldsHeap, RmaNotABlock, RmaHoldsAnchor, RmaNoRoom, RmaBlockHoldsHeap}
+use Rattle.dynamic_areas.specs.Outcome.{bind}
+use Rattle.dynamic_areas.specs.ErrorNumber.{ErrorNumber}
+use Rattle.dynamic_areas.specs.ErrorNumber.TheVariants.{HeapNotABlock, HeapHoldsAnchor, HeapNoRoom, BlockHoldsHeap, RmaNotABlock, RmaHoldsAnchor, RmaNoRoom, RmaBlockHoldsHeap}
 use Rattle.dynamic_areas.specs.OsHeapWordsLists.{round_up_8, total_for, changed_by}
 use Rattle.dynamic_areas.specs.Calls.{heap_description, store_after_get, gave_back, store_after_resize, block_sized}
 use Rattle.dynamic_areas.specs.Forgetting.{holds_heap}

@@ -1,7 +1,7 @@
 -- Which bytes a copy may be made of, as a module image (RISC OS 3 Programmer's Reference Manual,
 -- "OS_Module", reason 11; that of the module area only what live blocks hold is copied is this
 -- project's own).
-use Rattle.profile.specs.MemoryMap.{module_area_start}
+use Rattle.dynamic_areas.specs.MemoryMap.{module_area_start}
 use Rattle.std.specs.Prelude.{ℕ, ◌*◌, ◌&&◌, not, Bool}
 use Rattle.std.specs.List.{list_any, range_with_len}
 use Rattle.dynamic_areas.specs.Bytes.{in_range}

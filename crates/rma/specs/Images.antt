@@ -1,9 +1,9 @@
 -- Module images in the module area: each is a live block there, recorded over all bytes that the
 -- block holds, which no heap call gives back or moves until the record goes (RISC OS 3 Programmer's
 -- Reference Manual, "OS_Module", reasons 1, 4 and 11).
-use Rattle.profile.specs.MemoryMap.{module_area_start}
+use Rattle.dynamic_areas.specs.MemoryMap.{module_area_start}
 use Rattle.std.specs.Prelude.{ℕ, ◌≡◌, ◌<◌, true, false, length, IfOk, Result, Ok, Err, [], ◌∷◌, ◌++◌}
-use Rattle.profile.specs.ErrorNumber.{ErrorNumber}
+use Rattle.dynamic_areas.specs.ErrorNumber.{ErrorNumber}
 use Rattle.dynamic_areas.specs.Kind.TheVariants as kind
 use Rattle.dynamic_areas.specs.Records.{without_region}
 use Rattle.dynamic_areas.specs.Calls.{OfHeap, block_sized, gave_back}

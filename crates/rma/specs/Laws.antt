@@ -1,8 +1,8 @@
 -- Laws of the module area, said in other words than its calls (RISC OS 3 Programmer's
 -- Reference Manual, "OS_Module", reasons 6 and 7).
-use Rattle.profile.specs.MemoryMap.{module_area_start}
+use Rattle.dynamic_areas.specs.MemoryMap.{module_area_start}
 use Rattle.std.specs.Prelude.{ℕ, ◌≡◌, false, Result, Ok, Err}
-use Rattle.profile.specs.ErrorNumber.{ErrorNumber}
+use Rattle.dynamic_areas.specs.ErrorNumber.{ErrorNumber}
 use Rattle.dynamic_areas.specs.Calls.{store_after_get, items_of}
 use Rattle.dynamic_areas.specs.Store.{has_image}
 use Rattle.dynamic_areas.specs.Ground.{AreaStore, IsAreaStore}

@@ -1,10 +1,10 @@
 -- New images in the module area: a block is claimed, the image gets its bytes there, and the block
 -- is recorded as an image (RISC OS 3 Programmer's Reference Manual, "OS_Module", reasons 1 and 11).
 -- An image in place keeps its bytes, and is recorded over exactly these (reason 10).
-use Rattle.profile.specs.MemoryMap.{module_area_start}
+use Rattle.dynamic_areas.specs.MemoryMap.{module_area_start}
 use Rattle.std.specs.Prelude.{ℕ, ◌≡◌, ◌+◌, ◌-◌, ◌==◌, ◌%◌, ◌&&◌, not, Bool, List, length, Some, Result, Ok, [], ◌∷◌, ◌++◌}
-use Rattle.profile.specs.Outcome.{bind}
-use Rattle.profile.specs.ErrorNumber.{ErrorNumber}
+use Rattle.dynamic_areas.specs.Outcome.{bind}
+use Rattle.dynamic_areas.specs.ErrorNumber.{ErrorNumber}
 use Rattle.dynamic_areas.specs.Kind.TheVariants as kind
 use Rattle.dynamic_areas.specs.Region.{Region}
 use Rattle.dynamic_areas.specs.Bytes.{with_bytes}

@@ -4,9 +4,7 @@ ghost use Rattle.std.specs.Prelude.{◌≡◌, Ok};
 ghost use Rattle.dynamic_areas.specs.Store.{store_of, IsSound};
 ghost use Rattle.rma.specs.Calls.{rma_described};
 
-use dynamic_areas::{AddressMap, Heaps};
-use profile::ErrorNumber;
-use profile::memory_map::RMA_START;
+use dynamic_areas::{AddressMap, ErrorNumber, Heaps, RMA_START};
 
 /// The module area's heap. It stands in the words of memory alone.
 #[derive(Clone, Copy, Default)]

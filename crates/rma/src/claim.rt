@@ -1,8 +1,8 @@
 //! OS_Module 6: a block is claimed, and the area grows where no room is left.
 
 ghost use Rattle.std.specs.Prelude.{◌≡◌, ◌+◌, ◌-◌, false, true, IfOk};
-ghost use Rattle.profile.specs.MemoryMap.{module_area_maximum, module_area_start};
-ghost use Rattle.profile.specs.Outcome.{Gives};
+ghost use Rattle.dynamic_areas.specs.MemoryMap.{module_area_maximum, module_area_start};
+ghost use Rattle.dynamic_areas.specs.Outcome.{Gives};
 ghost use Rattle.dynamic_areas.specs.Bytes.{in_range};
 ghost use Rattle.dynamic_areas.specs.OsHeapWordsLists.{total_for};
 ghost use Rattle.dynamic_areas.specs.Calls.{store_after_get};
@@ -18,9 +18,7 @@ ghost use Rattle.rma.specs.Kept.{KeepsRecords};
 use crate::area::Rma;
 use crate::errors::{is_no_room, rma_error};
 use crate::growth::grow_to;
-use dynamic_areas::{AddressMap, Areas, Heaps, total_for};
-use profile::ErrorNumber;
-use profile::memory_map::RMA_START;
+use dynamic_areas::{AddressMap, Areas, ErrorNumber, Heaps, RMA_START, total_for};
 
 impl Rma {
     /// Claims a block of `size` bytes, and answers the address of its first byte: in free room of

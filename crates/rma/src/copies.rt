@@ -7,8 +7,7 @@ ghost use Rattle.rma.specs.Copies.{has_bare, may_be_copied};
 use crate::area::Rma;
 use crate::growth::area_size;
 use crate::in_place::are_mapped;
-use dynamic_areas::{AddressMap, Areas, Heaps, Payload};
-use profile::memory_map::RMA_START;
+use dynamic_areas::{AddressMap, Areas, Heaps, Payload, RMA_START};
 
 impl Rma {
     /// Whether a module image may be a copy of the `len` bytes from an address on: all are mapped,

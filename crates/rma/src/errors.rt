@@ -3,7 +3,7 @@
 ghost use Rattle.std.specs.Prelude.{◌≡◌};
 ghost use Rattle.rma.specs.Calls.{is_no_room, rma_error};
 
-use profile::ErrorNumber;
+use dynamic_areas::ErrorNumber;
 
 /// What a heap refuses has a name of its own in the module area.
 pub(crate) fn rma_error(error: ErrorNumber) -> ErrorNumber

@@ -1,9 +1,9 @@
 //! OS_Module 13: a block gets another size, and the area grows where that is needed.
 
-ghost use Rattle.profile.specs.MemoryMap.{module_area_start};
+ghost use Rattle.dynamic_areas.specs.MemoryMap.{module_area_start};
 ghost use Rattle.std.specs.Prelude.{◌≡◌, ◌<◌, ◌+◌, ◌^◌, true, is_ok, if◌then◌else◌};
-ghost use Rattle.profile.specs.Outcome.{Gives};
-ghost use Rattle.profile.specs.ErrorNumber.TheVariants.{RmaBlockHoldsHeap, RmaNoRoom};
+ghost use Rattle.dynamic_areas.specs.Outcome.{Gives};
+ghost use Rattle.dynamic_areas.specs.ErrorNumber.TheVariants.{RmaBlockHoldsHeap, RmaNoRoom};
 ghost use Rattle.dynamic_areas.specs.Calls.{block_sized, store_after_resize};
 ghost use Rattle.dynamic_areas.specs.Store.{store_of, IsSound};
 ghost use Rattle.dynamic_areas.specs.Ground.{area_store_of, IsAreaStore};
@@ -14,9 +14,7 @@ ghost use Rattle.rma.specs.Kept.{KeepsRecords, LosesInnerHeaps};
 use crate::area::Rma;
 use crate::errors::{is_no_room, rma_error};
 use crate::growth::{can_grow_to, grow_to};
-use dynamic_areas::{AddressMap, Areas, Heaps, changed_by, round_up_8};
-use profile::ErrorNumber;
-use profile::memory_map::RMA_START;
+use dynamic_areas::{AddressMap, Areas, ErrorNumber, Heaps, RMA_START, changed_by, round_up_8};
 
 impl Rma {
     /// Changes the size of a block by `change` bytes, a signed word in two's complement, and

@@ -1,6 +1,6 @@
 //! OS_Module 7: a block is given back.
 
-ghost use Rattle.profile.specs.Outcome.{Gives};
+ghost use Rattle.dynamic_areas.specs.Outcome.{Gives};
 ghost use Rattle.dynamic_areas.specs.Memory.{regions};
 ghost use Rattle.dynamic_areas.specs.Store.{store_of};
 ghost use Rattle.dynamic_areas.specs.Areas.{AreaTable};
@@ -11,9 +11,7 @@ ghost use Rattle.rma.specs.Kept.{FreesRoom};
 
 use crate::area::Rma;
 use crate::errors::rma_error;
-use dynamic_areas::{AddressMap, Heaps};
-use profile::ErrorNumber;
-use profile::memory_map::RMA_START;
+use dynamic_areas::{AddressMap, ErrorNumber, Heaps, RMA_START};
 
 impl Rma {
     /// Gives the block whose first byte is at `block` back to the module area, which keeps its

@@ -1,7 +1,7 @@
 //! The module area grown so that its heap reaches to an address, if it can.
 
 ghost use Rattle.std.specs.Prelude.{◌≡◌, ◌*◌, is_ok};
-ghost use Rattle.profile.specs.Outcome.{Leaves};
+ghost use Rattle.dynamic_areas.specs.Outcome.{Leaves};
 ghost use Rattle.dynamic_areas.specs.Areas.{find_area};
 ghost use Rattle.dynamic_areas.specs.Changing.{pages_had};
 ghost use Rattle.dynamic_areas.specs.Ground.{area_store_of, IsAreaStore};
@@ -10,9 +10,7 @@ ghost use Rattle.rma.specs.Calls.{grown_to};
 ghost use Rattle.dynamic_areas.specs.Kept.{IsAreaMap};
 ghost use Rattle.rma.specs.Kept.{KeepsRecords};
 
-use dynamic_areas::{AddressMap, Areas, MODULE_AREA};
-use profile::ErrorNumber;
-use profile::memory_map::{PAGE_SIZE, RMA_MAXIMUM};
+use dynamic_areas::{AddressMap, Areas, ErrorNumber, MODULE_AREA, PAGE_SIZE, RMA_MAXIMUM};
 
 /// Grows the module area so that its heap reaches to `end`, in bytes from its start: by the fewest
 /// pages that suffice, and not at all where it does already.

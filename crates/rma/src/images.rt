@@ -1,6 +1,6 @@
 //! Blocks of the module area recorded as module images, and given back as such.
 
-ghost use Rattle.profile.specs.MemoryMap.{module_area_start};
+ghost use Rattle.dynamic_areas.specs.MemoryMap.{module_area_start};
 ghost use Rattle.std.specs.Prelude.{◌≡◌, IfOk, MatchResult};
 ghost use Rattle.dynamic_areas.specs.Memory.{regions};
 ghost use Rattle.dynamic_areas.specs.Records.{without_region};
@@ -14,8 +14,7 @@ ghost use Rattle.dynamic_areas.specs.Sound.{IsSoundMap};
 ghost use Rattle.rma.specs.Kept.{KeepsAreaStores, KeepsFlexAreas, FreesRoom};
 
 use crate::area::Rma;
-use dynamic_areas::{AddressMap, Heaps, Kind};
-use profile::memory_map::RMA_START;
+use dynamic_areas::{AddressMap, Heaps, Kind, RMA_START};
 
 impl Rma {
     /// Records the block whose first byte is at `at`, in which no heap lies, as a module image,

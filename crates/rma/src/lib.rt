@@ -22,5 +22,6 @@ pub mod slide;
 pub use crate::heap_slide::{BlockMove, Moves};
 pub use area::Rma;
 pub use dynamic_areas::{
-    AddressMap, Area, Areas, Blocks, Changed, Heaps, Item, Wanted, areas_count_pages, start_memory,
+    AddressMap, Area, Areas, Blocks, Changed, ErrorNumber, HEAP_DESCRIPTOR, Heaps, Item, RMA_START,
+    Wanted, areas_count_pages, start_memory,
 };

@@ -1,8 +1,8 @@
 //! New module images in the module area, made of given bytes or copied from memory.
 
 ghost use Rattle.std.specs.Prelude.{◌≡◌, ◌-◌, ◌%◌, ◌≤◌, ◌<◌, ◌++◌, ◌∷◌, [], false, true, length, IfOk, MatchResult};
-ghost use Rattle.profile.specs.MemoryMap.{module_area_maximum, module_area_start};
-ghost use Rattle.profile.specs.Outcome.{Gives};
+ghost use Rattle.dynamic_areas.specs.MemoryMap.{module_area_maximum, module_area_start};
+ghost use Rattle.dynamic_areas.specs.Outcome.{Gives};
 ghost use Rattle.dynamic_areas.specs.Bytes.{in_range, AreMapped};
 ghost use Rattle.dynamic_areas.specs.Memory.{is_mapped};
 ghost use Rattle.dynamic_areas.specs.OsHeapWordsLists.{total_for};
@@ -18,9 +18,7 @@ ghost use Rattle.dynamic_areas.specs.Kept.{IsAreaMap};
 ghost use Rattle.rma.specs.Kept.{KeepsAreas, KeepsBlock};
 
 use crate::area::Rma;
-use dynamic_areas::{AddressMap, Areas};
-use profile::ErrorNumber;
-use profile::memory_map::RMA_MAXIMUM;
+use dynamic_areas::{AddressMap, Areas, ErrorNumber, RMA_MAXIMUM};
 
 impl Rma {
     /// Makes a module image of these bytes: claims a block, as `claim` does, puts the bytes there,

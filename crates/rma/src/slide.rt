@@ -1,6 +1,6 @@
 //! OS_Module 8: the movable blocks of the module area slide together.
 
-ghost use Rattle.profile.specs.MemoryMap.{module_area_start};
+ghost use Rattle.dynamic_areas.specs.MemoryMap.{module_area_start};
 ghost use Rattle.std.specs.Prelude.{◌≡◌};
 ghost use Rattle.dynamic_areas.specs.Memory.{regions};
 ghost use Rattle.dynamic_areas.specs.Moves.{moved_regions};
@@ -11,8 +11,7 @@ ghost use Rattle.rma.specs.Kept.{KeepsMapped};
 
 use crate::area::Rma;
 use crate::heap_slide::{Moves, slide};
-use dynamic_areas::AddressMap;
-use profile::memory_map::RMA_START;
+use dynamic_areas::{AddressMap, RMA_START};
 
 impl Rma {
     /// Slides blocks of the module area towards its start. `movable` has the addresses of those

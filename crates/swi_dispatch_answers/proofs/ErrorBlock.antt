@@ -1,5 +1,5 @@
 -- An error's number, its text and a zero byte, written one after another, are its block.
-use Rattle.profile.specs.MemoryMap.{error_block_start}
+use Rattle.address_map.specs.MemoryMap.{error_block_start}
 use Rattle.std.proofs.Common.{◌≡◌, ℕ, ◌+◌, List, [], ◌∷◌, length, ◌++◌, ◌∙◌, ap}
 use Rattle.address_map.specs.declared.map.AddressMap.{AddressMap}
 use Rattle.address_map.specs.Bytes.{Bytes, with_word, with_word_at, with_bytes_at, with_bytes}

@@ -1,11 +1,11 @@
 -- Errors that guests see: an error is a block in memory, its number and then its text, and R0
 -- points to it (RISC OS 3 Programmer's Reference Manual, "Generating and handling errors"; the
 -- system's block at &01C02100, and the number where none can be read, are this project's own).
-use Rattle.profile.specs.MemoryMap.{error_block_start}
+use Rattle.address_map.specs.MemoryMap.{error_block_start}
 use Rattle.std.specs.Prelude.{ℕ, ◌%◌, ◌==◌, Result, Ok, Err, List, [], ◌∷◌, ◌++◌, if◌then◌else◌}
-use Rattle.profile.specs.ErrorNames.{error_code}
-use Rattle.profile.specs.ErrorNumber.TheVariants.{BadPointer}
-use Rattle.profile.specs.Fault.{Fault}
+use Rattle.instances_table.specs.ErrorNames.{error_code}
+use Rattle.address_map.specs.ErrorNumber.TheVariants.{BadPointer}
+use Rattle.arm_core.specs.Fault.{Fault}
 use Rattle.address_map.specs.Bytes.{Bytes, word_loaded, with_word, with_bytes}
 
 -- The number of an error: the word at its block, or 82 (BadPointer) where no block can stand there.

@@ -1,6 +1,6 @@
 -- How a store call is refused: by an error of the system, or by the guest's own.
 use Rattle.std.specs.Prelude.{Result, Ok, Err}
-use Rattle.profile.specs.ErrorNumber.{ErrorNumber}
+use Rattle.address_map.specs.ErrorNumber.{ErrorNumber}
 use Rattle.swi_dispatch_answers.specs.declared.refusal.Refusal.{Refusal}
 use Rattle.swi_dispatch_answers.specs.declared.refusal.Refusal.TheVariants as refusal
 

@@ -4,8 +4,8 @@
 use Rattle.std.specs.Prelude.{ℕ, Bool, zero, suc, ◌+◌, ◌*◌, ◌/◌, ◌==◌, ◌&&◌, nat_lt, Option, Some, None, List, [], ◌∷◌, ok_or, Result, Ok, Err, if◌then◌else◌}
 use Rattle.std.specs.Option.{option_map}
 use Rattle.arrayvec.specs.ArrayVec.{ArrayVec}
-use Rattle.profile.specs.ErrorNumber.{ErrorNumber}
-use Rattle.profile.specs.ErrorNumber.TheVariants.{BadString}
+use Rattle.address_map.specs.ErrorNumber.{ErrorNumber}
+use Rattle.address_map.specs.ErrorNumber.TheVariants.{BadString}
 use Rattle.address_map.specs.Bytes.{Bytes}
 use Rattle.arm_core.specs.State.{State, register_of}
 use Rattle.swi_dispatch_answers.specs.declared.strings.TextEnd.{TextEnd}

@@ -1,16 +1,15 @@
 //! The block that an error stands in: its number and then its text (RISC OS 3 Programmer's
 //! Reference Manual, "Generating and handling errors").
 
-ghost use Rattle.profile.specs.MemoryMap.{error_block_start};
+ghost use Rattle.address_map.specs.MemoryMap.{error_block_start};
 ghost use Rattle.std.specs.Prelude.{◌≡◌};
-ghost use Rattle.profile.specs.ErrorNames.{error_code, error_name};
+ghost use Rattle.instances_table.specs.ErrorNames.{error_code, error_name};
 ghost use Rattle.address_map.specs.Bytes.{AreMapped};
 ghost use Rattle.address_map.specs.Memory.{bytes_of, is_mapped, layout, class_of};
 ghost use Rattle.swi_dispatch_answers.specs.Errors.{error_at, memory_with_error};
 
-use address_map::AddressMap;
-use profile::memory_map::ERROR_BLOCK;
-use profile::{ErrorNumber, error_text};
+use address_map::{AddressMap, ERROR_BLOCK, ErrorNumber};
+use instances_table::error_text;
 
 /// The number of the error whose block stands at an address, or that of `BadPointer` where none can
 /// stand there.

@@ -2,7 +2,7 @@
 
 ghost use Rattle.std.specs.Prelude.{◌≡◌};
 
-use profile::ErrorNumber;
+use address_map::ErrorNumber;
 
 /// Why a store call was refused.
 #[derive(Clone, Copy)]

@@ -4,8 +4,7 @@
 ghost use Rattle.std.specs.Prelude.{◌≡◌, ◌<◌, ◌^◌};
 ghost use Rattle.swi_dispatch_answers.specs.Returns.{state_after_return};
 
-use arm_core::{Cpu, Mode, Psr};
-use profile::memory_map::ADDRESS_LIMIT;
+use arm_core::{ADDRESS_LIMIT, Cpu, Mode, Psr};
 
 /// The return address, with the caller's status, goes to the link register of supervisor mode.
 pub fn return_to(cpu: &mut Cpu, caller: Psr, is_refused: bool, next: u32)

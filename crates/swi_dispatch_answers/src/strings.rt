@@ -5,11 +5,9 @@ ghost use Rattle.std.specs.Option.{option_map};
 ghost use Rattle.address_map.specs.Memory.{bytes_of};
 ghost use Rattle.swi_dispatch_answers.specs.Strings.{bytes_read, ends, next_word, string_in, text_at};
 
-use address_map::AddressMap;
-use arm_core::Cpu;
+use address_map::{AddressMap, ErrorNumber};
+use arm_core::{ADDRESS_LIMIT, Cpu};
 use arrayvec::ArrayVec;
-use profile::ErrorNumber;
-use profile::memory_map::ADDRESS_LIMIT;
 
 /// The most bytes of a string that is not printed.
 pub const MAX_TEXT: usize = 255;

@@ -4,6 +4,7 @@ pub use Rattle.os_heap.proofs.Frame as OsHeapFrame
 pub use Rattle.os_heap.proofs.Owned
 pub use Rattle.os_heap.proofs.Reading
 pub use Rattle.os_heap.proofs.Spans
+pub use Rattle.profile.proofs.OutputLemmas
 pub use Rattle.swi_dispatch_plans.proofs.FlexFrameLemmas.AreaLemmas
 pub use Rattle.swi_dispatch_plans.proofs.FlexFrameLemmas.Calls as SwiDispatchPlansCalls
 pub use Rattle.swi_dispatch_plans.proofs.FlexFrameLemmas.Choosing

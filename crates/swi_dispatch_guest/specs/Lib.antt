@@ -25,6 +25,9 @@ pub use Rattle.os_heap.specs.Payloads
 pub use Rattle.os_heap.specs.Store
 pub use Rattle.os_heap.specs.declared.payload.Payload
 pub use Rattle.os_heap.specs.lists
+pub use Rattle.profile.specs.Fault
+pub use Rattle.profile.specs.Output
+pub use Rattle.profile.specs.Sums
 pub use Rattle.swi_dispatch_plans.specs.Area
 pub use Rattle.swi_dispatch_plans.specs.Areas as DynamicAreasAreas
 pub use Rattle.swi_dispatch_plans.specs.Blocks

@@ -30,6 +30,9 @@ pub use halt::Halt;
 pub use machine::Machine;
 pub use os_heap::payload::Payload;
 pub use os_heap::{AddressMap, Blocks, Heaps, Item};
+pub use profile::{
+    HEAP_DESCRIPTOR, PAGE_SIZE, PRIVATE_WORDS, Sink, WriteFault, push_all, push_parts,
+};
 pub use running::Ran;
 pub use swi_dispatch_plans::{
     Area, Areas, CodeKind, Flex, FlexBlock, FlexBlocks, Frame, FrameKind, InstanceInfo, Instances,

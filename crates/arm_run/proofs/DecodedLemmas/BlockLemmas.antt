@@ -3,9 +3,9 @@ use Rattle.std.proofs.Common.{◌≡◌, ◌<◌, ◌≤◌, ◌&&◌, ◌+◌, 
 use Rattle.std.proofs.lemmas.Bool.{cases_lt}
 use Rattle.std.proofs.lemmas.Bool.Decides.{nat_tests}
 use Rattle.std.proofs.lemmas.List.{map-append}
-use Rattle.profile.specs.Outcome.{bind}
-use Rattle.profile.specs.Word.{bit_of, field}
-use Rattle.profile.specs.Fault.{Fault}
+use Rattle.arm_core.specs.Outcome.{bind}
+use Rattle.arm_core.specs.Word.{bit_of, field}
+use Rattle.arm_core.specs.Fault.{Fault}
 use Rattle.arm_step.specs.Bytes.{Bytes, word_start}
 use Rattle.arm_core.specs.Fields.{block_transfer_in}
 use Rattle.arm_core.specs.Names.{block_mode_of}

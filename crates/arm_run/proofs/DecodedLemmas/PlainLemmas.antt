@@ -1,7 +1,7 @@
 -- Data processing, products, branches and SWIs.
 use Rattle.std.proofs.Common.{◌≡◌, ◌+◌, ◌*◌, ◌/◌, ◌%◌, ◌^◌, ℕ, Bool, true, false, not, nat_eq, Result, Ok, refl, ◌∙◌, ap, arith, if◌then◌else◌}
 use Rattle.arm_core.specs.Shifted.{rotated_right}
-use Rattle.profile.specs.Word.{bit_of, field}
+use Rattle.arm_core.specs.Word.{bit_of, field}
 use Rattle.arm_step.specs.Shifted.{Shifted}
 use Rattle.arm_step.specs.Bytes.{Bytes}
 use Rattle.arm_core.specs.Action.TheVariants as action

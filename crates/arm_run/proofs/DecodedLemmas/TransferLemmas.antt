@@ -1,8 +1,8 @@
 -- LDR and STR.
 use Rattle.std.proofs.Common.{◌≡◌, ◌<◌, ◌+◌, ◌*◌, ◌%◌, ◌^◌, ℕ, Bool, true, false, Result, Ok, Err, refl, sym, ◌∙◌, ap, subst, arith, if◌then◌else◌}
-use Rattle.profile.specs.Outcome.{bind}
-use Rattle.profile.specs.Word.{bit_of, field}
-use Rattle.profile.specs.Fault.{Fault}
+use Rattle.arm_core.specs.Outcome.{bind}
+use Rattle.arm_core.specs.Word.{bit_of, field}
+use Rattle.arm_core.specs.Fault.{Fault}
 use Rattle.arm_step.specs.Bytes.{Bytes}
 use Rattle.arm_core.specs.Fields.{address_in, shifted_in, transfer_in}
 use Rattle.arm_core.specs.Names.{direction_of, shift_of}

@@ -2,8 +2,8 @@
 -- shift. Of the word itself only the number of a SWI is read. A position counts the words of the
 -- address space, and all but its lowest 24 bits are left out.
 use Rattle.std.specs.Prelude.{◌≡◌, ◌+◌, ◌*◌, ◌/◌, ◌%◌, ◌^◌, if◌then◌else◌, ℕ, Bool, true, false, length, map, Result, Ok, Err}
-use Rattle.profile.specs.Outcome.{bind}
-use Rattle.profile.specs.Word.{bit_of, field}
+use Rattle.arm_core.specs.Outcome.{bind}
+use Rattle.arm_core.specs.Word.{bit_of, field}
 use Rattle.arm_step.specs.Shifted.{Shifted}
 use Rattle.arm_step.specs.Bytes.{Bytes}
 use Rattle.arm_core.specs.Indexing.{Indexing}

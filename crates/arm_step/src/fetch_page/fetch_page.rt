@@ -4,8 +4,8 @@ ghost use Rattle.std.specs.Prelude.{◌≡◌, ◌≢◌, ◌≤◌, ◌<◌, �
 ghost use Rattle.address_map.specs.Bytes.{word_loaded};
 ghost use Rattle.address_map.specs.Memory.{bytes_of, place};
 
-use address_map::AddressMap;
-use profile::memory_map::{ADDRESS_LIMIT, PAGE_SIZE, RETURN_GATE};
+use address_map::{AddressMap, PAGE_SIZE, RETURN_GATE};
+use arm_decode::ADDRESS_LIMIT;
 
 /// How many words a page has.
 const WORDS: usize = 1024;

@@ -1,7 +1,7 @@
 -- What each line needs, from a table: by its first word, or by its second behind SET and EXPECT.
 use Rattle.std.specs.Prelude.{ℕ, Bool, false, ◌||◌, codes, List, [], ◌∷◌, Option, Some, None, if◌then◌else◌}
 use Rattle.std.specs.Option.{option_or}
-use Rattle.profile.specs.text_lines.WholeLines.{whole_lines}
+use Rattle.assembler_text.specs.WholeLines.{whole_lines}
 use Rattle.command_shell_lines.specs.Requests.{is_same_word, words}
 use Rattle.command_shell_lines.specs.declared.debug_words.forms.TheConstants.{FORMS}
 

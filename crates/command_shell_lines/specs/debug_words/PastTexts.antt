@@ -1,7 +1,7 @@
 -- Texts of what was done before.
 use Rattle.std.specs.Prelude.{ℕ, ◌-◌, ◌++◌, nat_lt, length, take, List, [], codes, if◌then◌else◌}
 use Rattle.std.specs.Fmt.{decimal}
-use Rattle.profile.specs.Digits.{hex_word}
+use Rattle.assembler_text.specs.Digits.{hex_word}
 
 abbrev pub no_history_text : List ℕ
 no_history_text = codes "refused NoHistory\n"

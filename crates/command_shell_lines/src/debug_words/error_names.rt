@@ -4,7 +4,7 @@ ghost use Rattle.std.specs.Prelude.{◌≡◌};
 ghost use Rattle.command_shell_lines.specs.debug_words.ErrorNumbers.{store_errors, error_with_name, error_shown};
 
 use crate::number_of;
-use profile::{ErrorNumber, error_text};
+use assembler_text::{ErrorNumber, error_text};
 
 // The errors of all store calls.
 const STORE_ERRORS: [ErrorNumber; 38] = [

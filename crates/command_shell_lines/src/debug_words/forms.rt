@@ -2,11 +2,11 @@
 //! HELP and a word shows, and the reason where such a line means nothing.
 
 ghost use Rattle.std.specs.Prelude.{◌≡◌, option_map};
-ghost use Rattle.profile.specs.text_lines.WholeLines.{whole_lines};
+ghost use Rattle.assembler_text.specs.WholeLines.{whole_lines};
 ghost use Rattle.command_shell_lines.specs.debug_words.Forms.{begins_with_word, form_of_word, form_of_line, form_with_word, has_second_word};
 ghost use Rattle.command_shell_lines.specs.Requests.{words};
 
-use profile::text_lines::{cut, cut_line};
+use assembler_text::{cut, cut_line};
 
 /// A line for each first word of the language, and for words behind SET and EXPECT.
 pub const FORMS: &[u8] = b"ASM wants a name and an address, as ASM main &8000, and a line END

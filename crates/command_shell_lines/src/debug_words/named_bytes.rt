@@ -8,7 +8,7 @@ ghost use Rattle.command_shell_lines.specs.debug_words.Spelling.{spelt_bytes};
 use crate::debug_words::spelling::{is_well_spelt, spelt_bytes};
 use crate::debug_words::texts::{between_quotes, byte_value, text_behind};
 use crate::debug_words::values::value_shown;
-use profile::text_lines::cut;
+use assembler_text::cut;
 use std::alloc::{AllocError, Global};
 
 /// Whether a text names bytes, one at least: `5`, a word's; `"text"`; or `BYTES 1 2 &FF`.

@@ -4,8 +4,8 @@ ghost use Rattle.std.specs.Prelude.{◌≡◌, ◌++◌, IfOk, OnOk};
 ghost use Rattle.std.specs.Fmt.{decimal};
 ghost use Rattle.command_shell_lines.specs.debug_words.PastTexts.{address_text, no_history_text, text_with_step, undone_text, when_text};
 
+use assembler_text::HexText;
 use itoa::Buffer;
-use profile::HexText;
 use std::alloc::{AllocError, Global};
 
 /// Puts the step that comes next behind the line that says where the machine stands.

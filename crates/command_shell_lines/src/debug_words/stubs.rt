@@ -10,7 +10,7 @@ use crate::debug_words::values::swi_shown;
 use crate::numbers::number_of;
 use crate::operands::{Origin, RegisterNumber, WordAddress};
 use arrayvec::ArrayVec;
-use profile::text_lines::cut;
+use assembler_text::cut;
 use std::marker::Model;
 
 /// How many registers a stub sets at most.

@@ -1,9 +1,9 @@
 -- How the words and the lines of memory go on.
 use Rattle.std.proofs.Common.{◌≡◌, ℕ, suc, ◌+◌, ◌-◌, ◌/◌, ◌<◌, [], ◌++◌, ap, ◌∙◌, arith, refl}
 use Rattle.std.specs.Prelude.{min}
-use Rattle.profile.proofs.OutputLemmas.{AddsAllBut-start, AddsAllBut-more, AddsAllBut-same, Appends-from_all_but}
+use Rattle.swi_dispatch_guest.proofs.OutputLemmas.{AddsAllBut-start, AddsAllBut-more, AddsAllBut-same, Appends-from_all_but}
 use Rattle.swi_dispatch_guest.specs.Bytes.{Bytes}
-use Rattle.profile.specs.Sums.{address_further}
+use Rattle.swi_dispatch_guest.specs.Sums.{address_further}
 use Rattle.debugger.specs.views.Words.{spaced_word_text, spaced_words_text, words_line, words_lines, memory_words_text_at}
 
 pub no_words : (b : Bytes) (at left : ℕ) → left ≡ 0 → spaced_words_text b at left ≡ []

@@ -3,7 +3,7 @@
 -- R8 to R12 stand on one line, R13 and R14 on the next.
 use Rattle.std.specs.Prelude.{ℕ, ◌++◌, List, codes}
 use Rattle.std.specs.Fmt.{decimal}
-use Rattle.profile.specs.Digits.{hex_word}
+use Rattle.assembler_text.specs.Digits.{hex_word}
 use Rattle.swi_dispatch_guest.specs.ArmCoreMode.{Mode}
 use Rattle.swi_dispatch_guest.specs.ArmCoreMode.TheVariants.{User, FastInterrupt, Interrupt, Supervisor}
 use Rattle.swi_dispatch_guest.specs.ArmCoreState.{State, register_in}

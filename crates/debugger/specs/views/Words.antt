@@ -2,10 +2,10 @@
 -- hexadecimal digits after a space, or `--------` where no memory is mapped. The first word is the
 -- one that holds the byte at an address. Addresses count modulo 2^32.
 use Rattle.std.specs.Prelude.{ℕ, zero, suc, ◌+◌, ◌-◌, ◌/◌, ◌++◌, min, List, [], codes, Result, Ok, Err}
-use Rattle.profile.specs.Digits.{hex_word}
-use Rattle.profile.specs.Fault.{Fault}
+use Rattle.assembler_text.specs.Digits.{hex_word}
+use Rattle.swi_dispatch_guest.specs.Fault.{Fault}
 use Rattle.swi_dispatch_guest.specs.Bytes.{Bytes, word_loaded, word_start}
-use Rattle.profile.specs.Sums.{address_further}
+use Rattle.swi_dispatch_guest.specs.Sums.{address_further}
 
 abbrev pub word_or_dashes : Result ℕ Fault → List ℕ
 word_or_dashes (Ok word) = hex_word word

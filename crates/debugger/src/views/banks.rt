@@ -1,14 +1,14 @@
 //! The view BANKS: the registers that each mode has of its own.
 
 ghost use Rattle.std.specs.Prelude.{◌≡◌, ◌<◌};
-ghost use Rattle.profile.specs.Output.{Writes};
+ghost use Rattle.swi_dispatch_guest.specs.Output.{Writes};
 ghost use Rattle.debugger.specs.views.Banks.{bank_line_from_8, bank_line_from_13, banked_name, banked_register_text, banks_text, mode_suffix, registers_from_8_text};
 ghost use Rattle.swi_dispatch_guest.specs.GuestState.{state_of};
 
 use crate::mode_name;
+use assembler_text::HexText;
 use itoa::Buffer;
-use profile::{HexText, Sink, WriteFault, push_all, push_parts};
-use swi_dispatch_guest::{Cpu, Machine, Mode};
+use swi_dispatch_guest::{Cpu, Machine, Mode, Sink, WriteFault, push_all, push_parts};
 
 /// Writes the registers that each mode has of its own, whatever the present one: R8 to R14 of USR,
 /// which other modes hide, and of FIQ, and R13 and R14 of IRQ and SVC. R8 to R12 stand on a line,

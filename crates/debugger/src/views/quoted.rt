@@ -1,11 +1,11 @@
 //! Bytes as a text between double quotes, as a script can spell them.
 
 ghost use Rattle.std.specs.List.{flat_map};
-ghost use Rattle.profile.specs.Output.{Writes};
+ghost use Rattle.swi_dispatch_guest.specs.Output.{Writes};
 ghost use Rattle.debugger.specs.views.Quoted.{quoted_byte_text, quoted_text};
 
 use crate::hex_byte;
-use profile::{Sink, WriteFault, push_all, push_parts};
+use swi_dispatch_guest::{Sink, WriteFault, push_all, push_parts};
 
 /// Writes bytes as a text between double quotes, `"Hi\n\r"`: a line feed, a carriage return and a
 /// tab as `\n`, `\r` and `\t`, `"` and a backslash behind a backslash, a character from a space to

@@ -1,12 +1,12 @@
 //! The view WORDS: words of memory, four on a line.
 
 ghost use Rattle.swi_dispatch_guest.specs.AddressMapMemory.{bytes_of};
-ghost use Rattle.profile.specs.Output.{Writes};
+ghost use Rattle.swi_dispatch_guest.specs.Output.{Writes};
 ghost use Rattle.debugger.specs.views.Words.{spaced_word_text, spaced_words_text, words_line, memory_words_text};
 ghost use Rattle.swi_dispatch_guest.specs.GuestState.{state_of};
 
-use profile::{HexText, Sink, WriteFault, push_all, push_parts};
-use swi_dispatch_guest::{AddressMap, Machine};
+use assembler_text::HexText;
+use swi_dispatch_guest::{AddressMap, Machine, Sink, WriteFault, push_all, push_parts};
 
 /// How many words stand on a line.
 const LINE_WORDS: u32 = 4;

@@ -2,8 +2,8 @@
 use Rattle.std.proofs.Common.{◌≡◌, ℕ, List, [], ◌∷◌, refl, sym, ap, ◌∙◌, Some, None, Ok, Err, inl, inr}
 use Rattle.std.specs.Prelude.{Option, Result}
 use Rattle.std.proofs.lemmas.Bool.{cases_Bool}
-use Rattle.profile.specs.Outcome.{Gives}
-use Rattle.profile.specs.ErrorNumber.{ErrorNumber}
+use Rattle.instances_table.specs.Outcome.{Gives}
+use Rattle.instances_table.specs.ErrorNumber.{ErrorNumber}
 use Rattle.rma.specs.Ground.{AreaStore}
 use Rattle.instances_table.specs.declared.parts.Image.{Image}
 use Rattle.instances_table.specs.Modules.{Module, has_instance}

@@ -1,6 +1,6 @@
 -- A record that begins in the module area is a block there, if it may be one of an image; any other
 -- is clear of all heaps.
-use Rattle.profile.specs.MemoryMap.{module_area_start}
+use Rattle.instances_table.specs.MemoryMap.{module_area_start}
 use Rattle.std.proofs.Common.{◌≡◌, ◌⊎◌, ◌<◌, ◌≤◌, ◌+◌, ◌-◌, ◌*◌, true, false, None, Some, List, [], ◌∷◌, refl, sym, subst, ◌∙◌, inl, inr, arith}
 use Rattle.std.specs.Prelude.{Option, is_some}
 use Rattle.std.proofs.lemmas.Bool.{both_ways, cases_Bool, false≢true, false_from_ne_true, ltb-false, ltb-true}

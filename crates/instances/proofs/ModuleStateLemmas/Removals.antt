@@ -1,13 +1,13 @@
 -- The images after one went: that of the module whose last instance was removed, or the pending
 -- one.
-use Rattle.profile.specs.MemoryMap.{module_area_start}
+use Rattle.instances_table.specs.MemoryMap.{module_area_start}
 use Rattle.std.proofs.Common.{◌≡◌, ℕ, Bool, true, false, inl, inr, ◌+◌, ◌==◌, List, [], ◌∷◌, ◌++◌, map, refl, sym, ap, ◌∙◌, Ok, Err, Some, None}
 use Rattle.std.specs.Prelude.{Option, Result, ok_or, if◌then◌else◌}
 use Rattle.std.specs.List.{list_any}
 use Rattle.std.proofs.lemmas.Bool.{both_ways, cases_Bool, eq-eqb, eqb-true, false_from_ne_true, or_parts}
-use Rattle.profile.specs.Outcome.{bind}
-use Rattle.profile.specs.ErrorNumber.{ErrorNumber}
-use Rattle.profile.specs.ErrorNumber.TheVariants.{HeapBadDesc, HeapHoldsAnchor, HeapNotABlock}
+use Rattle.instances_table.specs.Outcome.{bind}
+use Rattle.instances_table.specs.ErrorNumber.{ErrorNumber}
+use Rattle.instances_table.specs.ErrorNumber.TheVariants.{HeapBadDesc, HeapHoldsAnchor, HeapNotABlock}
 use Rattle.rma.specs.Records.{without_region}
 use Rattle.rma.specs.Item.{Item}
 use Rattle.rma.specs.Kind.TheVariants as kind

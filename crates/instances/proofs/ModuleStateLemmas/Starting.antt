@@ -2,7 +2,7 @@
 use Rattle.std.proofs.Common.{◌≡◌, [], ◌∷◌, refl, ap, arith, inl, Result, Ok, Err}
 use Rattle.std.proofs.lemmas.Bool.{false≢true}
 use Rattle.std.specs.Prelude.{IfOk}
-use Rattle.profile.specs.Sizes.{Sizes}
+use Rattle.instances_table.specs.Sizes.{Sizes}
 use Rattle.rma.specs.AddressMap.{AddressMap}
 use Rattle.rma.specs.Memory.{free_pages}
 use Rattle.rma.specs.Store.{Store, store_of}

@@ -1,5 +1,5 @@
 -- What writes to the system pages leave of the module state.
-use Rattle.profile.specs.MemoryMap.{environment_text_start, system_start}
+use Rattle.instances_table.specs.MemoryMap.{environment_text_start, system_start}
 use Rattle.std.proofs.Common.{◌≡◌, ℕ, ◌+◌, ◌%◌, ◌≤◌, ◌<◌, Ok, true, false, List, [], ◌∷◌, ◌++◌, length, is_some, refl, subst, sym, ap, ◌∙◌, arith, length-append}
 use Rattle.std.proofs.lemmas.Bool.Decides.{nat_tests}
 use Rattle.rma.specs.AddressMap.{AddressMap}

@@ -1,5 +1,5 @@
 -- The items that were found in the module area, and those of them that can be moved.
-use Rattle.profile.specs.MemoryMap.{module_area_start}
+use Rattle.instances_table.specs.MemoryMap.{module_area_start}
 use Rattle.std.proofs.Common.{◌≡◌, ◌≤◌, ◌+◌, ◌-◌, ◌^◌, ◌∙◌, ℕ, List, [], length, ap, subst, refl, Option, Some, None, arith}
 use Rattle.std.specs.Option.{option_map}
 use Rattle.rma.proofs.Spans.{mapped_below}

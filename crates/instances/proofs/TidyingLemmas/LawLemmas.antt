@@ -1,5 +1,5 @@
 -- The laws of tidied module areas.
-use Rattle.profile.specs.MemoryMap.{module_area_start, system_start}
+use Rattle.instances_table.specs.MemoryMap.{module_area_start, system_start}
 use Rattle.std.proofs.Common.{◌≡◌, ℕ, ◌+◌, ◌-◌, ◌*◌, ◌%◌, ◌<◌, ◌≤◌, ◌∙◌, true, false, List, [], ◌∷◌, refl, sym, ap, subst, Option, Some, None, Ok, arith}
 use Rattle.std.specs.Prelude.{is_some}
 use Rattle.std.proofs.lemmas.Bool.Decides.{nat_tests}

@@ -1,5 +1,5 @@
 -- Private words name afterwards what they named.
-use Rattle.profile.specs.MemoryMap.{heap_name, module_area_start, system_start}
+use Rattle.instances_table.specs.MemoryMap.{heap_name, module_area_start, system_start}
 use Rattle.std.proofs.Common.{◌≡◌, ◌≢◌, ℕ, ◌+◌, ◌-◌, ◌%◌, ◌^◌, ◌==◌, ◌<◌, ◌≤◌, ◌⊎◌, ◌∙◌, Bool, true, List, [], ◌∷◌, refl, ap, subst, Option, Some, None, inl, inr, arith}
 use Rattle.std.proofs.lemmas.Bool.{both_ways, cases_Bool, cases_lt, eq-eqb, eqb-true, false_from_ne_true}
 use Rattle.rma.specs.Bytes.{in_range, with_moved_at, with_word_at, word_at, word_start}

@@ -1,6 +1,6 @@
 -- A slide keeps each address on its side of the module area's edge: blocks go from one place in
 -- that area to another.
-use Rattle.profile.specs.MemoryMap.{module_area_start, system_start}
+use Rattle.instances_table.specs.MemoryMap.{module_area_start, system_start}
 use Rattle.std.proofs.Common.{◌≡◌, ℕ, Bool, true, ◌+◌, ◌≤◌, ◌<◌, ◌==◌, ◌∙◌, List, [], ◌∷◌, refl, sym, Option, Some, None, inl, inr, arith}
 use Rattle.std.proofs.lemmas.Bool.{cases_Bool, eq-eqb, eqb-true}
 use Rattle.rma.proofs.InRange.{range_inside}

@@ -1,5 +1,5 @@
 -- The module state after its module area was tidied, and that it is sound.
-use Rattle.profile.specs.MemoryMap.{module_area_start}
+use Rattle.instances_table.specs.MemoryMap.{module_area_start}
 use Rattle.std.proofs.Common.{◌≡◌, ℕ, Bool, true, false, not, ◌+◌, ◌-◌, ◌≤◌, ◌∙◌, ◌&&◌, ◌||◌, List, [], ◌∷◌, length, map, arith, refl, sym, ap, subst, Option, Some, None}
 use Rattle.std.proofs.lemmas.Bool.{and_parts, both_ways, false_from_ne_true, not-true, or_from, or_parts}
 use Rattle.rma.specs.Bytes.{in_range}

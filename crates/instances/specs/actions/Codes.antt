@@ -1,7 +1,7 @@
 -- The code that an action of a plan runs (RISC OS 3 Programmer's Reference Manual, "Modules",
 -- "Initialisation entry point", "Finalisation entry point"). An action of a slot that no instance
 -- has runs none.
-use Rattle.profile.specs.MemoryMap.{environment_text_start}
+use Rattle.instances_table.specs.MemoryMap.{environment_text_start}
 use Rattle.std.specs.Prelude.{ℕ, Bool, true, false, ◌+◌, ◌%◌, ◌^◌, ◌==◌, List, Option, Some, None, slice_get, if◌then◌else◌}
 use Rattle.instances_table.specs.plans.Header.{Header}
 use Rattle.instances_table.specs.declared.plans.action.PlanAction.{PlanAction}

@@ -1,9 +1,9 @@
 -- What module calls act on: memory with its heaps and areas, and the list of modules (RISC OS 3
 -- Programmer's Reference Manual, "Modules", "OS_Module"). The places of the private words and of
 -- the environment text are this project's own.
-use Rattle.profile.specs.MemoryMap.{environment_text_start}
+use Rattle.instances_table.specs.MemoryMap.{environment_text_start}
 use Rattle.std.specs.Prelude.{ℕ, List, [], ◌∷◌, ◌++◌, Result, Ok, Err, if◌then◌else◌}
-use Rattle.profile.specs.ErrorNumber.{ErrorNumber}
+use Rattle.instances_table.specs.ErrorNumber.{ErrorNumber}
 use Rattle.rma.specs.AddressMap.{AddressMap}
 use Rattle.rma.specs.Bytes.{word_at, with_word_at, with_bytes_at}
 use Rattle.rma.specs.Areas.{AreaTable}

@@ -1,7 +1,7 @@
 -- What holds of the module state of modules between all module calls, and within one (this project's own):
 -- each module's image is recorded, with its whole length, one record to a module, in the order of
 -- the modules.
-use Rattle.profile.specs.MemoryMap.{system_start}
+use Rattle.instances_table.specs.MemoryMap.{system_start}
 use Rattle.std.specs.Prelude.{ℕ, ◌≡◌, ◌≤◌, ◌<◌, ◌-◌, ◌%◌, true, suc, List, [], ◌∷◌, ◌++◌, map, if◌then◌else◌}
 use Rattle.rma.specs.AddressMap.{AddressMap}
 use Rattle.rma.specs.Kind.TheVariants as kind

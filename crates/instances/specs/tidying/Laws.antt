@@ -1,5 +1,5 @@
 -- Laws of every tidied module area, said in other words than its definition.
-use Rattle.profile.specs.MemoryMap.{module_area_start}
+use Rattle.instances_table.specs.MemoryMap.{module_area_start}
 use Rattle.std.specs.Prelude.{ℕ, ◌≡◌, ◌<◌, ◌+◌, ◌-◌, true, List, [], Option, Some, None}
 use Rattle.rma.specs.Items.{size_of}
 use Rattle.rma.specs.Moves.{moved_to}

@@ -1,7 +1,7 @@
 -- The module area after it was tidied: its heap slid, the private words that named blocks that
 -- moved, and the images of modules, where they went (RISC OS 3 Programmer's Reference Manual,
 -- "OS_Module", reason 8).
-use Rattle.profile.specs.MemoryMap.{module_area_start}
+use Rattle.instances_table.specs.MemoryMap.{module_area_start}
 use Rattle.std.specs.Prelude.{ℕ, ◌+◌, List, [], ◌∷◌, map, Option, Some, None}
 use Rattle.rma.specs.Bytes.{word_at}
 use Rattle.rma.specs.Moves.{moved_to}

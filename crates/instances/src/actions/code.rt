@@ -3,9 +3,8 @@
 ghost use Rattle.std.specs.Prelude.{◌≡◌};
 ghost use Rattle.instances.specs.actions.Codes.{code_among, code_to_enter, entry_offset};
 
-use instances_table::InstanceTable;
 use instances_table::plans::{Code, CodeKind, Header, PlanAction, private_word};
-use profile::memory_map::ENVIRONMENT_TEXT;
+use instances_table::{ENVIRONMENT_TEXT, InstanceTable};
 
 /// The code that an action runs, if the module of its instance has that entry.
 ///

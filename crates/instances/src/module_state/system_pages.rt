@@ -10,8 +10,8 @@ ghost use Rattle.instances.specs.module_state.Sound.{HasSystemPages};
 ghost use Rattle.instances.specs.module_state.ModuleState.{private_word, with_private, with_text};
 ghost use Rattle.instances.specs.module_state.Kept.{StaysSound, KeepsPages};
 
+use instances_table::ENVIRONMENT_TEXT;
 use instances_table::plans::private_word;
-use profile::memory_map::ENVIRONMENT_TEXT;
 use rma::AddressMap;
 
 /// The value of the private word of a slot.

@@ -1,5 +1,5 @@
 //! Which blocks of the module area can be moved.
-ghost use Rattle.profile.specs.MemoryMap.{module_area_start};
+ghost use Rattle.instances_table.specs.MemoryMap.{module_area_start};
 ghost use Rattle.std.specs.Prelude.{◌≡◌, ◌≤◌, ◌<◌, ◌+◌, ◌^◌, [], length, Option, Some, None};
 ghost use Rattle.rma.specs.Items.{size_of};
 ghost use Rattle.rma.specs.Memory.{anchor_of};
@@ -9,9 +9,8 @@ ghost use Rattle.instances.specs.tidying.Movable.{blocks_that, can_move, is_name
 
 use arrayvec::ArrayVec;
 use instances_table::InstanceTable;
-use profile::memory_map::{HEAP_DESCRIPTOR, RMA_START};
 use rma::heap_slide::moves::MOST_MOVES;
-use rma::{AddressMap, Blocks, Heaps, Item};
+use rma::{AddressMap, Blocks, HEAP_DESCRIPTOR, Heaps, Item, RMA_START};
 
 /// The addresses of blocks that can be moved, in order.
 pub(crate) type Movable = ArrayVec<u32, MOST_MOVES>;

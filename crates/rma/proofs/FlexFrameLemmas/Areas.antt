@@ -1,11 +1,11 @@
 -- The calls on dynamic areas keep the flex store: pages that go have no byte of it.
-use Rattle.profile.specs.MemoryMap.{module_area_start}
+use Rattle.dynamic_areas.specs.MemoryMap.{module_area_start}
 use Rattle.std.proofs.Common.{if◌then◌else◌, ℕ, ◌≡◌, ◌≢◌, ◌≤◌, ◌<◌, ◌+◌, ◌-◌, ◌*◌, ◌/◌, ◌==◌, ◌||◌, ◌&&◌, true, false, Option, Some, None, Ok, Err, List, [], ◌∷◌, refl, sym, ap, subst, ◌∙◌, inl, inr, arith}
 use Rattle.std.proofs.Math.Nat.{min-le_right}
 use Rattle.std.proofs.lemmas.Bool.{and_parts, both_ways, cases_Bool, eqb-false, eqb-true, false_from_ne_true, false≢true, ltb-false, or_cases, or_parts}
 use Rattle.std.specs.Prelude.{min, nat_lt, ok_or}
-use Rattle.profile.specs.Outcome.{bind}
-use Rattle.profile.specs.ErrorNumber.TheVariants.{AreaInUse, AreaUnknown}
+use Rattle.dynamic_areas.specs.Outcome.{bind}
+use Rattle.dynamic_areas.specs.ErrorNumber.TheVariants.{AreaInUse, AreaUnknown}
 use Rattle.dynamic_areas.proofs.Anchors.{none_among}
 use Rattle.dynamic_areas.specs.Bytes.{in_range}
 use Rattle.dynamic_areas.specs.Region.{Region}

@@ -3,9 +3,9 @@
 use Rattle.std.proofs.Common.{if◌then◌else◌, Bool, List, ℕ, [], ◌∷◌, ◌++◌, ◌≡◌, ◌≢◌, ◌⊎◌, ◌==◌, ◌&&◌, ◌+◌, ◌-◌, ◌%◌, ◌≤◌, ◌<◌, Option, Some, None, ok_or, is_some, Result, Ok, Err, not, true, false, refl, sym, ap, subst, ◌∙◌, inl, inr, arith}
 use Rattle.std.proofs.lemmas.Bool.{cases_Bool, both_ways, not-false, false_from_ne_true, false≢true, le-leb, lt-ltb, leb-false, or_cases, or_parts}
 use Rattle.std.specs.Prelude.{IfOk, nat_le, nat_lt}
-use Rattle.profile.specs.Outcome.{Gives, bind}
-use Rattle.profile.specs.ErrorNumber.{ErrorNumber}
-use Rattle.profile.specs.ErrorNumber.TheVariants.{BlockHoldsHeap, HeapHoldsAnchor, HeapBadDesc, HeapBadRegion, HeapOverlaps, HeapTableFull, HeapNotABlock, HeapNoRoom, HeapBadShrink}
+use Rattle.dynamic_areas.specs.Outcome.{Gives, bind}
+use Rattle.dynamic_areas.specs.ErrorNumber.{ErrorNumber}
+use Rattle.dynamic_areas.specs.ErrorNumber.TheVariants.{BlockHoldsHeap, HeapHoldsAnchor, HeapBadDesc, HeapBadRegion, HeapOverlaps, HeapTableFull, HeapNotABlock, HeapNoRoom, HeapBadShrink}
 use Rattle.dynamic_areas.specs.Records.{anchor_among}
 use Rattle.dynamic_areas.specs.Bytes.{Bytes, in_range, word_start}
 use Rattle.dynamic_areas.specs.Items.{is_heap_word, is_total, size_of}

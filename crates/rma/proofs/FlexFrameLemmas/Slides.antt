@@ -1,6 +1,6 @@
 -- The slide of the module area keeps the flex store: a block with an anchor stays, and what moves
 -- goes where no anchor lies.
-use Rattle.profile.specs.MemoryMap.{module_area_start}
+use Rattle.dynamic_areas.specs.MemoryMap.{module_area_start}
 use Rattle.std.proofs.Common.{ℕ, Bool, List, [], ◌∷◌, ◌≡◌, ◌≤◌, ◌<◌, ◌+◌, ◌-◌, ◌∙◌, true, false, refl, sym, ap, subst, inl, inr, Option, Some, None, length, arith, not, ◌&&◌, ◌⊎◌}
 use Rattle.std.proofs.lemmas.Bool.{both_ways, cases_Bool, cases_eq, false_from_ne_true, false≢true, le-leb, lt-ltb, or_cases, or_from, or_parts, and_parts}
 use Rattle.dynamic_areas.proofs.Anchors.{none_among}

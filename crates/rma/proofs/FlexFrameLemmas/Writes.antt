@@ -1,6 +1,6 @@
 -- Writes to the system pages and to a live block of the module area, and records of module images,
 -- keep the flex store.
-use Rattle.profile.specs.MemoryMap.{module_area_start, system_start}
+use Rattle.dynamic_areas.specs.MemoryMap.{module_area_start, system_start}
 use Rattle.std.proofs.Common.{ℕ, Bool, not, ◌≡◌, ◌≤◌, ◌<◌, ◌+◌, ◌-◌, ◌==◌, ◌&&◌, true, false, Option, Some, None, List, [], ◌∷◌, ◌++◌, refl, ap, subst, ◌∙◌, inl, inr, arith}
 use Rattle.std.proofs.lemmas.Bool.{and_parts, both_ways, cases_Bool, false_from_ne_true, false≢true, le-leb, lt-ltb, or_cases, or_from, or_parts}
 use Rattle.dynamic_areas.proofs.Anchors.{none_among}

@@ -1,9 +1,9 @@
 -- The calls on heaps, on areas and on module images keep the flex store, and so do writes beside
 -- it: each of them, in every sound store.
-use Rattle.profile.specs.MemoryMap.{module_area_start, system_start}
+use Rattle.dynamic_areas.specs.MemoryMap.{module_area_start, system_start}
 use Rattle.std.specs.Prelude.{ℕ, ◌≡◌, ◌+◌, ◌-◌, ◌*◌, false, Some, Result, Ok, List, [], ◌∷◌, ◌++◌}
-use Rattle.profile.specs.Outcome.{Gives}
-use Rattle.profile.specs.ErrorNumber.{ErrorNumber}
+use Rattle.dynamic_areas.specs.Outcome.{Gives}
+use Rattle.dynamic_areas.specs.ErrorNumber.{ErrorNumber}
 use Rattle.dynamic_areas.specs.Bytes.{Bytes, in_range}
 use Rattle.dynamic_areas.specs.Records.{anchor_among, without_region}
 use Rattle.dynamic_areas.specs.BlockMove.{BlockMove}

@@ -9,8 +9,7 @@ ghost use Rattle.rma.specs.heap_slide.Steps.{IsAllSlid, IsSliding};
 
 use crate::heap_slide::items::{Cursor, lay, pass_free};
 use crate::heap_slide::moves::Moves;
-use dynamic_areas::{AddressMap, BASE, BlockMove, follow, put, put_link, word};
-use profile::memory_map::HEAP_DESCRIPTOR;
+use dynamic_areas::{AddressMap, BASE, BlockMove, HEAP_DESCRIPTOR, follow, put, put_link, word};
 
 /// Slides the items of a heap, one after another upwards. The records of images stay as they are.
 pub(crate) fn slide_items(map: &mut AddressMap, heap: u32, movable: &[u32]) -> Moves

@@ -2,7 +2,7 @@
 -- handler code", "Initialisation entry point", "Finalisation entry point"; the return gate is this
 -- project's own): supervisor mode, V clear, the other flags and the masks as the caller has them,
 -- and R14 of supervisor mode the gate with that status.
-use Rattle.profile.specs.MemoryMap.{return_gate}
+use Rattle.address_map.specs.MemoryMap.{return_gate}
 use Rattle.std.specs.Prelude.{ℕ, false, ◌+◌, ◌%◌}
 use Rattle.arm_core.specs.declared.psr.Mode.TheVariants.{User, Supervisor}
 use Rattle.arm_core.specs.Psr.{psr_bits}

@@ -3,9 +3,9 @@
 ghost use Rattle.std.specs.Prelude.{◌≡◌, ◌<◌};
 ghost use Rattle.swi_dispatch_answers.specs.frames.Entering.{state_after_entry, swi_entered, code_entered};
 
+use address_map::RETURN_GATE;
 use arm_core::{Cpu, Mode};
 use instances_table::plans::{Code, private_word};
-use profile::memory_map::RETURN_GATE;
 
 /// The core goes to the SWI handler of a module: R11 is the number of the SWI in its chunk, R12 the
 /// address of the private word of the instance in `slot` (RISC OS 3 Programmer's Reference Manual,

@@ -1,5 +1,5 @@
 use Rattle.std.proofs.Common.{◌∙◌, ap}
-use Rattle.profile.specs.Word.{field}
+use Rattle.arm_core.specs.Word.{field}
 use Rattle.arm_core.specs.Operand.{rotated_immediate}
 use Rattle.arm_core.specs.declared.psr.Psr.{Psr}
 use Rattle.arm_run.proofs.SumsLed.{immediate_leads}

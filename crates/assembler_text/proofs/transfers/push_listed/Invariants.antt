@@ -1,5 +1,5 @@
 use Rattle.std.proofs.Common.{◌≡◌}
-use Rattle.profile.specs.Output.{AddsAllBut}
+use Rattle.arm_decode.specs.Output.{AddsAllBut}
 use Rattle.assembler_text.specs.Transfers.{listed_text}
 use Rattle.assembler_text.proofs.Listed.{listed_rest}
 use Rattle.assembler_text.proofs.transfers.push_listed.Given as goal

@@ -1,6 +1,6 @@
 use Rattle.std.proofs.Common.{◌≡◌, length}
 use Rattle.std.specs.List.{flat_map}
-use Rattle.profile.specs.Output.{AddsAllBut}
+use Rattle.swi_dispatch_guest.specs.Output.{AddsAllBut}
 use Rattle.swi_dispatch_guest.specs.Listed.{all_listed}
 use Rattle.swi_dispatch_guest.specs.State.{flex_in}
 use Rattle.debugger.specs.Flex.{flex_block_text, flex_blocks_text}

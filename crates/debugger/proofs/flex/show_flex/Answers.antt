@@ -1,6 +1,6 @@
 use Rattle.std.proofs.Common.{◌≡◌, [], Bool, IfOk, List, ℕ, Option, subst, sym}
 use Rattle.std.specs.Prelude.{is_some, unwrap_or}
-use Rattle.profile.specs.Output.{Writes}
+use Rattle.swi_dispatch_guest.specs.Output.{Writes}
 use Rattle.swi_dispatch_guest.specs.AddressMapMemory.{bytes_of}
 use Rattle.swi_dispatch_guest.specs.State.{IsFlex}
 use Rattle.swi_dispatch_guest.specs.Flex.{Flex}

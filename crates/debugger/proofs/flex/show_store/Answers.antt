@@ -1,7 +1,7 @@
 use Rattle.std.proofs.Common.{refl, ◌≡◌, ◌∙◌, [], ◌++◌, sym, subst, List, ℕ, Option, Some}
 use Rattle.std.specs.Prelude.{unwrap_or}
 use Rattle.std.specs.Io.KnownBytes.{Appends}
-use Rattle.profile.proofs.OutputLemmas.{Appends-join}
+use Rattle.swi_dispatch_guest.proofs.OutputLemmas.{Appends-join}
 use Rattle.swi_dispatch_guest.specs.AddressMapMemory.{bytes_of}
 use Rattle.swi_dispatch_guest.specs.Listed.{all_listed}
 use Rattle.swi_dispatch_guest.specs.State.{flex_in}

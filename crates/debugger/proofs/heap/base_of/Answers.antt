@@ -1,6 +1,6 @@
 use Rattle.std.proofs.Common.{◌≡◌, ◌+◌, ℕ, Result, Ok, ap, ◌∙◌, arith}
 use Rattle.std.specs.Result.{result_unwrap_or}
-use Rattle.profile.specs.Fault.{Fault}
+use Rattle.swi_dispatch_guest.specs.Fault.{Fault}
 use Rattle.swi_dispatch_guest.specs.Bytes.{word_loaded}
 use Rattle.swi_dispatch_guest.specs.Items.{size_of}
 use Rattle.swi_dispatch_guest.specs.AddressMapMemory.{bytes_of}

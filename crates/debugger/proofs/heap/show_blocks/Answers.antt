@@ -1,7 +1,7 @@
 use Rattle.std.proofs.Common.{◌≡◌, ◌+◌, ℕ, List, [], ◌++◌, Option, Some, None, sym, ap, ◌∙◌, arith, refl, subst}
 use Rattle.std.specs.Prelude.{is_some, unwrap_or}
 use Rattle.std.specs.Io.KnownBytes.{Appends}
-use Rattle.profile.proofs.OutputLemmas.{Appends-join, Appends-nothing}
+use Rattle.swi_dispatch_guest.proofs.OutputLemmas.{Appends-join, Appends-nothing}
 use Rattle.swi_dispatch_guest.specs.Items.{size_of}
 use Rattle.swi_dispatch_guest.specs.Store.{Store, store_of}
 use Rattle.swi_dispatch_guest.specs.HeapCalls.{items_of}

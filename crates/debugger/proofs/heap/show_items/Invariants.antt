@@ -1,5 +1,5 @@
 use Rattle.std.proofs.Common.{◌≡◌, ◌≤◌, ◌+◌, ◌^◌, length}
-use Rattle.profile.specs.Output.{AddsAllBut}
+use Rattle.swi_dispatch_guest.specs.Output.{AddsAllBut}
 use Rattle.swi_dispatch_guest.specs.Items.{size_of}
 use Rattle.debugger.specs.Heap.{heap_items_text}
 use Rattle.debugger.proofs.heap.show_items.Given as goal

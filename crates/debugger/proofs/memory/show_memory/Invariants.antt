@@ -1,5 +1,5 @@
 use Rattle.std.proofs.Common.{◌≡◌}
-use Rattle.profile.specs.Output.{AddsAllBut}
+use Rattle.swi_dispatch_guest.specs.Output.{AddsAllBut}
 use Rattle.swi_dispatch_guest.specs.AddressMapMemory.{bytes_of}
 use Rattle.debugger.specs.Memory.{memory_text}
 use Rattle.debugger.proofs.memory.show_memory.Given as goal

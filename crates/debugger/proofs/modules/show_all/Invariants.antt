@@ -1,6 +1,6 @@
 use Rattle.std.proofs.Common.{◌≡◌, drop}
 use Rattle.std.specs.List.{flat_map}
-use Rattle.profile.specs.Output.{AddsAllBut}
+use Rattle.swi_dispatch_guest.specs.Output.{AddsAllBut}
 use Rattle.swi_dispatch_guest.specs.AddressMapMemory.{bytes_of}
 use Rattle.debugger.specs.Modules.{module_text}
 use Rattle.debugger.proofs.modules.show_all.Given as goal

@@ -1,6 +1,6 @@
 use Rattle.std.proofs.Common.{◌≡◌}
 use Rattle.std.specs.Prelude.{slice_get}
-use Rattle.profile.specs.Output.{AddsAllBut}
+use Rattle.swi_dispatch_guest.specs.Output.{AddsAllBut}
 use Rattle.swi_dispatch_guest.specs.AddressMapMemory.{bytes_of}
 use Rattle.debugger.specs.Modules.{one_text, instances_text}
 use Rattle.debugger.proofs.ModuleLemmas.{instances_from}

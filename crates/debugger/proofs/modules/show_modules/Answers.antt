@@ -1,5 +1,5 @@
 use Rattle.std.proofs.Common.{◌≡◌, List, ℕ, subst}
-use Rattle.profile.specs.Output.{Writes}
+use Rattle.swi_dispatch_guest.specs.Output.{Writes}
 use Rattle.swi_dispatch_guest.specs.AddressMapMemory.{bytes_of}
 use Rattle.debugger.specs.Modules.{modules_text}
 use Rattle.debugger.proofs.modules.show_modules.Goals as goal

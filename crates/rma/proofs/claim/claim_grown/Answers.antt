@@ -1,4 +1,4 @@
-use Rattle.profile.specs.MemoryMap.{module_area_start}
+use Rattle.dynamic_areas.specs.MemoryMap.{module_area_start}
 use Rattle.std.proofs.Common.{◌≡◌, ◌+◌, Ok, arith}
 use Rattle.dynamic_areas.specs.OsHeapWordsLists.{total_for}
 use Rattle.dynamic_areas.specs.Calls.{store_after_get}

@@ -1,7 +1,7 @@
-use Rattle.profile.specs.MemoryMap.{module_area_start}
+use Rattle.dynamic_areas.specs.MemoryMap.{module_area_start}
 use Rattle.std.proofs.Common.{if◌then◌else◌, ◌≡◌, Ok, sym, ap, ◌∙◌}
 use Rattle.std.specs.Prelude.{is_ok}
-use Rattle.profile.specs.ErrorNumber.TheVariants.{RmaBlockHoldsHeap, RmaNoRoom}
+use Rattle.dynamic_areas.specs.ErrorNumber.TheVariants.{RmaBlockHoldsHeap, RmaNoRoom}
 use Rattle.dynamic_areas.specs.Calls.{block_sized, store_after_resize}
 use Rattle.dynamic_areas.specs.Store.{store_of}
 use Rattle.dynamic_areas.specs.Ground.{AreaStore, area_store_of}

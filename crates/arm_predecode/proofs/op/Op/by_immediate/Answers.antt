@@ -1,6 +1,6 @@
 use Rattle.std.proofs.Common.{◌≡◌, ap, refl, ◌∙◌, sym, ℕ, ◌*◌, nat_eq, not}
 use Rattle.arm_core.specs.Shifted.{rotated_right}
-use Rattle.profile.specs.Word.{field}
+use Rattle.arm_core.specs.Word.{field}
 use Rattle.arm_predecode.proofs.Known.{by_immediate}
 use Rattle.arm_predecode.proofs.op.Op.by_immediate.Goals as goal
 

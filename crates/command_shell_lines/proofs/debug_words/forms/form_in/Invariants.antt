@@ -1,5 +1,5 @@
 use Rattle.std.proofs.Common.{◌≡◌, length}
-use Rattle.profile.specs.text_lines.WholeLines.{whole_lines}
+use Rattle.assembler_text.specs.WholeLines.{whole_lines}
 use Rattle.command_shell_lines.specs.debug_words.Forms.{form_with_word}
 use Rattle.command_shell_lines.proofs.debug_words.forms.form_in.Given as goal
 

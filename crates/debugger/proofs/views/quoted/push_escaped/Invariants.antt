@@ -1,6 +1,6 @@
 use Rattle.std.proofs.Common.{◌≡◌, drop}
 use Rattle.std.specs.List.{flat_map}
-use Rattle.profile.specs.Output.{AddsAllBut}
+use Rattle.swi_dispatch_guest.specs.Output.{AddsAllBut}
 use Rattle.debugger.specs.views.Quoted.{quoted_byte_text}
 use Rattle.debugger.proofs.views.quoted.push_escaped.Given as goal
 

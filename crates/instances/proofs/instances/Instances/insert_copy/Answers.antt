@@ -1,4 +1,4 @@
-use Rattle.profile.specs.ErrorNumber.TheVariants.{BadPointer}
+use Rattle.instances_table.specs.ErrorNumber.TheVariants.{BadPointer}
 use Rattle.std.proofs.Common.{sym, ◌∙◌}
 use Rattle.rma.specs.Store.{store_of}
 use Rattle.rma.specs.Ground.{area_store_of}

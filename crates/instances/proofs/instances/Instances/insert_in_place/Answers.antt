@@ -1,4 +1,4 @@
-use Rattle.profile.specs.ErrorNumber.TheVariants.{BadPointer}
+use Rattle.instances_table.specs.ErrorNumber.TheVariants.{BadPointer}
 use Rattle.std.proofs.Common.{◌≡◌, true, sym, ◌∙◌}
 use Rattle.rma.specs.Store.{store_of}
 use Rattle.rma.specs.NewImages.{may_be_in_place}

@@ -1,5 +1,5 @@
 use Rattle.std.proofs.Common.{sym, ap}
-use Rattle.profile.specs.ErrorNumber.TheVariants.{ModuleNotFound}
+use Rattle.instances_table.specs.ErrorNumber.TheVariants.{ModuleNotFound}
 use Rattle.instances_table.specs.declared.plans.given.Given.{Given}
 use Rattle.instances.proofs.ReadyLemmas.{instantiate_shown}
 use Rattle.instances.proofs.instances.Instances.instantiate.Goals as goal

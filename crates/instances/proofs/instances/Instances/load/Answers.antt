@@ -1,4 +1,4 @@
-use Rattle.profile.specs.ErrorNumber.TheVariants.{BadString}
+use Rattle.instances_table.specs.ErrorNumber.TheVariants.{BadString}
 use Rattle.std.proofs.Common.{[], length, refl, arith}
 use Rattle.rma.specs.Store.{store_of}
 use Rattle.instances.specs.module_state.ModuleState.{module_state_of}

@@ -1,4 +1,4 @@
-use Rattle.profile.specs.ErrorNumber.TheVariants.{ModuleNotFound}
+use Rattle.instances_table.specs.ErrorNumber.TheVariants.{ModuleNotFound}
 use Rattle.instances.proofs.ReadyLemmas.{delete_ready, slot_held}
 use Rattle.instances.proofs.instances.Instances.plan_delete.Goals as goal
 

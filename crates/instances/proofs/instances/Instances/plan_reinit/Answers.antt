@@ -1,4 +1,4 @@
-use Rattle.profile.specs.ErrorNumber.TheVariants.{ModuleNotFound}
+use Rattle.instances_table.specs.ErrorNumber.TheVariants.{ModuleNotFound}
 use Rattle.instances.proofs.ReadyLemmas.{reinit_ready, slot_held}
 use Rattle.instances.proofs.instances.Instances.plan_reinit.Goals as goal
 

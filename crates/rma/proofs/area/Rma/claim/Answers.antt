@@ -1,6 +1,6 @@
-use Rattle.profile.specs.MemoryMap.{module_area_start}
+use Rattle.dynamic_areas.specs.MemoryMap.{module_area_start}
 use Rattle.std.proofs.Common.{◌≡◌, ◌+◌, Ok, sym, ap, subst, ◌∙◌}
-use Rattle.profile.specs.Outcome.{Gives}
+use Rattle.dynamic_areas.specs.Outcome.{Gives}
 use Rattle.dynamic_areas.specs.OsHeapWordsLists.{total_for}
 use Rattle.dynamic_areas.specs.Calls.{store_after_get}
 use Rattle.dynamic_areas.specs.Store.{Store, store_of}

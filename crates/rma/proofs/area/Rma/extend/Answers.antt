@@ -1,7 +1,7 @@
-use Rattle.profile.specs.MemoryMap.{module_area_start}
+use Rattle.dynamic_areas.specs.MemoryMap.{module_area_start}
 use Rattle.std.proofs.Common.{◌≡◌, true, refl, sym, ap, subst, ◌∙◌, inl, inr, Ok, Err}
 use Rattle.std.specs.Prelude.{is_ok}
-use Rattle.profile.specs.Outcome.{Gives}
+use Rattle.dynamic_areas.specs.Outcome.{Gives}
 use Rattle.dynamic_areas.specs.Calls.{block_sized, store_after_resize}
 use Rattle.dynamic_areas.specs.Store.{Store, store_of}
 use Rattle.dynamic_areas.specs.Ground.{AreaStore, area_store_of}

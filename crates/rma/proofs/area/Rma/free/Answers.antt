@@ -1,4 +1,4 @@
-use Rattle.profile.specs.MemoryMap.{module_area_start}
+use Rattle.dynamic_areas.specs.MemoryMap.{module_area_start}
 use Rattle.dynamic_areas.specs.Calls.{gave_back}
 use Rattle.dynamic_areas.specs.Store.{store_of}
 use Rattle.rma.specs.Calls.{rma_freed}

@@ -1,4 +1,4 @@
-use Rattle.profile.specs.MemoryMap.{module_area_start}
+use Rattle.dynamic_areas.specs.MemoryMap.{module_area_start}
 use Rattle.std.proofs.Common.{List, ◌≡◌, ◌∙◌, ap, subst}
 use Rattle.std.specs.List.{filter}
 use Rattle.dynamic_areas.specs.Region.{Region}

@@ -1,4 +1,4 @@
-use Rattle.profile.specs.MemoryMap.{module_area_start}
+use Rattle.dynamic_areas.specs.MemoryMap.{module_area_start}
 use Rattle.std.proofs.Common.{◌≡◌, Ok, refl, sym, ap, subst, ◌∙◌, arith}
 use Rattle.dynamic_areas.specs.Memory.{free_pages}
 use Rattle.dynamic_areas.specs.Kind.TheVariants as kind
