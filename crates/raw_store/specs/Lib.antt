@@ -1,4 +1,5 @@
--- A region of bytes. Begin with Region; the other files are about ownership and loans.
+-- A region of bytes, and the names and places that all crates share. Begin with Region, MemoryMap and
+-- Outcome; Lends, Ownership, Store and StoreLends are about ownership and loans.
 pub mod ErrorNames
 pub mod FaultNames
 pub mod Lends

@@ -1,5 +1,6 @@
 //! One region of raw bytes, all of a machine's memory, with its reads and writes, for
-//! `address_map`.
+//! `address_map`; with the places of the memory map, the faults and the errors of store calls, for
+//! all crates above.
 //!
 //! Promise: a read gives the byte that was written last, zero before that, and no byte outside the
 //! region is touched.
