@@ -1,4 +1,4 @@
-//! OS_Module, the reasons that tell of an instance: 12 and 18 (RISC OS 3 Programmer's Reference
+//! OS_Module, the reasons that look up an instance: 12 and 18 (RISC OS 3 Programmer's Reference
 //! Manual, "OS_Module").
 #![tactic(auto, unfolding(os_heap::specs::Store::store_of))]
 

@@ -7,7 +7,7 @@ use std::error::Error;
 use std::fmt;
 
 /// Why an image has no header. Where several reasons hold, the first of this list is given.
-#[derive(Clone, Copy, Debug, PartialEq, Eq)]
+#[derive(Clone, Copy, Debug)]
 pub enum HeaderFault {
     /// The image has fewer than 28 bytes.
     Short,
