@@ -29,7 +29,6 @@ pub struct DebugSettings {
 }
 
 /// What a debugging script works on beside the images.
-#[derive(Drop)]
 pub struct DebugSession {
     pub(crate) alloc: Global,
     /// What it is answered on.
@@ -50,6 +49,27 @@ pub struct DebugSession {
     pub past: Past,
     /// Memory for the answer to a line, used again for that to the next.
     pub(crate) scratch: Vec<u8>,
+}
+
+impl Drop for DebugSession {
+    fn drop(self) {
+        let DebugSession {
+            alloc: _alloc,
+            setting: _setting,
+            session: _session,
+            labels: _labels,
+            sources: _sources,
+            failed: _failed,
+            modes: _modes,
+            answer: _answer,
+            output: _output,
+            steps: _steps,
+            tally: _tally,
+            has_quit: _has_quit,
+            past: _past,
+            scratch: _scratch,
+        } = self;
+    }
 }
 
 impl DebugSession {
