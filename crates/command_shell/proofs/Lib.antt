@@ -3,6 +3,7 @@ pub use Rattle.debugger.proofs.Owned
 pub use Rattle.debugger.proofs.Runs
 pub mod AnswerLemmas
 pub mod CallLemmas
+pub mod FaultLemmas
 pub mod FrontLemmas
 pub mod ImageLemmas
 pub mod ScriptLemmas
