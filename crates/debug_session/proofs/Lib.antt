@@ -5,6 +5,7 @@ pub use Rattle.debug_tables.proofs.RunMeterLemmas.SliceLemmas
 pub use Rattle.debug_tables.proofs.StubLemmas
 pub mod AloneLemmas
 pub mod AsBeforeLemmas
+pub mod BlockLemmas
 pub mod FailLemmas
 pub mod HistoryLemmas
 pub mod JoinLemmas

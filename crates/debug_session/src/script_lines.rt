@@ -232,8 +232,11 @@ impl DebugSession {
         ensures setting { self.new.setting ≡ self.old.setting }
         ensures errors { IfErr result (λ error. error ≡ RunError.Memory) }
     {
+        if is_refused {
+            return Ok(());
+        }
         match *command {
-            ScriptCommand::Asm(name, origin) if !is_refused => match images.get(name) {
+            ScriptCommand::Asm(name, origin) => match images.get(name) {
                 Some(bytes) => self.add_labels(name, bytes, origin, block),
                 None => Ok(()),
             },

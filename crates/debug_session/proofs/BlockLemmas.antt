@@ -1,0 +1,45 @@
+-- What a line leaves of the labels by what it is.
+use Rattle.std.proofs.Common.{◌≡◌, ℕ, Bool, false, List, Option, Bor, ap, refl, sym, ◌∙◌}
+use Rattle.std.specs.Prelude.{if◌then◌else◌}
+use Rattle.profile.specs.images.Entries.{Entry, bytes_of_image}
+use Rattle.command_shell_lines.specs.Requests.{Request, Asm, request_of_command}
+use Rattle.command_shell_lines.specs.declared.requests.ScriptCommand.{ScriptCommand}
+use Rattle.command_shell_lines.specs.declared.requests.ScriptCommand.TheVariants as line
+use Rattle.debug_modules.specs.Labels.{ImageLabels}
+use Rattle.debug_tables.specs.Passes.{labels_of_lines}
+use Rattle.debug_session.specs.Naming.{labels_with_block, labels_with_image}
+
+-- an ASM block that is not refused, by what is found of its image
+pub labels_of_asm : (labels : List ImageLabels) (images : List Entry) (refused : Bool) (r : Request) (name : List ℕ) (origin : ℕ)
+    (block : List (List ℕ)) (found : Option (List ℕ)) → refused ≡ false → r ≡ Asm name origin → found ≡ bytes_of_image images name
+    → labels_with_image labels name origin found (labels_of_lines block origin)
+    ≡ (if refused then labels else labels_with_block labels images r block)
+labels_of_asm labels images refused r name origin block found may is there =
+    ap (λ (o : Option (List ℕ)). labels_with_image labels name origin o (labels_of_lines block origin)) there
+    ∙ ap (λ (q : Request). labels_with_block labels images q block) (sym is)
+    ∙ ap (λ (b : Bool). if b then labels else labels_with_block labels images r block) (sym may)
+
+-- any line but ASM
+pub labels_elsewhere : (labels : List ImageLabels) (images : List Entry) (command : ScriptCommand) (block : List (List ℕ))
+    → ((name : Bor (List ℕ)) (origin : ℕ) → command ≡ line.Asm name origin → ⊥)
+    → labels ≡ labels_with_block labels images (request_of_command command) block
+labels_elsewhere labels images (line.Asm name origin) block other = absurd (other name origin refl)
+labels_elsewhere labels images (line.Hex name) block other = refl
+labels_elsewhere labels images line.Nothing block other = refl
+labels_elsewhere labels images (line.Boot name) block other = refl
+labels_elsewhere labels images line.Run block other = refl
+labels_elsewhere labels images line.Regs block other = refl
+labels_elsewhere labels images (line.Set register value) block other = refl
+labels_elsewhere labels images (line.Poke address value) block other = refl
+labels_elsewhere labels images (line.Call called) block other = refl
+labels_elsewhere labels images (line.Load text) block other = refl
+labels_elsewhere labels images (line.Step count) block other = refl
+labels_elsewhere labels images (line.Break address) block other = refl
+labels_elsewhere labels images (line.Unbreak address) block other = refl
+labels_elsewhere labels images (line.Mem address count) block other = refl
+labels_elsewhere labels images (line.Code address count) block other = refl
+labels_elsewhere labels images (line.Heap address) block other = refl
+labels_elsewhere labels images line.Areas block other = refl
+labels_elsewhere labels images line.Modules block other = refl
+labels_elsewhere labels images line.Flex block other = refl
+labels_elsewhere labels images line.Unknown block other = refl
