@@ -1,12 +1,14 @@
--- What a line leaves of the labels by what it is.
+-- What a line leaves of the labels and of the failed blocks by what it is.
 use Rattle.std.proofs.Common.{◌≡◌, ℕ, Bool, false, List, Option, Bor, ap, refl, sym, ◌∙◌}
 use Rattle.std.specs.Prelude.{if◌then◌else◌}
 use Rattle.profile.specs.images.Entries.{Entry, bytes_of_image}
+use Rattle.command_shell_lines.specs.FailedBlocks.{FailedBlockPlace}
 use Rattle.command_shell_lines.specs.Requests.{Request, Asm, request_of_command}
 use Rattle.command_shell_lines.specs.declared.requests.ScriptCommand.{ScriptCommand}
 use Rattle.command_shell_lines.specs.declared.requests.ScriptCommand.TheVariants as line
 use Rattle.debug_modules.specs.Labels.{ImageLabels}
 use Rattle.debug_tables.specs.Passes.{labels_of_lines}
+use Rattle.debug_session.specs.DebugScript.{failed_with_block}
 use Rattle.debug_session.specs.Naming.{labels_with_block, labels_with_image}
 
 -- an ASM block that is not refused, by what is found of its image
@@ -43,3 +45,29 @@ labels_elsewhere labels images line.Areas block other = refl
 labels_elsewhere labels images line.Modules block other = refl
 labels_elsewhere labels images line.Flex block other = refl
 labels_elsewhere labels images line.Unknown block other = refl
+
+-- any line that opens no block
+pub failed_elsewhere : (failed : List FailedBlockPlace) (number : ℕ) (command : ScriptCommand) (block : List (List ℕ))
+    → ((name : Bor (List ℕ)) (origin : ℕ) → command ≡ line.Asm name origin → ⊥)
+    → ((name : Bor (List ℕ)) → command ≡ line.Hex name → ⊥)
+    → failed ≡ failed_with_block failed number (request_of_command command) block
+failed_elsewhere failed number (line.Asm name origin) block other also = absurd (other name origin refl)
+failed_elsewhere failed number (line.Hex name) block other also = absurd (also name refl)
+failed_elsewhere failed number line.Nothing block other also = refl
+failed_elsewhere failed number (line.Boot name) block other also = refl
+failed_elsewhere failed number line.Run block other also = refl
+failed_elsewhere failed number line.Regs block other also = refl
+failed_elsewhere failed number (line.Set register value) block other also = refl
+failed_elsewhere failed number (line.Poke address value) block other also = refl
+failed_elsewhere failed number (line.Call called) block other also = refl
+failed_elsewhere failed number (line.Load text) block other also = refl
+failed_elsewhere failed number (line.Step count) block other also = refl
+failed_elsewhere failed number (line.Break address) block other also = refl
+failed_elsewhere failed number (line.Unbreak address) block other also = refl
+failed_elsewhere failed number (line.Mem address count) block other also = refl
+failed_elsewhere failed number (line.Code address count) block other also = refl
+failed_elsewhere failed number (line.Heap address) block other also = refl
+failed_elsewhere failed number line.Areas block other also = refl
+failed_elsewhere failed number line.Modules block other also = refl
+failed_elsewhere failed number line.Flex block other also = refl
+failed_elsewhere failed number line.Unknown block other also = refl
