@@ -368,6 +368,10 @@ line_below before mid after c e d n now number r block below setting noted is re
     })
 
 -- a machine made anew, whose past begins or goes on
+pub made_anew : (d : DebugState) (s t : ScriptState) (p q : PastState) → s ≡ t → p ≡ q
+    → record d { script = s; past = p } ≡ record d { script = t; past = q }
+made_anew d s t p q made begun = λ i. record d { script = made i; past = begun i }
+
 pub begun_anew : (c : DebugSettings) (d now : DebugState) (number : ℕ)
     → now ≡ record d { script = script_started_anew d.script c.config c.budget; past = past_from_start c.keeps_past }
     → d.past.is_kept ≡ false
