@@ -1,3 +1,4 @@
+use Rattle.std.proofs.Common.{refl}
 use Rattle.debug_tables.specs.run_meter.Memory.{script_with_budget}
 use Rattle.debug_tables.specs.run_meter.Session.{script_state}
 use Rattle.command_shell_lines.specs.Blocks.{block_lines}
@@ -13,3 +14,12 @@ returns-in-Ok-clause-reported c =
     (script_with_budget (script_state c.args.self.now.session c.args.images.now) c.args.self.now.setting.budget)
     c.args.script.now.number (request_of_command c.args.command.now) (block_lines c.args.script.now.left)
     c.over-text.ensures c.into_bytes.ensures (c.set_budget.ensures c.args.images.now) (c.in-Ok.ensures).reported
+
+pub returns-in-Ok-clause-left : goal.returns-in-Ok-clause-left
+returns-in-Ok-clause-left c = c.in-Ok.ensures.left
+
+pub returns-in-Ok-clause-number : goal.returns-in-Ok-clause-number
+returns-in-Ok-clause-number c = c.in-Ok.ensures.number
+
+pub returns-in-Ok-clause-rest : goal.returns-in-Ok-clause-rest
+returns-in-Ok-clause-rest c = refl
