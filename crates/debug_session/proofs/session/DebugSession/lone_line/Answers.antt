@@ -58,3 +58,34 @@ returns-clause-reported g c =
     (answer_with _ _ at_print at_print with_past.setting old.setting number number false text
     (past.setting ∙ kept.setting ∙ ap (λ (s : DebugSession). s.setting) answered.rest) refl
     (record { text = c.in_ok-push_line_answer.ensures.text; state = refl }))
+
+pub returns-then-asks_nothing-clause-setting : goal.returns-then-asks_nothing-clause-setting
+returns-then-asks_nothing-clause-setting g c = ap (λ (s : DebugSession). s.setting) c.in_ok-answer.ensures.rest
+
+pub returns-in_err-answer-clause-setting : goal.returns-in_err-answer-clause-setting
+returns-in_err-answer-clause-setting g c = ap (λ (s : DebugSession). s.setting) c.in_err-answer.ensures.rest
+
+pub returns-in_err-note-clause-setting : goal.returns-in_err-note-clause-setting
+returns-in_err-note-clause-setting g c =
+    c.in_err-note.ensures.setting ∙ ap (λ (s : DebugSession). s.setting) c.in_ok-answer.ensures.rest
+
+pub returns-in_err-note_past-clause-setting : goal.returns-in_err-note_past-clause-setting
+returns-in_err-note_past-clause-setting g c =
+    c.in_err-note_past.ensures.setting ∙ c.in_ok-note.ensures.setting
+    ∙ ap (λ (s : DebugSession). s.setting) c.in_ok-answer.ensures.rest
+
+pub returns-in_err-push_line_answer-clause-setting : goal.returns-in_err-push_line_answer-clause-setting
+returns-in_err-push_line_answer-clause-setting g c =
+    c.in_ok-note_past.ensures.setting ∙ c.in_ok-note.ensures.setting
+    ∙ ap (λ (s : DebugSession). s.setting) c.in_ok-answer.ensures.rest
+
+pub returns-clause-left : goal.returns-clause-left
+returns-clause-left g c = c.in_ok-answer.ensures.left
+
+pub returns-clause-number : goal.returns-clause-number
+returns-clause-number g c = c.in_ok-answer.ensures.number
+
+pub returns-clause-setting : goal.returns-clause-setting
+returns-clause-setting g c =
+    c.in_ok-note_past.ensures.setting ∙ c.in_ok-note.ensures.setting
+    ∙ ap (λ (s : DebugSession). s.setting) c.in_ok-answer.ensures.rest
