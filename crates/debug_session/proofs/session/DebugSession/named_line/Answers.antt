@@ -68,3 +68,53 @@ returns-clause-reported g c =
     refused c.as_slice-shown.result.now
     (labelled.setting ∙ past.setting ∙ kept.setting ∙ ap (λ (s : DebugSession). s.setting) answered.rest) c.number-2.ensures
     (c.in_ok-print.ensures.reported after))
+
+pub returns-then-asks_nothing-clause-setting : goal.returns-then-asks_nothing-clause-setting
+returns-then-asks_nothing-clause-setting g c =
+    ap (λ (s : DebugSession). s.setting) c.in_ok-answer.ensures.rest
+
+pub returns-in_err-answer-clause-setting : goal.returns-in_err-answer-clause-setting
+returns-in_err-answer-clause-setting g c =
+    ap (λ (s : DebugSession). s.setting) c.in_err-answer.ensures.rest
+
+pub returns-in_err-note-clause-setting : goal.returns-in_err-note-clause-setting
+returns-in_err-note-clause-setting g c =
+    c.in_err-note.ensures.setting ∙ ap (λ (s : DebugSession). s.setting) c.in_ok-answer.ensures.rest
+
+pub returns-in_err-note_past-clause-setting : goal.returns-in_err-note_past-clause-setting
+returns-in_err-note_past-clause-setting g c =
+    c.in_err-note_past.ensures.setting ∙ c.in_ok-note.ensures.setting
+    ∙ ap (λ (s : DebugSession). s.setting) c.in_ok-answer.ensures.rest
+
+pub returns-in_err-take_labels-clause-setting : goal.returns-in_err-take_labels-clause-setting
+returns-in_err-take_labels-clause-setting g c =
+    c.in_err-take_labels.ensures.setting ∙ c.in_ok-note_past.ensures.setting ∙ c.in_ok-note.ensures.setting
+    ∙ ap (λ (s : DebugSession). s.setting) c.in_ok-answer.ensures.rest
+
+pub returns-in_err-keep_source-clause-setting : goal.returns-in_err-keep_source-clause-setting
+returns-in_err-keep_source-clause-setting g c =
+    c.in_ok-take_labels.ensures.setting ∙ c.in_ok-note_past.ensures.setting ∙ c.in_ok-note.ensures.setting
+    ∙ ap (λ (s : DebugSession). s.setting) c.in_ok-answer.ensures.rest
+
+pub returns-in_err-explained-clause-setting : goal.returns-in_err-explained-clause-setting
+returns-in_err-explained-clause-setting g c =
+    c.in_ok-take_labels.ensures.setting ∙ c.in_ok-note_past.ensures.setting ∙ c.in_ok-note.ensures.setting
+    ∙ ap (λ (s : DebugSession). s.setting) c.in_ok-answer.ensures.rest
+
+pub returns-in_err-print-clause-setting : goal.returns-in_err-print-clause-setting
+returns-in_err-print-clause-setting g c =
+    c.in_err-print.ensures.setting ∙ c.in_ok-take_labels.ensures.setting ∙ c.in_ok-note_past.ensures.setting ∙ c.in_ok-note.ensures.setting
+    ∙ ap (λ (s : DebugSession). s.setting) c.in_ok-answer.ensures.rest
+
+pub returns-clause-left : goal.returns-clause-left
+returns-clause-left g c =
+    c.in_ok-answer.ensures.left
+
+pub returns-clause-taken : goal.returns-clause-taken
+returns-clause-taken g c =
+    c.in_ok-answer.ensures.number
+
+pub returns-clause-setting : goal.returns-clause-setting
+returns-clause-setting g c =
+    c.in_ok-print.ensures.setting ∙ c.in_ok-take_labels.ensures.setting ∙ c.in_ok-note_past.ensures.setting ∙ c.in_ok-note.ensures.setting
+    ∙ ap (λ (s : DebugSession). s.setting) c.in_ok-answer.ensures.rest
