@@ -6,6 +6,7 @@ pub use Rattle.debug_tables.proofs.StubLemmas
 pub mod AloneLemmas
 pub mod AsBeforeLemmas
 pub mod BlockLemmas
+pub mod EndLemmas
 pub mod FailLemmas
 pub mod HistoryLemmas
 pub mod JoinLemmas

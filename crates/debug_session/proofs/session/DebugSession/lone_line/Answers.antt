@@ -7,6 +7,8 @@ use Rattle.debug_session.specs.Session.{debug_state}
 use Rattle.debug_session.proofs.OwnLemmas.{answer_with, line_answer, lone_labels, lone_refused, no_answer, noted_labels, session_kept, session_labelled, session_moved, session_noted}
 use Rattle.debug_session.proofs.SourceLemmas.{lone_sources, noted_sources, session_sourced}
 use Rattle.debug_session.specs.declared.session.DebugSession.{DebugSession}
+use Rattle.debug_session.proofs.EndLemmas.{ends_failed, ends_unwritten, ends_written}
+use Rattle.debug_tables.specs.run_meter.RunError.TheVariants.{Memory}
 use Rattle.debug_session.proofs.session.DebugSession.lone_line.Goals as goal
 
 pub returns-then-asks_nothing-clause-reported : goal.returns-then-asks_nothing-clause-reported
@@ -89,3 +91,21 @@ pub returns-clause-setting : goal.returns-clause-setting
 returns-clause-setting g c =
     c.in_ok-note_past.ensures.setting ∙ c.in_ok-note.ensures.setting
     ∙ ap (λ (s : DebugSession). s.setting) c.in_ok-answer.ensures.rest
+
+pub returns-then-asks_nothing-clause-ends : goal.returns-then-asks_nothing-clause-ends
+returns-then-asks_nothing-clause-ends g c = ends_written g.W.Sink.has_failed c.args.sink.now c.args.sink.now _ refl
+
+pub returns-in_err-answer-clause-ends : goal.returns-in_err-answer-clause-ends
+returns-in_err-answer-clause-ends g c = ends_unwritten g.W.Sink.has_failed c.args.sink.now c.from_residual.result _ c.from_residual.ensures.1 c.in_err-answer.ensures.errors
+
+pub returns-in_err-note-clause-ends : goal.returns-in_err-note-clause-ends
+returns-in_err-note-clause-ends g c = ends_unwritten g.W.Sink.has_failed c.args.sink.now c.from_residual-in_err-note.result Memory c.from_residual-in_err-note.ensures.1 refl
+
+pub returns-in_err-note_past-clause-ends : goal.returns-in_err-note_past-clause-ends
+returns-in_err-note_past-clause-ends g c = ends_unwritten g.W.Sink.has_failed c.args.sink.now c.from_residual-in_err-note_past.result Memory c.from_residual-in_err-note_past.ensures.1 refl
+
+pub returns-in_err-push_line_answer-clause-ends : goal.returns-in_err-push_line_answer-clause-ends
+returns-in_err-push_line_answer-clause-ends g c = ends_failed g.W.Sink.has_failed c.args.sink.now c.push_line_answer.new.sink c.from_residual-in_err-push_line_answer.result c.from_residual-in_err-push_line_answer.ensures.1 c.in_err-push_line_answer.ensures.flag
+
+pub returns-clause-ends : goal.returns-clause-ends
+returns-clause-ends g c = ends_written g.W.Sink.has_failed c.args.sink.now c.push_line_answer.new.sink _ c.in_ok-push_line_answer.ensures.same_flag
