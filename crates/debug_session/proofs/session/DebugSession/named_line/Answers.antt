@@ -8,6 +8,8 @@ use Rattle.debug_session.specs.Session.{debug_state}
 use Rattle.debug_session.proofs.OwnLemmas.{labels_taken, line_answer, noted_labels, no_answer, refused_as_answer, session_labelled, session_kept, session_moved, session_noted, answer_with}
 use Rattle.debug_session.proofs.SourceLemmas.{noted_sources, session_sourced, sources_taken}
 use Rattle.debug_session.specs.declared.session.DebugSession.{DebugSession}
+use Rattle.debug_session.proofs.EndLemmas.{ends_failed, ends_unwritten, ends_written}
+use Rattle.debug_tables.specs.run_meter.RunError.TheVariants.{Memory}
 use Rattle.debug_session.proofs.session.DebugSession.named_line.Goals as goal
 
 pub returns-then-asks_nothing-clause-reported : goal.returns-then-asks_nothing-clause-reported
@@ -118,3 +120,30 @@ pub returns-clause-setting : goal.returns-clause-setting
 returns-clause-setting g c =
     c.in_ok-print.ensures.setting ∙ c.in_ok-take_labels.ensures.setting ∙ c.in_ok-note_past.ensures.setting ∙ c.in_ok-note.ensures.setting
     ∙ ap (λ (s : DebugSession). s.setting) c.in_ok-answer.ensures.rest
+
+pub returns-then-asks_nothing-clause-ends : goal.returns-then-asks_nothing-clause-ends
+returns-then-asks_nothing-clause-ends g c = ends_written g.W.Sink.has_failed c.args.sink.now c.args.sink.now _ refl
+
+pub returns-in_err-answer-clause-ends : goal.returns-in_err-answer-clause-ends
+returns-in_err-answer-clause-ends g c = ends_unwritten g.W.Sink.has_failed c.args.sink.now c.from_residual.result _ c.from_residual.ensures.1 c.in_err-answer.ensures.errors
+
+pub returns-in_err-note-clause-ends : goal.returns-in_err-note-clause-ends
+returns-in_err-note-clause-ends g c = ends_unwritten g.W.Sink.has_failed c.args.sink.now c.from_residual-in_err-note.result Memory c.from_residual-in_err-note.ensures.1 refl
+
+pub returns-in_err-note_past-clause-ends : goal.returns-in_err-note_past-clause-ends
+returns-in_err-note_past-clause-ends g c = ends_unwritten g.W.Sink.has_failed c.args.sink.now c.from_residual-in_err-note_past.result Memory c.from_residual-in_err-note_past.ensures.1 refl
+
+pub returns-in_err-take_labels-clause-ends : goal.returns-in_err-take_labels-clause-ends
+returns-in_err-take_labels-clause-ends g c = ends_unwritten g.W.Sink.has_failed c.args.sink.now c.from_residual-in_err-take_labels.result _ c.from_residual-in_err-take_labels.ensures.1 c.in_err-take_labels.ensures.errors
+
+pub returns-in_err-keep_source-clause-ends : goal.returns-in_err-keep_source-clause-ends
+returns-in_err-keep_source-clause-ends g c = ends_unwritten g.W.Sink.has_failed c.args.sink.now c.from_residual-in_err-keep_source.result Memory c.from_residual-in_err-keep_source.ensures.1 refl
+
+pub returns-in_err-explained-clause-ends : goal.returns-in_err-explained-clause-ends
+returns-in_err-explained-clause-ends g c = ends_unwritten g.W.Sink.has_failed c.args.sink.now c.from_residual-in_err-explained.result Memory c.from_residual-in_err-explained.ensures.1 refl
+
+pub returns-in_err-print-clause-ends : goal.returns-in_err-print-clause-ends
+returns-in_err-print-clause-ends g c = ends_failed g.W.Sink.has_failed c.args.sink.now c.print.new.sink c.from_residual-in_err-print.result c.from_residual-in_err-print.ensures.1 c.in_err-print.ensures.flag
+
+pub returns-clause-ends : goal.returns-clause-ends
+returns-clause-ends g c = ends_written g.W.Sink.has_failed c.args.sink.now c.print.new.sink _ c.in_ok-print.ensures.same_flag
