@@ -1,10 +1,12 @@
-use Rattle.std.proofs.Common.{◌∙◌, ap}
+use Rattle.std.proofs.Common.{◌∙◌, ap, refl}
 use Rattle.debug_modules.specs.Counting.{counts_text}
 use Rattle.debug_modules.specs.Places.{naming_on}
 use Rattle.debug_tables.specs.run_meter.Value.{MachineValue}
 use Rattle.debug_tables.specs.run_meter.GuestState.{state_of}
 use Rattle.debug_session.specs.Session.{debug_state}
 use Rattle.debug_session.proofs.OwnLemmas.{view_of_text}
+use Rattle.debug_session.proofs.EndLemmas.{ends_failed, ends_unwritten, ends_written}
+use Rattle.debug_tables.specs.run_meter.RunError.TheVariants.{Memory}
 use Rattle.debug_session.proofs.session.DebugSession.counts.Goals as goal
 
 pub returns-clause-reported : goal.returns-clause-reported
@@ -13,3 +15,12 @@ returns-clause-reported g c images =
     let shown = λ (m : MachineValue). counts_text old.modes.counts (naming_on old.labels (state_of m.guest)) (state_of m.guest).store.bytes c.args.name.now in
     view_of_text _ _ _ (debug_state old images) old.setting c.in_ok-text.text.items _
     (c.in_ok-text.ensures ∙ ap shown c.machine-machine.ensures) (c.in_ok-view.ensures.reported images)
+
+pub returns-in_err-text-clause-ends : goal.returns-in_err-text-clause-ends
+returns-in_err-text-clause-ends g c = ends_unwritten g.W.Sink.has_failed c.args.sink.now c.from_residual.result Memory c.from_residual.ensures.1 refl
+
+pub returns-in_err-view-clause-ends : goal.returns-in_err-view-clause-ends
+returns-in_err-view-clause-ends g c = ends_failed g.W.Sink.has_failed c.args.sink.now c.view.new.sink c.from_residual-in_err-view.result c.from_residual-in_err-view.ensures.1 c.in_err-view.ensures.flag
+
+pub returns-clause-ends : goal.returns-clause-ends
+returns-clause-ends g c = ends_written g.W.Sink.has_failed c.args.sink.now c.view.new.sink _ c.in_ok-view.ensures.same_flag

@@ -1,10 +1,12 @@
 -- The image is there or not.
-use Rattle.std.proofs.Common.{ℕ, List, Option, subst}
+use Rattle.std.proofs.Common.{ℕ, List, Option, subst, refl}
 use Rattle.std.specs.Prelude.{OnOk}
 use Rattle.debug_session.specs.DebugScript.{bytes_answer, put_found}
 use Rattle.debug_session.specs.DebugState.{IsDebugged}
 use Rattle.debug_session.specs.Session.{debug_state}
 use Rattle.debug_session.proofs.OwnLemmas.{view_of_text}
+use Rattle.debug_session.proofs.EndLemmas.{ends_failed, ends_unwritten, ends_written}
+use Rattle.debug_tables.specs.run_meter.RunError.TheVariants.{Memory}
 use Rattle.debug_session.proofs.session.DebugSession.put.Goals as goal
 
 pub returns-in_default-clause-reported : goal.returns-in_default-clause-reported
@@ -30,3 +32,18 @@ returns-clause-reported g c =
     (g.W.Sink.contents c.write_bytes.new.sink) (debug_state c.write_bytes.new.self images)
     (bytes_answer old.setting (debug_state old images) c.args.number c.args.address c.in-Some.bytes.now xs)))
     c.in_ok-done.ensures (c.write_bytes.ensures.reported images))
+
+pub returns-in_err-text-clause-ends : goal.returns-in_err-text-clause-ends
+returns-in_err-text-clause-ends g c = ends_unwritten g.W.Sink.has_failed c.args.sink.now c.from_residual.result Memory c.from_residual.ensures.1 refl
+
+pub returns-in_err-view-clause-ends : goal.returns-in_err-view-clause-ends
+returns-in_err-view-clause-ends g c = ends_failed g.W.Sink.has_failed c.args.sink.now c.view.new.sink c.from_residual-in_err-view.result c.from_residual-in_err-view.ensures.1 c.in_err-view.ensures.flag
+
+pub returns-in_default-clause-ends : goal.returns-in_default-clause-ends
+returns-in_default-clause-ends g c = ends_written g.W.Sink.has_failed c.args.sink.now c.view.new.sink _ c.in_ok-view.ensures.same_flag
+
+pub returns-in_err-done-clause-ends : goal.returns-in_err-done-clause-ends
+returns-in_err-done-clause-ends g c = ends_unwritten g.W.Sink.has_failed c.args.sink.now c.from_residual-in_err-done.result Memory c.from_residual-in_err-done.ensures.1 refl
+
+pub returns-clause-ends : goal.returns-clause-ends
+returns-clause-ends g c = c.write_bytes.ensures.ends
