@@ -1,13 +1,55 @@
 use Rattle.std.proofs.Common.{◌≡◌, ◌∙◌, ℕ, List, ap, subst, sym}
+use Rattle.profile.specs.images.Entries.{bytes_of_image}
 use Rattle.debug_labels.specs.Writes.{machine_after_poke, machine_at, machine_unhalted, machine_with_bank_register, machine_with_register, machine_with_status}
 use Rattle.debug_labels.specs.Value.{MachineValue}
 use Rattle.debug_tables.specs.Memory.{script_at}
 use Rattle.debug_tables.specs.Session.{script_state}
-use Rattle.debug_history.specs.Acts.{changed_moment, moment_after_deed, moment_after_put, moment_after_word, moment_of_script}
+use Rattle.debug_tables.specs.Step.{module_loaded}
+use Rattle.debug_history.specs.Acts.{changed_moment, moment_after_boot, moment_after_deed, moment_after_put, moment_after_word, moment_of_script}
 use Rattle.debug_history.specs.Again.{IsAtMoment}
 use Rattle.debug_history.specs.declared.act.PastDeed.{PastDeed}
-use Rattle.debug_history.proofs.AgainLemmas.{anew_at, poke_at, put_at, with_machine_at}
+use Rattle.debug_history.proofs.AgainLemmas.{anew_at, boot_at, poke_at, put_at, with_machine_at}
 use Rattle.debug_history.proofs.again.deed_again.Goals as goal
+
+pub returns-in_ok-steps_again-in-Steps-clause-moment : goal.returns-in_ok-steps_again-in-Steps-clause-moment
+returns-in_ok-steps_again-in-Steps-clause-moment c =
+    let s = script_state c.args.session.now c.args.images.now in
+    let now = script_state c.steps_again.new.session c.args.images.now in
+    subst (λ (d : PastDeed). IsAtMoment s now (moment_after_deed s.images s.sizes d (moment_of_script s))) (sym c.in-Steps.is)
+    c.in_ok-steps_again-in-Steps.ensures
+
+pub returns-in_ok-fault_again-in-FaultingStep-clause-moment : goal.returns-in_ok-fault_again-in-FaultingStep-clause-moment
+returns-in_ok-fault_again-in-FaultingStep-clause-moment c =
+    let s = script_state c.args.session.now c.args.images.now in
+    let now = script_state c.fault_again.new.session c.args.images.now in
+    subst (λ (d : PastDeed). IsAtMoment s now (moment_after_deed s.images s.sizes d (moment_of_script s))) (sym c.in-FaultingStep.is)
+    c.in_ok-fault_again-in-FaultingStep.ensures
+
+pub returns-in_ok-answer-in-Boot-clause-moment : goal.returns-in_ok-answer-in-Boot-clause-moment
+returns-in_ok-answer-in-Boot-clause-moment c =
+    let s = script_state c.args.session.now c.args.images.now in
+    let now = script_state c.answer.new.self c.answer.new.images in
+    let name = c.bytes-name.result.now in
+    subst (λ (d : PastDeed). IsAtMoment s now (moment_after_deed s.images s.sizes d (moment_of_script s))) (sym c.in-Boot.is)
+    (subst (λ (bytes : List ℕ). IsAtMoment s now (moment_after_boot s.sizes (moment_of_script s) (bytes_of_image s.images bytes)))
+    c.bytes-name.ensures
+    (boot_at s now name (bytes_of_image s.images name) c.in_ok-answer-in-Boot.ensures.reported.state))
+
+pub returns-in_ok-call_again-in-Call-clause-moment : goal.returns-in_ok-call_again-in-Call-clause-moment
+returns-in_ok-call_again-in-Call-clause-moment c =
+    let s = script_state c.args.session.now c.args.images.now in
+    let now = script_state c.call_again.new.session c.args.images.now in
+    subst (λ (d : PastDeed). IsAtMoment s now (moment_after_deed s.images s.sizes d (moment_of_script s))) (sym c.in-Call.is)
+    c.in_ok-call_again-in-Call.ensures
+
+pub returns-in_ok-call_again-in-Load-clause-moment : goal.returns-in_ok-call_again-in-Load-clause-moment
+returns-in_ok-call_again-in-Load-clause-moment c =
+    let s = script_state c.args.session.now c.args.images.now in
+    let now = script_state c.call_again-in-Load.new.session c.args.images.now in
+    subst (λ (d : PastDeed). IsAtMoment s now (moment_after_deed s.images s.sizes d (moment_of_script s))) (sym c.in-Load.is)
+    (subst (λ (text : List ℕ). IsAtMoment s now (changed_moment (module_loaded s.images s.machine text).now))
+    c.bytes.ensures
+    c.in_ok-call_again-in-Load.ensures)
 
 pub returns-in-Register-clause-moment : goal.returns-in-Register-clause-moment
 returns-in-Register-clause-moment c =
