@@ -17,13 +17,24 @@ use std::alloc::Global;
 
 /// What the lines of a script work on beside the images: a machine, its breaks, what is left of the
 /// budget, and the last stop that a line was answered with.
-#[derive(Drop)]
 pub struct Session {
     pub(crate) alloc: Global,
     pub(crate) machine: Machine,
     pub(crate) breaks: Breaks,
     pub(crate) left: u64,
     pub(crate) last: Option<Stop>,
+}
+
+impl Drop for Session {
+    fn drop(self) {
+        let Session {
+            alloc: _alloc,
+            machine: _machine,
+            breaks: _breaks,
+            left: _left,
+            last: _last,
+        } = self;
+    }
 }
 
 impl Session {

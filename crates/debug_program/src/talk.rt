@@ -144,7 +144,7 @@ fn answer_piece<W: Sink, E: Sink>(
     ensures same_flag { OnOk result (W.has_failed sink.new ≡ W.has_failed sink.old) }
 {
     let read = typing.read(piece)?;
-    let form = typing.session().form();
+    let form = typing.session().setting.form;
     print_missing_ends(sink, errors, form, read.missing_ends())?;
     typing.answer(images, sink, read)
 }
@@ -165,7 +165,7 @@ fn print_missing_at_end<W: Sink, E: Sink>(
         return Ok(());
     }
     let begins = typing.missing_ends_at_end()?;
-    let form = typing.session().form();
+    let form = typing.session().setting.form;
     Ok(print_missing_ends(sink, errors, form, begins.as_slice())?)
 }
 

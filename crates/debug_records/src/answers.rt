@@ -65,15 +65,12 @@ impl Twin {
     {
         let head = answer_head(self.alloc, session, parts, used)?;
         if used.is_remark() {
-            push_whole(sink, &head)?;
-            return Ok(());
+            return Ok(push_whole(sink, &head)?);
         }
         if parts.may_change(used) {
-            self.print_changed(session, images, parts, used, block, &head, sink)?;
-            return Ok(());
+            return self.print_changed(session, images, parts, used, block, &head, sink);
         }
-        self.print_without_changes(session, used, &head, sink)?;
-        Ok(())
+        self.print_without_changes(session, used, &head, sink)
     }
 
     // Writes that of a line that took steps: where they ended; or of RESET: the whole machine.
@@ -96,8 +93,7 @@ impl Twin {
             push_ending(self.alloc, &mut self.text, session)?;
         }
         self.push_places(Some(session))?;
-        push_record(sink, head, &self.text)?;
-        Ok(())
+        Ok(push_record(sink, head, &self.text)?)
     }
 
     // That of another answer: with what the line changed, and what stands before it.
@@ -120,8 +116,7 @@ impl Twin {
         push_changes(self.alloc, &mut self.changes, &before, session.machine())?;
         push_changed_store(self.alloc, &mut self.text, &before, session.machine())?;
         self.push_places(Some(session))?;
-        push_moment(sink, head, &self.front, &self.changes, &self.text)?;
-        Ok(())
+        Ok(push_moment(sink, head, &self.front, &self.changes, &self.text)?)
     }
 
     // The image that a block has made, if it has made one; where a line ended that took none of its steps.

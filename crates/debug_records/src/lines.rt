@@ -162,18 +162,13 @@ impl Recorder {
             (next_line after)) (W.contents sink.old) (W.contents sink.new)) }
     {
         if is_script_line(line) {
-            self.record_line(line, line, None, script, sink)?;
-            return Ok(());
+            return self.record_line(line, line, None, script, sink);
         }
         let words = tidied(self.alloc, line)?;
         match self.session.repeated(words.as_slice())? {
-            None => {
-                self.record_line(line, words.as_slice(), None, script, sink)?;
-                Ok(())
-            }
+            None => self.record_line(line, words.as_slice(), None, script, sink),
             Some(repeated) => {
-                self.record_repeated(line, repeated.line, repeated.count, script, sink)?;
-                Ok(())
+                self.record_repeated(line, repeated.line, repeated.count, script, sink)
             }
         }
     }
@@ -247,8 +242,7 @@ impl Recorder {
         };
         self.twin
             .print_answer(&self.session, &self.images, &parts, &used, &block, sink)?;
-        self.twin.follow(&self.session, taken, words, &block)?;
-        Ok(())
+        self.twin.follow(&self.session, taken, words, &block)
     }
 }
 
@@ -330,8 +324,7 @@ impl Twin {
     {
         let mut fields = line_head(self.alloc, number, line, time)?;
         push_block(&mut fields, opens_block, script)?;
-        push_whole(sink, &fields)?;
-        Ok(())
+        Ok(push_whole(sink, &fields)?)
     }
 }
 

@@ -14,7 +14,6 @@ use trace_effects::record_text::RecordText;
 ///
 /// The session answers each line; its twin takes the same steps one by one, and each of them is shown.
 /// Before each line, and behind the steps of one, both are read as the same, or nothing more is recorded.
-#[derive(Drop)]
 pub struct Recorder {
     pub(crate) alloc: Global,
     pub(crate) session: DebugSession,
@@ -24,6 +23,19 @@ pub struct Recorder {
     pub(crate) limit: u64,
     /// How many steps were taken so far.
     pub(crate) steps: u64,
+}
+
+impl Drop for Recorder {
+    fn drop(self) {
+        let Recorder {
+            alloc: _alloc,
+            session: _session,
+            images: _images,
+            twin: _twin,
+            limit: _limit,
+            steps: _steps,
+        } = self;
+    }
 }
 
 /// The session that takes steps one by one, and what is known of it.

@@ -40,11 +40,9 @@ impl Twin {
     {
         if line.limit < line.taken {
             self.record_each(session, command, line, line.limit, sink)?;
-            self.record_rest(session, command, line, sink)?;
-            return Ok(());
+            return self.record_rest(session, command, line, sink);
         }
-        self.record_each(session, command, line, line.taken, sink)?;
-        Ok(())
+        self.record_each(session, command, line, line.taken, sink)
     }
 
     // Records so many of the steps that a line has taken one by one.
@@ -93,8 +91,7 @@ impl Twin {
         before.push_rest(self.alloc, &mut self.text, machine, printed.bytes())?;
         self.push_moved(&before)?;
         let head = step_head(self.alloc, number, before.place())?;
-        push_moment(sink, &head, &self.front, &self.changes, &self.text)?;
-        Ok(())
+        Ok(push_moment(sink, &head, &self.front, &self.changes, &self.text)?)
     }
 
     /// No fields of a record yet.
@@ -197,8 +194,7 @@ impl Twin {
         push_skip_changes(self.alloc, &mut self.changes, &copy, machine)?;
         push_skip(self.alloc, &mut self.text, &copy, machine, printed.bytes())?;
         self.push_places(None)?;
-        push_moment(sink, &head, &self.front, &self.changes, &self.text)?;
-        Ok(())
+        Ok(push_moment(sink, &head, &self.front, &self.changes, &self.text)?)
     }
 }
 

@@ -238,9 +238,8 @@ impl DebugSession {
             (script_at (debug_state self.old images).script address)).state) }
         ensures setting { self.new.setting ≡ self.old.setting }
     {
-        let pc = address.address();
         self.past.put(number as u64, PastDeed::Place(address))?;
-        self.session.set_pc(pc);
+        self.session.set_pc(address.address());
         self.answer = Vec::new(self.alloc);
         Ok(())
     }

@@ -103,9 +103,8 @@ impl DebugSession {
         let reason = self.refusal_reason(words)?;
         let reported = refusal_line(self.alloc, number, reason.as_slice())?;
         let answer = unknown_line(self.alloc, number)?;
-        let form = self.setting.form;
         let shown = reported.as_slice();
-        push_refusal(sink, form, self.tally, number, shown)?;
+        push_refusal(sink, self.setting.form, self.tally, number, shown)?;
         self.answer = answer;
         self.tally = self.tally.with_refusal();
         Ok(())

@@ -291,11 +291,10 @@ impl DebugSession {
         ensures flag { OnErr result (W.has_failed sink.new ≡ true) }
         ensures same_flag { OnOk result (W.has_failed sink.new ≡ W.has_failed sink.old) }
     {
-        let form = self.setting.form;
         if !is_refused {
-            return push_answer(sink, form, text);
+            return push_answer(sink, self.setting.form, text);
         }
-        push_refusal(sink, form, self.tally, number, text)?;
+        push_refusal(sink, self.setting.form, self.tally, number, text)?;
         self.tally = self.tally.with_refusal();
         Ok(())
     }

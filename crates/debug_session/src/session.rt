@@ -110,13 +110,6 @@ impl DebugSession {
         })
     }
 
-    /// The form of its answers.
-    pub fn form(&self) -> ReportForm
-        ensures { result ≡ self.now.setting.form }
-    {
-        self.setting.form
-    }
-
     /// Whether QUIT was among the lines: those that follow are not answered.
     pub fn has_quit(&self) -> bool
         ensures { (images : List Entry) → result ≡ (debug_state self.now images).has_quit }

@@ -16,13 +16,23 @@ use swi_dispatch_guest::{Flex, Instances, Machine, areas_count_pages};
 
 /// A copy of a machine's memory, with its heaps and what is recorded in it, of its modules, and of where
 /// its flex store is.
-#[derive(Drop)]
 pub struct StoreCopy {
     memory: AddressMap,
     // How many pages the memory has, mapped or not.
     pages: u32,
     instances: Instances,
     flex: Flex,
+}
+
+impl Drop for StoreCopy {
+    fn drop(self) {
+        let StoreCopy {
+            memory: _memory,
+            pages: _pages,
+            instances: _instances,
+            flex: _flex,
+        } = self;
+    }
 }
 
 impl Model for StoreCopy {

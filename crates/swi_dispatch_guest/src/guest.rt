@@ -22,7 +22,6 @@ const X_BIT: u32 = 1 << 17;
 
 /// A core, its memory and what stands on that, the module code that is under way, and what keeps
 /// the core from further steps.
-#[derive(Drop)]
 pub(crate) struct Guest {
     pub(crate) cpu: Cpu,
     pub(crate) memory: AddressMap,
@@ -37,6 +36,24 @@ pub(crate) struct Guest {
     pub(crate) scratch: Scratch,
     /// Words that were carried out, made ready. They are no part of the guest's state.
     pub(crate) ready: DecodeCache,
+}
+
+impl Drop for Guest {
+    fn drop(self) {
+        let Guest {
+            cpu: _cpu,
+            memory: _memory,
+            heaps: _heaps,
+            areas: _areas,
+            instances: _instances,
+            frames: _frames,
+            plan: _plan,
+            flex: _flex,
+            halt: _halt,
+            scratch: _scratch,
+            ready: _ready,
+        } = self;
+    }
 }
 
 impl Model for Guest {

@@ -31,7 +31,6 @@ use trace_moments::{
 use trace_text::{Machine, without_x_bit};
 
 /// What is kept of a machine before a step.
-#[derive(Drop)]
 pub struct StepBefore {
     kind: StepKind,
     cause: Cause,
@@ -40,9 +39,20 @@ pub struct StepBefore {
     memory: MemoryBefore,
 }
 
+impl Drop for StepBefore {
+    fn drop(self) {
+        let StepBefore {
+            kind: _kind,
+            cause: _cause,
+            cpu: _cpu,
+            loaded: _loaded,
+            memory: _memory,
+        } = self;
+    }
+}
+
 impl StepBefore {
-    /// Begins the fields of the step that comes next, behind the address at which it is made, and keeps
-    /// what it may change.
+    /// Begins the fields of the step that comes next, behind its address, and keeps what it may change.
     ///
     /// # Errors
     ///
