@@ -3,7 +3,8 @@
 ghost use Rattle.std.specs.Prelude.{◌≡◌, List, option_map, IfOk, OnOk};
 ghost use Rattle.profile.specs.images.Entries.{Entry};
 ghost use Rattle.debug_modes.specs.Session.{script_state};
-ghost use Rattle.debug_modules.specs.Answers.{IsModuleAnswered, command_answered, command_called, command_put, code_error_text, module_line_answered, modes_after_modules, past_after_modules, script_after_modules, service_answered, shown_of};
+ghost use Rattle.debug_modules.specs.Answers.{IsModuleAnswered, command_answered, command_called, command_put, code_error_text, module_answered, module_line_answered, modes_after_modules, past_after_modules, script_after_modules, service_answered, shown_of};
+ghost use Rattle.debug_listing.specs.Requests.{module_request_of};
 ghost use Rattle.debug_modules.specs.Taking.{HasLineSteps};
 
 use crate::comparing::images_compared;
@@ -59,42 +60,58 @@ pub fn answer_module_line(
         IfOk result (λ answer. option_map shown_of answer ≡ option_map (λ a. a.shown)
         (module_line_answered modes.old labels.now sources.now budget s past.old number line.now)) }
 {
-    match module_request(line) {
-        Some(ModuleRequest::Command(name, tail)) => {
-            let answer = answer_command(
-                alloc, budget, session, modes, past, images, labels, number, name, tail,
-            )?;
-            Ok(Some(answer))
+    let Some(request) = module_request(line) else {
+        let Some(info) = module_meant(session.machine(), line) else {
+            return Ok(None);
+        };
+        let text = module_described(alloc, session.machine().memory(), &info)?;
+        return Ok(Some(ModuleAnswer::Shown(text)));
+    };
+    let answer = answer_request(
+        alloc, budget, session, modes, past, images, labels, sources, number, &request,
+    )?;
+    Ok(Some(answer))
+}
+
+// What a line asks for is done, and answered.
+fn answer_request(
+    alloc: Global,
+    budget: u64,
+    session: &mut Session,
+    modes: &mut DebugModes,
+    past: &mut Past,
+    images: &Images,
+    labels: &LabelTable,
+    sources: &Images,
+    number: u64,
+    request: &ModuleRequest<'_>,
+) -> Result<ModuleAnswer, AllocError>
+    ensures { let s = script_state session.old images.now in IfOk result (λ answer. IsModuleAnswered
+        (module_answered modes.old labels.now sources.now budget s past.old number
+        (module_request_of request.now))
+        (script_state session.new images.now) modes.new past.new (shown_of answer)) }
+{
+    match *request {
+        ModuleRequest::Command(name, tail) => answer_command(
+            alloc, budget, session, modes, past, images, labels, number, name, tail,
+        ),
+        ModuleRequest::Service(service, title) => answer_service(
+            alloc, budget, session, modes, past, images, labels, number, service, title,
+        ),
+        ModuleRequest::Commands => {
+            Ok(ModuleAnswer::Shown(commands_text(alloc, session.machine())?))
         }
-        Some(ModuleRequest::Service(service, title)) => {
-            let answer = answer_service(
-                alloc, budget, session, modes, past, images, labels, number, service, title,
-            )?;
-            Ok(Some(answer))
-        }
-        Some(ModuleRequest::Commands) => {
-            Ok(Some(ModuleAnswer::Shown(commands_text(alloc, session.machine())?)))
-        }
-        Some(ModuleRequest::Explain(is_on)) => {
-            Ok(Some(ModuleAnswer::Shown(modes.explain(alloc, is_on)?)))
-        }
-        Some(ModuleRequest::Listing(name)) => {
+        ModuleRequest::Explain(is_on) => Ok(ModuleAnswer::Shown(modes.explain(alloc, is_on)?)),
+        ModuleRequest::Listing(name) => {
             let place = names_on(labels, session.machine()).image_place(name);
             let (image, source) = (images.get(name), sources.get(name));
             let start = place.map(|place| place.start);
             let text = listing_text(alloc, &modes.counts, image, source, start)?;
-            Ok(Some(ModuleAnswer::Shown(text)))
+            Ok(ModuleAnswer::Shown(text))
         }
-        Some(ModuleRequest::Compare(one, other)) => {
-            Ok(Some(ModuleAnswer::Shown(images_compared(alloc, images, one, other)?)))
+        ModuleRequest::Compare(one, other) => {
+            Ok(ModuleAnswer::Shown(images_compared(alloc, images, one, other)?))
         }
-        None => match module_meant(session.machine(), line) {
-            Some(info) => {
-                let text = module_described(alloc, session.machine().memory(), &info)?;
-                Ok(Some(ModuleAnswer::Shown(text)))
-            }
-            None => Ok(None),
-        },
     }
 }
 
