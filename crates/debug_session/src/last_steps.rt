@@ -33,7 +33,8 @@ impl DebugSession {
         let mut skipped = self.past.steps().saturating_sub(counted);
         let mut session = Session::on_fresh_machine(self.alloc, self.setting.config, 0)?;
         let mut text = Vec::new(self.alloc);
-        for act in self.past.acts() {
+        let acts = self.past.acts();
+        for act in acts {
             self.show_deed(&mut session, images, &act.deed, skipped, &mut text)?;
             skipped = skipped.saturating_sub(act.deed.steps());
         }

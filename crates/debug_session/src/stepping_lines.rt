@@ -44,10 +44,11 @@ impl DebugSession {
         ensures setting { self.new.setting ≡ self.old.setting }
         ensures ends { EndsAtOnce W.has_failed sink.old sink.new result }
     {
+        let form = self.setting.form;
         let below = self.failed.reason(self.alloc, images, command)?;
         self.note_block(command, script)?;
         self.line_in_modes(images, sink, command, script)?;
-        Ok(push_answer(sink, self.setting.form, below.as_slice())?)
+        Ok(push_answer(sink, form, below.as_slice())?)
     }
 
     // Keeps whether a line's block has errors, if it is an ASM block.

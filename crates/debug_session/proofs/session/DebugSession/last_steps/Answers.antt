@@ -25,13 +25,13 @@ loop-act-init c =
     record {
       beside = beside_same start now start same (beside_itself start);
       text = text_begins d.labels start now c.saturating_sub-skipped.result c.steps.result c.saturating_sub-counted.result c.args.count
-          c.is_faulted.result (is_faulted d.script.machine.halt) c.new-text.result.items c.acts.result.now d.past.acts
-          c.new-text.ensures.items same c.acts.ensures c.steps.ensures faulted counted c.saturating_sub-skipped.ensures;
+          c.is_faulted.result (is_faulted d.script.machine.halt) c.new-text.result.items c.acts-acts.result.now d.past.acts
+          c.new-text.ensures.items same c.acts-acts.ensures c.steps.ensures faulted counted c.saturating_sub-skipped.ensures;
     }
 
 pub loop-act-preserved : goal.loop-act-preserved
 loop-act-preserved c =
-    let acts : List Act = c.acts.result.now in
+    let acts : List Act = c.acts-acts.result.now in
     let i : ℕ = c.loop-act.act-index in
     let below : i < length acts = omega arith in
     let images = c.args.images.now in
@@ -50,7 +50,7 @@ loop-act-preserved c =
 
 pub returns-then-is_empty-clause-text : goal.returns-then-is_empty-clause-text
 returns-then-is_empty-clause-text c =
-    let acts : List Act = c.acts.result.now in
+    let acts : List Act = c.acts-acts.result.now in
     let i : ℕ = c.loop-act.act-index in
     let all : length acts ≤ i = omega arith in
     let start = script_start_state c.args.self.now.setting.config c.args.images.now 0 in
@@ -61,7 +61,7 @@ returns-then-is_empty-clause-text c =
 
 pub returns-clause-text : goal.returns-clause-text
 returns-clause-text c =
-    let acts : List Act = c.acts.result.now in
+    let acts : List Act = c.acts-acts.result.now in
     let i : ℕ = c.loop-act.act-index in
     let all : length acts ≤ i = omega arith in
     let start = script_start_state c.args.self.now.setting.config c.args.images.now 0 in
