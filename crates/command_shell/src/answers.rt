@@ -1,7 +1,8 @@
 //! The lines that requests are answered with.
 
+ghost use Rattle.std.specs.Prelude.{◌++◌, codes};
 ghost use Rattle.profile.specs.Output.{Writes};
-ghost use Rattle.command_shell.specs.Answers.{unknown_text, image_text, line_refused_text, image_refused_text, boot_text, refused_text, break_text, unbreak_text, ok_text, call_error_text, at_text, numbered_text, fault_stop_text, stop_text, stepped_text};
+ghost use Rattle.command_shell.specs.Answers.{unknown_text, image_text, line_refused_text, image_refused_text, boot_text, refused_text, break_text, unbreak_text, ok_text, call_error_text, at_text, numbered_text, at_address_text, fault_stop_text, stop_text, stepped_text};
 
 use itoa::Buffer;
 use profile::{Fault, HexText, Sink, Stop, WriteFault, push_all, push_parts};
@@ -104,28 +105,14 @@ pub fn print_refused<W: Sink>(sink: &mut W, reason: &[u8]) -> Result<(), WriteFa
 pub fn print_break<W: Sink>(sink: &mut W, address: u32) -> Result<(), WriteFault>
     ensures { Writes W.contents W.has_failed sink.old sink.new result (break_text address) }
 {
-    push_parts(
-        sink,
-        &[
-            b"break &".as_slice(),
-            HexText::number(address).as_slice(),
-            b"\n".as_slice(),
-        ],
-    )
+    print_address(sink, b"break", address)
 }
 
 /// `unbreak &8004`: a run doesn't stop there any more.
 pub fn print_unbreak<W: Sink>(sink: &mut W, address: u32) -> Result<(), WriteFault>
     ensures { Writes W.contents W.has_failed sink.old sink.new result (unbreak_text address) }
 {
-    push_parts(
-        sink,
-        &[
-            b"unbreak &".as_slice(),
-            HexText::number(address).as_slice(),
-            b"\n".as_slice(),
-        ],
-    )
+    print_address(sink, b"unbreak", address)
 }
 
 /// `ok`: the store call succeeded.
@@ -154,14 +141,7 @@ pub fn print_error<W: Sink>(sink: &mut W, number: u32) -> Result<(), WriteFault>
 pub fn print_at<W: Sink>(sink: &mut W, pc: u32) -> Result<(), WriteFault>
     ensures { Writes W.contents W.has_failed sink.old sink.new result (at_text pc) }
 {
-    push_parts(
-        sink,
-        &[
-            b"at &".as_slice(),
-            HexText::number(pc).as_slice(),
-            b"\n".as_slice(),
-        ],
-    )
+    print_address(sink, b"at", pc)
 }
 
 /// A stop line: `stop Exit`, `stop Budget`, `stop Break &8004`, `stop OwnedWord &8004`,
@@ -172,14 +152,7 @@ pub fn print_stop<W: Sink>(sink: &mut W, stop: Stop, pc: u32) -> Result<(), Writ
     match stop {
         Stop::Exit => push_all(sink, b"stop Exit\n"),
         Stop::Budget => push_all(sink, b"stop Budget\n"),
-        Stop::Break(address) => push_parts(
-            sink,
-            &[
-                b"stop Break &".as_slice(),
-                HexText::number(address).as_slice(),
-                b"\n".as_slice(),
-            ],
-        ),
+        Stop::Break(address) => print_address(sink, b"stop Break", address),
         Stop::Fault(fault) => print_fault(sink, fault, pc),
     }
 }
@@ -198,6 +171,22 @@ pub fn print_stepped<W: Sink>(
         Stop::Budget if could_all => print_at(sink, pc),
         _ => print_stop(sink, stop, pc),
     }
+}
+
+// Some words and an address.
+fn print_address<W: Sink>(sink: &mut W, words: &[u8], address: u32) -> Result<(), WriteFault>
+    ensures { Writes W.contents W.has_failed sink.old sink.new result
+        (words.now ++ (at_address_text address ++ codes "\n")) }
+{
+    push_parts(
+        sink,
+        &[
+            words,
+            b" &".as_slice(),
+            HexText::number(address).as_slice(),
+            b"\n".as_slice(),
+        ],
+    )
 }
 
 fn print_numbered<W: Sink>(
