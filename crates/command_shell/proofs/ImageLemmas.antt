@@ -1,7 +1,7 @@
 -- No line takes an image away, so after some lines of a script the images are a front of those
 -- after all of them.
 use Rattle.std.proofs.Common.{◌≡◌, ℕ, zero, suc, ◌+◌, Bool, true, false, List, [], ◌∷◌, ◌++◌, Option, Some, None, Result, Ok, length, Err, sym, ◌∙◌, refl, subst, inl, inr}
-use Rattle.std.specs.Prelude.{IfSome, OnErr, codes, ◌⊎◌}
+use Rattle.std.specs.Prelude.{IfSome, IsOkUnless, MatchOption, OnErr, OnOk, codes, ◌⊎◌}
 use Rattle.std.specs.Str.Lines.{lines}
 use Rattle.profile.specs.Sizes.{Sizes}
 use Rattle.profile.specs.Fault.{Fault}
@@ -9,8 +9,10 @@ use Rattle.profile.specs.declared.stop.Stop.{Stop}
 use Rattle.profile.specs.declared.stop.Stop.TheVariants as stop
 use Rattle.profile.specs.images.Entries.{Entry, bytes_of_image, refusal_for}
 use Rattle.profile.specs.declared.images.error.ImageError.{ImageError}
+use Rattle.profile.specs.declared.images.error.ImageError.TheVariants as image
 use Rattle.assembler.specs.Passes.{means_lines}
 use Rattle.assembler.specs.declared.error.AsmError.{AsmError}
+use Rattle.command_shell_lines.specs.Reason.TheVariants.{Memory}
 use Rattle.debugger.specs.Flex.{flex_text}
 use Rattle.debugger.specs.Heap.{heap_blocks_text}
 use Rattle.debugger.specs.Boot.{machine_after_boot}
@@ -28,11 +30,13 @@ use Rattle.command_shell.specs.Fronts.{IsFront, HasSome, AreOldOrAnswer}
 use Rattle.command_shell.specs.Images.{asm_block, asm_answer, boot_done, boot_found, boot_answer, hex_block, hex_answer, image_added, image_opened}
 use Rattle.command_shell.specs.Memory.{poke_done}
 use Rattle.command_shell.specs.Script.{OpenBlock, at_the_end, answer_to_block, in_block, lines_answer, on_line, on_opened, request_answer, script_answer}
-use Rattle.command_shell.specs.State.{ScriptState, Answered, script_start_state}
+use Rattle.command_shell.specs.State.{ScriptState, Answered, IsAnswered, script_start_state}
 use Rattle.command_shell.specs.Stepping.{breaks_changed}
 use Rattle.command_shell.specs.Views.{flex_answer, heap_answer, shown_or}
 use Rattle.command_shell.specs.declared.calls.CallEnd.{CallEnd}
 use Rattle.command_shell.specs.declared.calls.CallEnd.TheVariants as end
+use Rattle.command_shell.specs.declared.error.RunError.{RunError}
+use Rattle.command_shell.specs.declared.error.RunError.TheVariants as run
 use Rattle.profile.specs.Output.{AddsFront}
 use Rattle.command_shell.proofs.FrontLemmas.{AddsFront-start, IsFront-same, IsFront-is, IsFront-then}
 use Rattle.command_shell.proofs.ScriptLemmas.{state_step}
@@ -278,3 +282,51 @@ pub none_written : (held : Option (List ℕ)) (o : Option (List ℕ)) (sizes : S
     → IfSome o (λ script. AddsFront held held (script_answer sizes images budget script).text)
 none_written held None sizes images budget = tt
 none_written held (Some script) sizes images budget = AddsFront-start held (script_answer sizes images budget script).text
+
+-- BLOCKS THAT WERE ASSEMBLED
+
+-- what memory ran out for
+abbrev pub no_room : AsmError
+no_room = record { line = 0; reason = Memory }
+
+-- Where a block could be assembled, its answer is that of what its lines mean,
+pub assembled_answer : {U : Type 0} (r : Result U RunError) (b c : Option (List ℕ)) (now s : ScriptState) (name : List ℕ)
+    (a meant : Result (List ℕ) AsmError)
+    → ((a ≡ Err no_room → ⊥) → a ≡ meant) → (a ≡ Err no_room → r ≡ Err run.Memory)
+    → OnOk r (IsAnswered b c now (asm_block s name a)) → OnOk r (IsAnswered b c now (asm_block s name meant))
+assembled_answer (Ok u) b c now s name a meant turns none reported =
+    subst (λ (x : Result (List ℕ) AsmError). IsAnswered b c now (asm_block s name x))
+    (turns (λ at. absurd (let e = none at in cc))) reported
+assembled_answer (Err e) b c now s name a meant turns none reported = tt
+
+-- and else no image is added
+pub assembled_images : {U : Type 0} (r : Result U RunError) (new : List Entry) (s : ScriptState) (name : List ℕ)
+    (a meant : Result (List ℕ) AsmError)
+    → ((a ≡ Err no_room → ⊥) → a ≡ meant) → OnErr r (AreOldOrAnswer s.images new (asm_block s name a))
+    → OnErr r (AreOldOrAnswer s.images new (asm_block s name meant))
+assembled_images (Ok u) new s name a meant turns stopped = tt
+assembled_images (Err e) new s name (Err f) meant turns (inl old) = inl old
+assembled_images (Err e) new s name (Err f) meant turns (inr old) = inl old
+assembled_images (Err e) new s name (Ok bytes) meant turns stopped =
+    subst (λ (x : Result (List ℕ) AsmError). AreOldOrAnswer s.images new (asm_block s name x))
+    (turns (λ at. absurd (cc))) stopped
+
+-- IMAGES THAT ARE ADDED
+
+-- one that was added was not refused,
+pub none_refused : {U : Type 0} {u : U} (o : Option ImageError) (r : Result U ImageError)
+    → MatchOption o (IsOkUnless r image.Memory) (λ e. r ≡ Err e) → r ≡ Ok u → o ≡ None
+none_refused None r refused is = refl
+none_refused (Some e) r refused is = absurd (let both = sym refused ∙ is in cc)
+
+memory_alone : {U : Type 0} (r : Result U ImageError) (error : ImageError) → IsOkUnless r image.Memory → r ≡ Err error
+    → error ≡ image.Memory
+memory_alone (Ok u) error unless is = absurd (cc)
+memory_alone (Err e) error unless is = (let both = unless in cc)
+
+-- and one that was refused for another reason than memory was refused by the table
+pub is_refused : {U : Type 0} (o : Option ImageError) (r : Result U ImageError) (error : ImageError)
+    → MatchOption o (IsOkUnless r image.Memory) (λ e. r ≡ Err e) → r ≡ Err error → (error ≡ image.Memory → ⊥)
+    → o ≡ Some error
+is_refused None r error refused is other = absurd (other (memory_alone r error refused is))
+is_refused (Some e) r error refused is other = let both = sym refused ∙ is in cc

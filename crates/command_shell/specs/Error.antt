@@ -1,5 +1,5 @@
 -- Which errors the parts of a run can have, and the texts of a run's errors.
-use Rattle.std.specs.Prelude.{ℕ, List, codes}
+use Rattle.std.specs.Prelude.{ℕ, List, Result, Ok, Err, codes}
 use Rattle.command_shell_lines.specs.declared.error.ReadingError.{ReadingError}
 use Rattle.command_shell_lines.specs.declared.error.ReadingError.TheVariants as reading
 use Rattle.command_shell.specs.declared.error.RunError.{RunError}
@@ -10,6 +10,11 @@ abbrev pub reading_end : ReadingError → RunError
 reading_end reading.Memory = Memory
 reading_end reading.ReadFault = ReadFault
 reading_end reading.ScriptTooLong = ScriptTooLong
+
+-- how a line ends that has nothing left to do but to be written
+abbrev pub written_end : {U F : Type 0} → Result U F → Result U RunError
+written_end (Ok done) = Ok done
+written_end (Err fault) = Err WriteFault
 
 -- while the lines of a script are answered
 abbrev pub IsLineError : RunError → Type 0

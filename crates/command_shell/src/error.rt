@@ -2,7 +2,7 @@
 
 ghost use Rattle.std.specs.Prelude.{◌≡◌, Some};
 ghost use Rattle.command_shell.specs.declared.error.RunError.TheVariants.{Memory, WriteFault as IsWriteFault};
-ghost use Rattle.command_shell.specs.Error.{reading_end, run_error_text};
+ghost use Rattle.command_shell.specs.Error.{reading_end, run_error_text, written_end};
 
 use command_shell_lines::ReadingError;
 use profile::WriteFault;
@@ -63,5 +63,15 @@ impl From<WriteFault> for RunError {
 
     fn from(_fault: WriteFault) -> RunError {
         RunError::WriteFault
+    }
+}
+
+// How a line ends that has nothing left to do but to be written.
+pub(crate) fn written(done: Result<(), WriteFault>) -> Result<(), RunError>
+    ensures { result ≡ written_end done }
+{
+    match done {
+        Ok(()) => Ok(()),
+        Err(WriteFault) => Err(RunError::WriteFault),
     }
 }

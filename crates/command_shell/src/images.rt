@@ -8,7 +8,7 @@ ghost use Rattle.command_shell.specs.Fronts.{AreOldOrAnswer};
 use crate::answers::{
     print_boot, print_image, print_image_refused, print_line_refused, print_refused,
 };
-use crate::error::RunError;
+use crate::error::{RunError, written};
 use crate::session::Session;
 use assembler::{AsmError, Program, Reason, assemble_lines};
 use command_shell_lines::{Block, Origin, read_block, skip_block};
@@ -16,6 +16,7 @@ use debugger::BootError;
 use profile::images::{ImageError, Images};
 use profile::text_lines::Lines;
 use profile::{Sink, WriteFault};
+use std::alloc::AllocError;
 
 impl Session {
     ghost use Rattle.profile.specs.images.Entries.{refusal_for};
@@ -47,10 +48,13 @@ impl Session {
     {
         if let Some(error) = images.refusal(name, 0) {
             skip_block(script);
-            return Ok(print_image_refused(sink, b"hex ", name, error.name().as_bytes())?);
+            let reason = error.name().as_bytes();
+            return written(print_image_refused(sink, b"hex ", name, reason));
         }
-        let block = read_block(self.alloc, script)?;
-        self.hex_block(images, sink, name, &block)
+        match read_block(self.alloc, script) {
+            Ok(block) => self.hex_block(images, sink, name, &block),
+            Err(AllocError) => Err(RunError::Memory),
+        }
     }
 
     // The answer to a block that was read.
@@ -74,7 +78,9 @@ impl Session {
     {
         match block {
             Block::Bytes(bytes) => self.add_image(images, sink, b"hex ", name, bytes.as_slice()),
-            Block::BadLine(line) => Ok(print_line_refused(sink, b"hex ", name, *line, b"Syntax")?),
+            Block::BadLine(line) => written(print_line_refused(
+                sink, b"hex ", name, *line, b"Syntax",
+            )),
         }
     }
 
@@ -105,7 +111,7 @@ impl Session {
         let count = skip_block(script);
         if let Some(error) = images.refusal(name, 0) {
             let reason = error.name().as_bytes();
-            return Ok(print_image_refused(sink, b"asm ", name, reason)?);
+            return written(print_image_refused(sink, b"asm ", name, reason));
         }
         let answer = assemble_lines(self.alloc, &block, count, origin.address());
         self.asm_block(images, sink, name, &answer)
@@ -138,7 +144,7 @@ impl Session {
                 Reason::Memory => Err(RunError::Memory),
                 _ => {
                     let reason = error.reason_name().as_bytes();
-                    Ok(print_line_refused(sink, b"asm ", name, error.line, reason)?)
+                    written(print_line_refused(sink, b"asm ", name, error.line, reason))
                 }
             },
         }
@@ -164,9 +170,14 @@ impl Session {
         ensures same_flag { OnOk result (W.has_failed sink.new ≡ W.has_failed sink.old) }
     {
         match images.add(self.alloc, name, bytes) {
-            Ok(()) => Ok(print_image(sink, word, name, bytes.len())?),
-            Err(ImageError::Memory) => Err(RunError::Memory),
-            Err(error) => Ok(print_image_refused(sink, word, name, error.name().as_bytes())?),
+            Ok(()) => written(print_image(sink, word, name, bytes.len())),
+            Err(error) => match error {
+                ImageError::Memory => Err(RunError::Memory),
+                _ => {
+                    let reason = error.name().as_bytes();
+                    written(print_image_refused(sink, word, name, reason))
+                }
+            },
         }
     }
 

@@ -1,12 +1,13 @@
 -- The answer to a block that was read is that of its bytes, or of the line at fault.
 use Rattle.std.proofs.Common.{◌≡◌, List, ℕ, Ok, ap, inl, refl, subst, sym, ◌∙◌}
-use Rattle.std.specs.Prelude.{OnErr, OnOk, is_ok}
+use Rattle.std.specs.Prelude.{OnErr, OnOk, codes, is_ok}
 use Rattle.command_shell_lines.specs.Blocks.{result_of_block}
+use Rattle.command_shell.specs.Answers.{line_refused_text}
 use Rattle.command_shell.specs.Fronts.{AreOldOrAnswer}
 use Rattle.command_shell.specs.Images.{hex_block}
 use Rattle.command_shell.specs.Session.{script_state}
 use Rattle.command_shell.specs.State.{Answered, IsAnswered}
-use Rattle.command_shell.proofs.FaultLemmas.{line_error, not_memory, not_ok}
+use Rattle.command_shell.proofs.FaultLemmas.{never_memory, written_answer, written_error, written_fault, written_so}
 use Rattle.command_shell.proofs.ImageLemmas.{at_err}
 use Rattle.command_shell.proofs.session.Session.hex_block.Goals as goal
 
@@ -28,31 +29,21 @@ returns-in-Bytes g c =
       same_flag = added.same_flag;
     }
 
-pub returns-in_ok-print_line_refused-in-BadLine : goal.returns-in_ok-print_line_refused-in-BadLine
-returns-in_ok-print_line_refused-in-BadLine g c =
+pub returns-in-BadLine : goal.returns-in-BadLine
+returns-in-BadLine g c =
     let s = script_state c.args.self.now c.args.images.now in
-    let printed = c.in_ok-print_line_refused-in-BadLine.ensures in
+    let printed = c.print_line_refused.ensures in
+    let done = c.print_line_refused.result in
+    let r = c.written.result in
+    let ends = c.written.ensures in
     record {
-      reported = subst (λ (t : Answered). IsAnswered (g.W.Sink.contents c.args.sink.now)
-          (g.W.Sink.contents c.print_line_refused.new.sink) s t)
-          (sym (ap (hex_block s c.args.name.now) (ap result_of_block c.in-BadLine.is))) (record { text = printed.text; state = refl });
-      taking = λ is. absurd (cc);
-      memory = λ is. absurd (cc);
-      write_fault = λ is. absurd (cc);
-      images = tt;
-      errors = tt;
-      same_flag = printed.same_flag;
-    }
-
-pub returns-in_err-print_line_refused-in-BadLine : goal.returns-in_err-print_line_refused-in-BadLine
-returns-in_err-print_line_refused-in-BadLine g c =
-    let fails = c.from_residual.ensures.1 in
-    record {
-      reported = not_ok c.from_residual.result _ fails;
-      taking = λ is. absurd (not_memory c.from_residual.result fails is);
-      memory = λ is. absurd (not_memory c.from_residual.result fails is);
-      write_fault = λ _. c.in_err-print_line_refused-in-BadLine.ensures.flag;
+      reported = written_answer done r (g.W.Sink.contents c.args.sink.now) (g.W.Sink.contents c.print_line_refused.new.sink) s
+          (line_refused_text (codes "hex ") c.args.name.now c.in-BadLine.line (codes "Syntax")) _ ends
+          (ap (hex_block s c.args.name.now) (ap result_of_block c.in-BadLine.is)) printed.text;
+      taking = λ is. absurd (never_memory done r ends is);
+      memory = λ is. absurd (never_memory done r ends is);
+      write_fault = written_fault done r _ ends printed.flag;
       images = at_err _ _ (inl refl);
-      errors = line_error c.from_residual.result fails;
-      same_flag = not_ok c.from_residual.result _ fails;
+      errors = written_error done r ends;
+      same_flag = written_so done r _ ends printed.same_flag;
     }
