@@ -2,6 +2,7 @@ pub use Rattle.debugger.proofs.GateLemmas
 pub use Rattle.debugger.proofs.Owned
 pub use Rattle.debugger.proofs.Runs
 pub mod AnswerLemmas
+pub mod AtOnceLemmas
 pub mod CallLemmas
 pub mod FaultLemmas
 pub mod FrontLemmas

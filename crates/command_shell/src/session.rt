@@ -7,7 +7,7 @@ ghost use Rattle.command_shell.specs.Fronts.{AreOldOrAnswer};
 
 use crate::answers::print_unknown;
 use crate::calls::OutsideCall;
-use crate::error::RunError;
+use crate::error::{RunError, written};
 use command_shell_lines::{ScriptCommand, command_of};
 use debugger::{Breaks, Machine};
 use profile::images::Images;
@@ -151,30 +151,31 @@ impl Session {
         ensures errors { IfErr result IsLineError }
         ensures same_flag { OnOk result (W.has_failed sink.new ≡ W.has_failed sink.old) }
     {
-        match command {
+        let done = match command {
+            ScriptCommand::Hex(name) => return self.hex(images, sink, name, script),
+            ScriptCommand::Asm(name, origin) => return self.asm(images, sink, name, origin, script),
             ScriptCommand::Nothing => Ok(()),
-            ScriptCommand::Hex(name) => self.hex(images, sink, name, script),
-            ScriptCommand::Asm(name, origin) => self.asm(images, sink, name, origin, script),
-            ScriptCommand::Boot(name) => Ok(self.boot(images, sink, name)?),
-            ScriptCommand::Run => Ok(self.run(images, sink)?),
-            ScriptCommand::Regs => Ok(self.regs(sink)?),
+            ScriptCommand::Boot(name) => self.boot(images, sink, name),
+            ScriptCommand::Run => self.run(images, sink),
+            ScriptCommand::Regs => self.regs(sink),
             ScriptCommand::Set(register, value) => {
                 self.set(register, value);
                 Ok(())
             }
-            ScriptCommand::Poke(address, value) => Ok(self.poke(sink, address, value)?),
-            ScriptCommand::Call(number) => Ok(self.call(images, sink, OutsideCall::Swi(number))?),
-            ScriptCommand::Load(text) => Ok(self.call(images, sink, OutsideCall::Load(text))?),
-            ScriptCommand::Step(count) => Ok(self.step(images, sink, count)?),
-            ScriptCommand::Break(address) => Ok(self.break_at(sink, address)?),
-            ScriptCommand::Unbreak(address) => Ok(self.unbreak_at(sink, address)?),
-            ScriptCommand::Mem(address, count) => Ok(self.mem(sink, address, count)?),
-            ScriptCommand::Code(address, count) => Ok(self.code(sink, address, count)?),
-            ScriptCommand::Heap(address) => Ok(self.heap(sink, address)?),
-            ScriptCommand::Areas => Ok(self.areas(sink)?),
-            ScriptCommand::Modules => Ok(self.modules(sink)?),
-            ScriptCommand::Flex => Ok(self.flex(sink)?),
-            ScriptCommand::Unknown => Ok(print_unknown(sink, script.number())?),
-        }
+            ScriptCommand::Poke(address, value) => self.poke(sink, address, value),
+            ScriptCommand::Call(number) => self.call(images, sink, OutsideCall::Swi(number)),
+            ScriptCommand::Load(text) => self.call(images, sink, OutsideCall::Load(text)),
+            ScriptCommand::Step(count) => self.step(images, sink, count),
+            ScriptCommand::Break(address) => self.break_at(sink, address),
+            ScriptCommand::Unbreak(address) => self.unbreak_at(sink, address),
+            ScriptCommand::Mem(address, count) => self.mem(sink, address, count),
+            ScriptCommand::Code(address, count) => self.code(sink, address, count),
+            ScriptCommand::Heap(address) => self.heap(sink, address),
+            ScriptCommand::Areas => self.areas(sink),
+            ScriptCommand::Modules => self.modules(sink),
+            ScriptCommand::Flex => self.flex(sink),
+            ScriptCommand::Unknown => print_unknown(sink, script.number()),
+        };
+        written(done)
     }
 }
