@@ -11,3 +11,4 @@ pub mod ScriptLemmas
 pub mod TextLemmas
 pub mod ViewLemmas
 pub mod WatchLemmas
+pub mod WholeLemmas

@@ -213,33 +213,28 @@ state_on_start machine sizes images budget start same fresh = λ i. record {
 -- What is so of what the lines of a script that was read are shown, on a machine that was just made,
 -- is so of what the script is shown.
 pub answer_of : (P : Answered → Type 0) (o : Option (List ℕ)) (sizes : Sizes) (images : List Entry) (budget : ℕ)
-    (read text : List ℕ) (session : Session) (machine : MachineValue) (place : ReadingPlace)
-    → IfSome o (λ script. read ≡ script) → text ≡ read
-    → script_state session images ≡ state_on machine images budget
-    → state_of machine.guest ≡ machine_start sizes → machine.sizes ≡ sizes → machine.is_fresh ≡ true
+    (read text : List ℕ) (start : ScriptState) (place : ReadingPlace)
+    → IfSome o (λ script. read ≡ script) → text ≡ read → start ≡ script_start_state sizes images budget
     → place ≡ record { left = lines text; number = 0 }
-    → P (lines_answer place.number (script_state session images) None place.left)
+    → P (lines_answer place.number start None place.left)
     → IfSome o (λ script. P (script_answer sizes images budget script))
 unfolding script_answer
-answer_of P None sizes images budget read text session machine place is same stands start sized fresh at so = tt
-answer_of P (Some script) sizes images budget read text session machine place is same stands start sized fresh at so =
-    let from_first = subst (λ (p : ReadingPlace). P (lines_answer p.number (script_state session images) None p.left)) at so in
-    let from_start = subst (λ (w : ScriptState). P (lines_answer 0 w None (lines text)))
-    (stands ∙ state_on_start machine sizes images budget start sized fresh) from_first in
+answer_of P None sizes images budget read text start place is same fresh at so = tt
+answer_of P (Some script) sizes images budget read text start place is same fresh at so =
+    let from_first = subst (λ (p : ReadingPlace). P (lines_answer p.number start None p.left)) at so in
+    let from_start = subst (λ (w : ScriptState). P (lines_answer 0 w None (lines text))) fresh from_first in
     subst (λ (xs : List ℕ). P (lines_answer 0 (script_start_state sizes images budget) None (lines xs))) (same ∙ is) from_start
 
 -- and a part of the state that they leave
 pub part_answer : {A : Type 0} (part : ScriptState → A) (reported : A) (now : ScriptState) (o : Option (List ℕ)) (sizes : Sizes)
-    (images : List Entry) (budget : ℕ) (read text : List ℕ) (session : Session) (machine : MachineValue) (place : ReadingPlace)
-    → IfSome o (λ script. read ≡ script) → text ≡ read
-    → script_state session images ≡ state_on machine images budget
-    → state_of machine.guest ≡ machine_start sizes → machine.sizes ≡ sizes → machine.is_fresh ≡ true
+    (images : List Entry) (budget : ℕ) (read text : List ℕ) (start : ScriptState) (place : ReadingPlace)
+    → IfSome o (λ script. read ≡ script) → text ≡ read → start ≡ script_start_state sizes images budget
     → place ≡ record { left = lines text; number = 0 }
-    → now ≡ (lines_answer place.number (script_state session images) None place.left).state → reported ≡ part now
+    → now ≡ (lines_answer place.number start None place.left).state → reported ≡ part now
     → IfSome o (λ script. reported ≡ part (script_answer sizes images budget script).state)
-part_answer part reported now o sizes images budget read text session machine place is same stands start sized fresh at after ends =
-    answer_of (λ (t : Answered). reported ≡ part t.state) o sizes images budget read text session machine place is same stands
-    start sized fresh at (ends ∙ ap part after)
+part_answer part reported now o sizes images budget read text start place is same fresh at after ends =
+    answer_of (λ (t : Answered). reported ≡ part t.state) o sizes images budget read text start place is same fresh at
+    (ends ∙ ap part after)
 
 pub ruleset line_steps = (
   AddsAllBut-start,

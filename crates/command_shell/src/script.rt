@@ -10,7 +10,6 @@ ghost use Rattle.command_shell.specs.Whole.{AnswersWhole};
 use crate::error::RunError;
 use crate::session::Session;
 use command_shell_lines::{command_of, read_script};
-use debugger::Machine;
 use profile::images::Images;
 use profile::text_lines::Lines;
 use profile::{Config, Sink, Source, Stop};
@@ -51,10 +50,9 @@ pub fn run_script<R: Source, W: Sink>(
         summary.left ≡ (script_answer config images.old budget script).state.left)) }
 {
     let script = read_script(alloc, reader)?;
-    let Ok(machine) = Machine::new(alloc, config) else {
+    let Ok(mut session) = Session::on_fresh_machine(alloc, config, budget) else {
         return Err(RunError::Memory);
     };
-    let mut session = Session::new(alloc, machine, budget);
     let mut lines = Lines::new(script.as_slice());
     session.answer_lines(images, writer, &mut lines)?;
     Ok(Summary {
