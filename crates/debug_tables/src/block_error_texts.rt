@@ -48,7 +48,7 @@ fn push_block_errors(
 {
     if let ScriptCommand::Asm(_, origin) = *command {
         let errors = errors_of_block(alloc, block, origin)?;
-        push_listed(text, errors.as_slice(), block)?;
+        return push_listed(text, errors.as_slice(), block);
     }
     Ok(())
 }
@@ -60,7 +60,7 @@ fn push_listed(text: &mut Vec<u8>, errors: &[AsmError], block: &Lines) -> Result
 {
     push_errors(text, &errors[..errors.len().min(MOST_LISTED)], block)?;
     if errors.len() > MOST_LISTED {
-        text.extend_from_slice(b"further errors are not listed\n")?;
+        return text.extend_from_slice(b"further errors are not listed\n");
     }
     Ok(())
 }
@@ -110,7 +110,7 @@ fn push_error_if(
     ensures { OnOk result (text.new.items ≡ text.old.items ++ error_text_if in_block number line.now error) }
 {
     if error.line == in_block {
-        push_error(text, number, line, error.reason)?;
+        return push_error(text, number, line, error.reason);
     }
     Ok(())
 }
