@@ -1,5 +1,5 @@
 -- What lies ahead of a moment leads where it led before.
-use Rattle.std.proofs.Common.{◌≡◌, ◌<◌, ◌≤◌, ◌^◌, ℕ, Bool, true, false, zero, suc, ◌+◌, ◌-◌, ◌&&◌, ◌==◌, List, [], ◌∷◌, ◌++◌, length, get_or, take, drop, refl, sym, ◌∙◌, ap, arith, append_assoc, if◌then◌else◌}
+use Rattle.std.proofs.Common.{◌≡◌, ◌<◌, ◌≤◌, ◌^◌, ℕ, Bool, true, false, zero, suc, ◌+◌, ◌-◌, ◌&&◌, ◌==◌, List, [], ◌∷◌, ◌++◌, length, get_or, take, drop, refl, sym, ◌∙◌, ap, arith, append_assoc, length-append, length-drop, if◌then◌else◌}
 use Rattle.std.specs.Prelude.{nat_le, set}
 use Rattle.std.proofs.Math.Seq.{drop-append_seam, take-append_seam, take-length}
 use Rattle.std.proofs.lemmas.Bool.Decides.{nat_tests}
@@ -241,13 +241,20 @@ cut_within acts i (suc left) act first rest below some is e f =
     ∙ (λ j. (take i acts ++ (e j) ∷ []) ++ (f j) ∷ drop (i + 1) acts)
     ∙ sym (λ j. (take i acts ++ first_cut (split j) (suc left)) ++ behind_cut (split j) (suc left))
 
-pub count_within : (acts : List Act) (i left : ℕ) (act : Act) → i < length acts → 0 < left → act ≡ get_or acts i act
+first_one : (rest : List Act) (left : ℕ) → 0 < length rest → 0 < left → length (first_cut rest left) ≡ 1
+first_one [] left some within = absurd (omega (arith, some))
+first_one (act ∷ rest) zero some within = absurd (omega (arith, within))
+first_one (act ∷ rest) (suc left) some within = refl
+
+pub count_within : (acts : List Act) (i left : ℕ) → i < length acts → 0 < left
     → i + 1 ≡ length (take i acts ++ first_cut (drop i acts) left)
-count_within acts i zero act below some is = absurd (omega (arith, some))
-count_within acts i (suc left) act below some is =
-    let split = split_here acts i act below is in
-    sym (front_length acts i (steps_act act.line (stubs_of_deed act.deed) (suc left)) below)
-    ∙ sym (ap (λ (xs : List Act). length (take i acts ++ first_cut xs (suc left))) split)
+count_within acts i left below within =
+    let many = length-drop i acts in
+    let some : 0 < length (drop i acts) = omega (arith, many, below) in
+    let one = first_one (drop i acts) left some within in
+    let front = length-take-le i acts (omega (arith, below)) in
+    let both = length-append (take i acts) (first_cut (drop i acts) left) in
+    omega (arith, one, front, both)
 
 -- the acts before a place and those behind it
 pub parted : (front back items : List Act) (n : ℕ) → items ≡ front ++ back → n ≡ length front → take n items ≡ front

@@ -284,13 +284,25 @@ fn split_at(alloc: Global, acts: &mut Vec<Act>, step: u64) -> Result<usize, Allo
     if cut.left == 0 {
         return Ok(cut.index);
     }
+    split_within(alloc, acts, cut)?;
+    Ok(cut.index + 1)
+}
+
+// The steps within which acts are cut become two acts.
+fn split_within(alloc: Global, acts: &mut Vec<Act>, cut: Cut) -> Result<(), AllocError>
+    requires there { cut.index < length acts.old.items }
+    requires within { 0 < cut.left }
+    ensures items { OnOk result (acts.new.items
+        ≡ acts_cut acts.old.items (Some cut) ++ acts_behind acts.old.items (Some cut)) }
+    ensures same { OnErr result (acts.new.items ≡ acts.old.items) }
+{
     let items = acts.as_slice();
     let act = &items[cut.index];
     let first = act.of_count(alloc, cut.left)?;
     let rest = act.of_count(alloc, act.deed.steps().saturating_sub(cut.left))?;
     acts.insert(cut.index, first)?;
     acts[cut.index + 1] = rest;
-    Ok(cut.index + 1)
+    Ok(())
 }
 
 // How many acts come before those at the end that are all of one line.
