@@ -1,9 +1,9 @@
 //! The past of a machine, and how the machine goes back.
 
-ghost use Rattle.std.specs.Prelude.{◌≡◌, ◌≤◌, ◌<◌, ◌^◌, ◌++◌, true, length, take, Some, IfOk, IfSome, OnErr, OnOk, IfErr};
+ghost use Rattle.std.specs.Prelude.{◌≡◌, ◌≤◌, ◌<◌, ◌^◌, ◌+◌, ◌++◌, true, length, take, Some, IfOk, IfSome, OnErr, OnOk, IfErr};
 ghost use Rattle.debug_tables.specs.Error.{IsLineError};
 ghost use Rattle.debug_tables.specs.Session.{script_state};
-ghost use Rattle.debug_history.specs.Acts.{steps_of_acts};
+ghost use Rattle.debug_history.specs.Acts.{steps_of_acts, steps_of_deed};
 ghost use Rattle.debug_history.specs.Again.{script_at_moment};
 ghost use Rattle.debug_history.specs.Cutting.{acts_behind, acts_cut};
 ghost use Rattle.debug_history.specs.Past.{acts_before_line, acts_from, acts_until, ends_anew, line_of_last_act};
@@ -101,19 +101,30 @@ impl Past {
     /// # Errors
     ///
     /// Memory ran out.
-    #[tactic(auto, using(crate::proofs::ActLemmas::steps_with_one))]
     pub fn add(&mut self, act: Act) -> Result<(), AllocError>
         ensures { OnOk result (self.new ≡ past_with_act self.old act) }
     {
         if !self.is_kept {
             return Ok(());
         }
+        match self.steps.checked_add(act.deed.steps()) {
+            Some(steps) => self.add_counted(act, steps),
+            None => {
+                self.lose();
+                Ok(())
+            }
+        }
+    }
+
+    // The same where it is known, and so many steps are counted then.
+    #[tactic(auto, using(crate::proofs::ActLemmas::steps_with_one))]
+    fn add_counted(&mut self, act: Act, steps: u64) -> Result<(), AllocError>
+        requires kept { self.old.is_kept ≡ true }
+        requires counted { steps ≡ steps_of_acts self.old.acts + steps_of_deed act.deed }
+        ensures { OnOk result (self.new ≡ past_with_act self.old act) }
+    {
         self.acts.truncate(self.done);
         self.all_steps = self.steps;
-        let Some(steps) = self.steps.checked_add(act.deed.steps()) else {
-            self.lose();
-            return Ok(());
-        };
         self.acts.push(act)?;
         self.done = self.acts.len();
         self.steps = steps;
