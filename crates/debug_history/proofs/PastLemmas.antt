@@ -1,12 +1,14 @@
 -- Acts that are cut, and how many steps are left of them.
-use Rattle.std.proofs.Common.{◌≡◌, ◌≢◌, ◌<◌, ◌≤◌, ℕ, Bool, true, false, zero, suc, ◌+◌, ◌-◌, ◌&&◌, ◌==◌, Option, Some, None, List, [], ◌∷◌, ◌++◌, length, get_or, take, drop, refl, sym, ◌∙◌, ap, arith, append_assoc, if◌then◌else◌}
+use Rattle.std.proofs.Common.{◌≡◌, ◌≢◌, ◌<◌, ◌≤◌, ℕ, Bool, true, false, suc, ◌+◌, ◌-◌, ◌&&◌, ◌==◌, Option, Some, None, List, [], ◌∷◌, ◌++◌, length, get_or, take, drop, refl, sym, ◌∙◌, ap, arith, append_assoc, if◌then◌else◌}
 use Rattle.std.specs.Prelude.{map, nat_le}
-use Rattle.std.specs.List.{last_or}
+use Rattle.std.specs.List.{last_or, slice_get}
+use Rattle.std.specs.Option.{option_map}
 use Rattle.std.proofs.lemmas.Bool.Decides.{nat_tests}
-use Rattle.std.proofs.lemmas.List.{append-nil, drop_all, drop_more, take-append-drop, take_more}
+use Rattle.std.proofs.lemmas.List.{drop_all, drop_more, take-append-drop, take_more}
+use Rattle.std.proofs.lemmas.Option.{get_or_from_slice_get, slice_get-get_or}
 use Rattle.debug_history.specs.Acts.{is_anew, steps_of_acts, steps_of_deed, stubs_of_deed}
 use Rattle.debug_history.specs.Cutting.{behind_cut, first_cut}
-use Rattle.debug_history.specs.Past.{act_behind, acts_before_line, acts_from, acts_until, ends_anew, first_steps}
+use Rattle.debug_history.specs.Past.{act_behind, acts_before_line, acts_from, acts_until, ends_anew, first_steps, line_of_last_act}
 use Rattle.debug_history.specs.declared.act.Act.{Act}
 use Rattle.debug_history.proofs.ActLemmas.{steps_joined, steps_of_none}
 
@@ -182,31 +184,43 @@ pub line_never : (acts : List Act) (line : ℕ) → acts_before_line line (take 
     → acts_before_line line acts ≡ take 0 acts
 line_never acts line h = sym h ∙ before_none line
 
--- the line of the last act
-pub lines_first : (acts : List Act) (i : ℕ) (act : Act) (o : Option ℕ) → i < length acts → act ≡ get_or acts i act
-    → last_or o (map (λ (a : Act). a.line) (drop i acts)) ≡ last_or (Some act.line) (map (λ (a : Act). a.line) (drop (i + 1) acts))
-lines_first acts i act o below is =
-    ap (λ (xs : List Act). last_or o (map (λ (a : Act). a.line) xs))
-    (drop_more acts i act below ∙ ap (λ (a : Act). a ∷ drop (i + 1) acts) (sym is))
+-- what is last, if anything is
+behind_first : (first second : Act) (rest : List Act) (o : Option Act) → slice_get (first ∷ second ∷ rest) (length (first ∷ second ∷ rest) - 1) ≡ o
+    → slice_get (second ∷ rest) (length (second ∷ rest) - 1) ≡ o
+behind_first first second rest o is =
+    let many : length (first ∷ second ∷ rest) - 1 ≡ suc (length (second ∷ rest) - 1) = omega (arith) in
+    sym (ap (slice_get (first ∷ second ∷ rest)) many) ∙ is
 
-pub lines_end : (acts : List Act) (i : ℕ) (o : Option ℕ) → length acts ≤ i
-    → last_or o (map (λ (a : Act). a.line) (drop i acts)) ≡ o
-lines_end acts i o all = ap (λ (xs : List Act). last_or o (map (λ (a : Act). a.line) xs)) (drop_all i acts all)
+none_last : (acts : List Act) → slice_get acts (length acts - 1) ≡ None → acts ≡ []
+none_last [] is = refl
+none_last (first ∷ rest) is =
+    let below : length (first ∷ rest) - 1 < length (first ∷ rest) = omega (arith) in
+    let some = slice_get-get_or (first ∷ rest) (length (first ∷ rest) - 1) first below in
+    absurd (cc)
+
+-- its line
+pub last_line : (acts : List Act) (act : Act) (o : Option ℕ) → slice_get acts (length acts - 1) ≡ Some act
+    → last_or o (map (λ (a : Act). a.line) acts) ≡ Some act.line
+last_line [] act o is = absurd (cc)
+last_line (first ∷ []) act o is = ap (option_map (λ (a : Act). a.line)) is
+last_line (first ∷ second ∷ rest) act o is =
+    last_line (second ∷ rest) act (Some first.line) (behind_first first second rest (Some act) is)
+
+pub no_line : (acts : List Act) → slice_get acts (length acts - 1) ≡ None → None ≡ line_of_last_act acts
+no_line acts is = ap line_of_last_act (sym (none_last acts is))
 
 -- whether a machine stands as it was made
-first_anew : (act : Act) (rest : List Act) (b : Bool) → ends_anew b (act ∷ rest) ≡ ends_anew (is_anew act.deed) rest
+pub last_anew : (acts : List Act) (act : Act) (b : Bool) → slice_get acts (length acts - 1) ≡ Some act
+    → ends_anew b acts ≡ is_anew act.deed
 unfolding ends_anew
-first_anew act rest b = refl
+last_anew [] act b is = absurd (cc)
+last_anew (first ∷ []) act b is = ap (λ (a : Act). is_anew a.deed) (get_or_from_slice_get (first ∷ []) 0 act act is)
+last_anew (first ∷ second ∷ rest) act b is =
+    last_anew (second ∷ rest) act (is_anew first.deed) (behind_first first second rest (Some act) is)
 
-none_anew : (b : Bool) → ends_anew b [] ≡ b
+begins_anew : (b : Bool) → b ≡ ends_anew b []
 unfolding ends_anew
-none_anew b = refl
+begins_anew b = refl
 
-pub anew_first : (acts : List Act) (i : ℕ) (act : Act) (b : Bool) → i < length acts → act ≡ get_or acts i act
-    → ends_anew b (drop i acts) ≡ ends_anew (is_anew act.deed) (drop (i + 1) acts)
-anew_first acts i act b below is =
-    ap (ends_anew b) (drop_more acts i act below ∙ ap (λ (a : Act). a ∷ drop (i + 1) acts) (sym is))
-    ∙ first_anew act (drop (i + 1) acts) b
-
-pub anew_end : (acts : List Act) (i : ℕ) (b : Bool) → length acts ≤ i → ends_anew b (drop i acts) ≡ b
-anew_end acts i b all = ap (ends_anew b) (drop_all i acts all) ∙ none_anew b
+pub none_anew : (acts : List Act) (b : Bool) → slice_get acts (length acts - 1) ≡ None → b ≡ ends_anew b acts
+none_anew acts b is = begins_anew b ∙ ap (ends_anew b) (sym (none_last acts is))

@@ -50,9 +50,6 @@ impl KeptStubs {
     pub(crate) fn table(&self) -> Option<&Stubs>
         ensures { MatchOption result (self.now ≡ []) (λ stubs. stubs.now ≡ self.now) }
     {
-        match &self.stubs {
-            Some(stubs) => Some(&**stubs),
-            None => None,
-        }
+        self.stubs.as_deref()
     }
 }

@@ -53,18 +53,12 @@ fn behind_two(mode: Mode, word: &[u8], second: &[u8], line: &[u8]) -> Option<Pas
 {
     let (third, rest) = cut(line, b' ');
     match rest {
-        Some(rest) => behind_three(mode, word, second, third, rest),
+        Some(rest) => of_more(mode, word, second, third, rest),
         None => of_three(mode, word, second, third),
     }
 }
 
-fn behind_three(
-    mode: Mode,
-    word: &[u8],
-    second: &[u8],
-    third: &[u8],
-    line: &[u8],
-) -> Option<PastCommand>
+fn of_more(mode: Mode, word: &[u8], second: &[u8], third: &[u8], line: &[u8]) -> Option<PastCommand>
     ensures { result ≡ past_line_of mode (word.now ∷ second.now ∷ third.now ∷ words line.now) }
 {
     let (fourth, rest) = cut(line, b' ');

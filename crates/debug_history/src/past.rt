@@ -72,11 +72,7 @@ impl Past {
     pub fn begin(&mut self, is_kept: bool)
         ensures { self.new ≡ past_from_start is_kept }
     {
-        self.is_kept = is_kept;
-        self.acts.clear();
-        self.done = 0;
-        self.steps = 0;
-        self.all_steps = 0;
+        *self = Past::new(self.alloc, is_kept);
     }
 
     /// The machine was changed in a way that isn't kept.
@@ -157,7 +153,7 @@ impl Past {
     pub fn last_line(&self) -> Option<u64>
         ensures { result ≡ line_of_last_act self.now.acts }
     {
-        last_line_of(self.acts())
+        Some(self.acts().last()?.line)
     }
 
     /// How many steps were counted before the last moment that lies ahead, or that the machine stands at.
@@ -322,35 +318,20 @@ fn count_before_line(acts: &[Act], line: u64) -> usize
     ensures before { acts_before_line line acts.now ≡ take result acts.now }
 {
     let mut count = acts.len();
-    while count > 0 {
-        if acts[count - 1].line != line {
-            return count;
-        }
+    while count > 0 && acts[count - 1].line == line {
         count -= 1;
     }
-    0
+    count
 }
 
 // Whether a machine stands as it was made after some acts.
 fn ends_anew(acts: &[Act]) -> bool
     ensures { result ≡ ends_anew true acts.now }
 {
-    let mut is_new = true;
-    for act in acts {
-        is_new = act.deed.is_anew();
+    match acts.last() {
+        Some(act) => act.deed.is_anew(),
+        None => true,
     }
-    is_new
-}
-
-// The line of the last act.
-fn last_line_of(acts: &[Act]) -> Option<u64>
-    ensures { result ≡ line_of_last_act acts.now }
-{
-    let mut line = None;
-    for act in acts {
-        line = Some(act.line);
-    }
-    line
 }
 
 /// How many steps some acts count.

@@ -1,20 +1,16 @@
-use Rattle.std.proofs.Common.{◌<◌, ◌≤◌, ◌+◌, ℕ, Bool, List, ap, drop, length, sym, ◌∙◌, arith}
-use Rattle.debug_history.specs.Past.{ends_anew}
+use Rattle.std.proofs.Common.{◌∙◌, List, ap, sym, true}
+use Rattle.std.specs.Option.{option_copied}
 use Rattle.debug_history.specs.declared.act.Act.{Act}
-use Rattle.debug_history.proofs.PastLemmas.{anew_end, anew_first}
+use Rattle.debug_history.proofs.PastLemmas.{last_anew, none_anew}
 use Rattle.debug_history.proofs.past.ends_anew.Goals as goal
 
-pub loop-act-preserved : goal.loop-act-preserved
-loop-act-preserved c =
+pub returns-in-Some : goal.returns-in-Some
+returns-in-Some c =
     let acts : List Act = c.args.acts.now in
-    let i : ℕ = c.loop-act.act-index in
-    let below : i < length acts = omega arith in
-    ap (λ (b : Bool). ends_anew b (drop (i + 1) acts)) c.is_anew-is_new.ensures
-    ∙ sym (anew_first acts i c.act-item.result c.loop-act.is_new below c.act-item.is) ∙ c.loop-act.invariant
+    let last = sym c.last.ensures.value ∙ ap option_copied c.in-Some.is in
+    c.is_anew.ensures ∙ sym (last_anew acts _ true last)
 
-pub returns : goal.returns
-returns c =
+pub returns-in-None : goal.returns-in-None
+returns-in-None c =
     let acts : List Act = c.args.acts.now in
-    let i : ℕ = c.loop-act.act-index in
-    let all : length acts ≤ i = omega arith in
-    sym (anew_end acts i c.loop-act.is_new all) ∙ c.loop-act.invariant
+    none_anew acts true (sym c.last.ensures.value ∙ ap option_copied c.in-None.is)

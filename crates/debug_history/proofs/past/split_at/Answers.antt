@@ -1,4 +1,4 @@
-use Rattle.std.proofs.Common.{◌≡◌, ◌<◌, ◌∙◌, ◌++◌, List, Some, ap, arith, length, sym}
+use Rattle.std.proofs.Common.{◌<◌, ◌∙◌, ◌++◌, List, Some, ap, arith, length, sym}
 use Rattle.debug_history.specs.Cutting.{acts_behind, acts_cut}
 use Rattle.debug_history.specs.Past.{acts_from, acts_until}
 use Rattle.debug_history.specs.declared.act.Act.{Act}

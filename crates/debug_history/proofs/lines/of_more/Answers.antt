@@ -1,6 +1,6 @@
 use Rattle.std.proofs.Common.{sym}
 use Rattle.debug_history.proofs.LinesLemmas.{five_words}
-use Rattle.debug_history.proofs.lines.behind_three.Goals as goal
+use Rattle.debug_history.proofs.lines.of_more.Goals as goal
 
 pub returns-in-Some : goal.returns-in-Some
 returns-in-Some c =
