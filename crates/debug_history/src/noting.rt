@@ -175,7 +175,7 @@ impl Past {
     {
         self.put(line, PastDeed::Steps(stubs, taken))?;
         if has_faulted {
-            self.put(line, PastDeed::FaultingStep)?;
+            return self.put(line, PastDeed::FaultingStep);
         }
         Ok(())
     }
@@ -219,7 +219,7 @@ impl Past {
             let mode = before.status.mode;
             let link = RegisterNumber::new(14);
             self.put(line, PastDeed::Banked(mode, link, before.link))?;
-            self.put(line, PastDeed::Place(before.place))?;
+            return self.put(line, PastDeed::Place(before.place));
         }
         Ok(())
     }
