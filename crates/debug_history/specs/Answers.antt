@@ -1,6 +1,6 @@
 -- What lines are answered that have to do with the past, and what they leave.
 use Rattle.std.specs.Option.{option_map, option_or}
-use Rattle.std.specs.Prelude.{ℕ, Bool, true, false, ◌&&◌, ◌-◌, ◌++◌, nat_le, List, Option, Some, None, if◌then◌else◌}
+use Rattle.std.specs.Prelude.{ℕ, ◌≡◌, Bool, true, false, ◌&&◌, ◌-◌, ◌++◌, nat_le, List, Option, Some, None, if◌then◌else◌}
 use Rattle.profile.specs.Sizes.{Sizes}
 use Rattle.debug_tables.specs.State.{ScriptState}
 use Rattle.debug_labels.specs.Labels.{ImageLabels}
@@ -24,6 +24,10 @@ pub record PastAnswered : Type 0 where
   pub script : ScriptState
   pub past : PastState
   pub text : List ℕ
+
+-- the session, its past and the text are those that a line leaves
+abbrev pub IsPastAnswered : PastAnswered → ScriptState → PastState → List ℕ → Type 0
+IsPastAnswered a s p text = (s ≡ a.script) × (p ≡ a.past) × (text ≡ a.text)
 
 -- a line that changes nothing
 abbrev pub past_shown : ScriptState → PastState → List ℕ → PastAnswered

@@ -3,7 +3,7 @@
 ghost use Rattle.std.specs.Prelude.{◌≡◌, List, option_map, IfErr, IfOk, OnOk};
 ghost use Rattle.debug_tables.specs.Error.{IsLineError};
 ghost use Rattle.debug_tables.specs.Session.{script_state};
-ghost use Rattle.debug_history.specs.Answers.{back_until, last_in_past, past_after_past, past_answered, past_asked, past_command, past_gone_back, past_line_answered, script_after_past, undone};
+ghost use Rattle.debug_history.specs.Answers.{IsPastAnswered, back_until, last_in_past, past_after_past, past_answered, past_asked, past_command, past_gone_back, past_line_answered, script_after_past, undone};
 ghost use Rattle.debug_history.specs.Past.{line_of_last_act};
 ghost use Rattle.debug_history.specs.declared.search.Sought.TheVariants.{Stood};
 ghost use Rattle.debug_labels.specs.place_views.Places.{where_text};
@@ -101,14 +101,13 @@ impl Past {
         }
         let steps = self.steps();
         match command {
-            PastCommand::Back(count) => match steps.checked_sub(u64::from(count)) {
-                Some(step) => self.back(setting, session, images, labels, step),
-                None => Ok(no_history(setting.alloc)?),
-            },
+            PastCommand::Back(count) if u64::from(count) <= steps => {
+                self.back(setting, session, images, labels, steps - u64::from(count))
+            }
             PastCommand::BackTo(step) if u64::from(step) <= self.all_steps() => {
                 self.back(setting, session, images, labels, u64::from(step))
             }
-            PastCommand::BackTo(_) => Ok(no_history(setting.alloc)?),
+            PastCommand::Back(_) | PastCommand::BackTo(_) => Ok(no_history(setting.alloc)?),
             PastCommand::BackUntil(address) => {
                 self.back_until(setting, session, images, labels, address.address())
             }
@@ -130,12 +129,9 @@ impl Past {
         labels: &LabelTable,
         step: u64,
     ) -> Result<Vec<u8>, RunError>
-        ensures state { let a = past_gone_back labels.now setting.config setting.budget
-            (script_state session.old images.old) self.old step in OnOk result
-            ((script_state session.new images.new ≡ a.script) × (self.new ≡ a.past)) }
-        ensures text { let a = past_gone_back labels.now setting.config setting.budget
-            (script_state session.old images.old) self.old step in
-            IfOk result (λ text. text.items ≡ a.text) }
+        ensures answer { IfOk result (λ text. IsPastAnswered (past_gone_back labels.now setting.config
+            setting.budget (script_state session.old images.old) self.old step)
+            (script_state session.new images.new) self.new text.items) }
         ensures errors { IfErr result IsLineError }
     {
         self.go_back(session, images, setting.config, setting.budget, step)?;
@@ -153,14 +149,10 @@ impl Past {
         labels: &LabelTable,
         address: u32,
     ) -> Result<Vec<u8>, RunError>
-        ensures state { let s = script_state session.old images.old in
-            let a = back_until labels.now setting.config setting.budget s self.old
-            (last_in_past setting.config s self.old (Stood address)) in OnOk result
-            ((script_state session.new images.new ≡ a.script) × (self.new ≡ a.past)) }
-        ensures text { let s = script_state session.old images.old in
-            let a = back_until labels.now setting.config setting.budget s self.old
-            (last_in_past setting.config s self.old (Stood address)) in
-            IfOk result (λ text. text.items ≡ a.text) }
+        ensures answer { let s = script_state session.old images.old in IfOk result (λ text.
+            IsPastAnswered (back_until labels.now setting.config setting.budget s self.old
+            (last_in_past setting.config s self.old (Stood address)))
+            (script_state session.new images.new) self.new text.items) }
         ensures errors { IfErr result IsLineError }
     {
         let sought = Sought::Stood(address);
@@ -177,12 +169,9 @@ impl Past {
         session: &mut Session,
         images: &mut Images,
     ) -> Result<Vec<u8>, RunError>
-        ensures state { let a = undone setting.config setting.budget
-            (script_state session.old images.old) self.old (line_of_last_act self.old.acts) in OnOk result
-            ((script_state session.new images.new ≡ a.script) × (self.new ≡ a.past)) }
-        ensures text { let a = undone setting.config setting.budget
-            (script_state session.old images.old) self.old (line_of_last_act self.old.acts) in
-            IfOk result (λ text. text.items ≡ a.text) }
+        ensures answer { IfOk result (λ text. IsPastAnswered (undone setting.config setting.budget
+            (script_state session.old images.old) self.old (line_of_last_act self.old.acts))
+            (script_state session.new images.new) self.new text.items) }
         ensures errors { IfErr result IsLineError }
     {
         let Some(line) = self.last_line() else {
@@ -204,13 +193,11 @@ fn command_on(
         ≡ past_command labels.now (state_of machine.now.guest) line.now) }
 {
     let mode = machine.cpu().psr().mode;
-    match past_line(mode, line) {
-        Some(command) => Ok(Some(command)),
-        None => {
-            let numbered = line_on(alloc, labels, machine, line)?;
-            Ok(past_line(mode, numbered.as_slice()))
-        }
+    if let Some(command) = past_line(mode, line) {
+        return Ok(Some(command));
     }
+    let numbered = line_on(alloc, labels, machine, line)?;
+    Ok(past_line(mode, numbered.as_slice()))
 }
 
 // Where the machine stands, as text.
