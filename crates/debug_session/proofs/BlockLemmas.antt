@@ -1,7 +1,6 @@
 -- What a line leaves of the labels and of the failed blocks by what it is, and what is written of it, refused or not.
-use Rattle.std.proofs.Common.{◌≡◌, ℕ, Bool, true, false, List, Option, Result, Ok, Err, Bor, ap, refl, subst, sym, ◌∙◌}
+use Rattle.std.proofs.Common.{◌≡◌, ℕ, true, List, Option, Bor, ap, refl, sym, ◌∙◌}
 use Rattle.std.specs.Io.KnownBytes.{Appends}
-use Rattle.std.specs.Prelude.{if◌then◌else◌, OnOk}
 use Rattle.profile.specs.images.Entries.{Entry, bytes_of_image}
 use Rattle.command_shell_lines.specs.FailedBlocks.{FailedBlockPlace}
 use Rattle.command_shell_lines.specs.Requests.{Request, Asm, request_of_command}
@@ -9,22 +8,20 @@ use Rattle.command_shell_lines.specs.declared.requests.ScriptCommand.{ScriptComm
 use Rattle.command_shell_lines.specs.declared.requests.ScriptCommand.TheVariants as line
 use Rattle.debug_modules.specs.CheckTally.{CheckTally}
 use Rattle.debug_modules.specs.Labels.{ImageLabels}
-use Rattle.debug_modules.specs.Reports.{answer_in, report_of_refusal, with_refusal}
+use Rattle.debug_modules.specs.Reports.{report_of_refusal, with_refusal}
 use Rattle.debug_tables.specs.Passes.{labels_of_lines}
 use Rattle.debug_session.specs.DebugScript.{answer_or_refused, failed_with_block}
 use Rattle.debug_session.specs.DebugState.{DebugState, IsDebugged}
 use Rattle.debug_session.specs.Naming.{labels_with_block, labels_with_image}
 use Rattle.debug_session.specs.declared.session.DebugSettings.{DebugSettings}
 
--- an ASM block that is not refused, by what is found of its image
-pub labels_of_asm : (labels : List ImageLabels) (images : List Entry) (refused : Bool) (r : Request) (name : List ℕ) (origin : ℕ)
-    (block : List (List ℕ)) (found : Option (List ℕ)) → refused ≡ false → r ≡ Asm name origin → found ≡ bytes_of_image images name
-    → labels_with_image labels name origin found (labels_of_lines block origin)
-    ≡ (if refused then labels else labels_with_block labels images r block)
-labels_of_asm labels images refused r name origin block found may is there =
+-- an ASM block, by what is found of its image
+pub labels_of_asm : (labels : List ImageLabels) (images : List Entry) (r : Request) (name : List ℕ) (origin : ℕ)
+    (block : List (List ℕ)) (found : Option (List ℕ)) → r ≡ Asm name origin → found ≡ bytes_of_image images name
+    → labels_with_image labels name origin found (labels_of_lines block origin) ≡ labels_with_block labels images r block
+labels_of_asm labels images r name origin block found is there =
     ap (λ (o : Option (List ℕ)). labels_with_image labels name origin o (labels_of_lines block origin)) there
     ∙ ap (λ (q : Request). labels_with_block labels images q block) (sym is)
-    ∙ ap (λ (b : Bool). if b then labels else labels_with_block labels images r block) (sym may)
 
 -- any line but ASM
 pub labels_elsewhere : (labels : List ImageLabels) (images : List Entry) (command : ScriptCommand) (block : List (List ℕ))
@@ -77,23 +74,11 @@ failed_elsewhere failed number line.Modules block other also = refl
 failed_elsewhere failed number line.Flex block other also = refl
 failed_elsewhere failed number line.Unknown block other also = refl
 
--- an answer, written as it is
-pub shown_plainly : {A E : Type 0} (result : Result A E) (before after : Option (List ℕ)) (c : DebugSettings) (d : DebugState) (number : ℕ)
-    (refused : Bool) (text : List ℕ) → refused ≡ false → OnOk result (Appends before after (answer_in c.form text))
-    → OnOk result (IsDebugged before after d (answer_or_refused c d number refused d text))
-shown_plainly (Ok a) before after c d number refused text may shown =
-    subst (λ (b : Bool). IsDebugged before after d (answer_or_refused c d number b d text)) (sym may)
-    (record { text = shown; state = refl })
-shown_plainly (Err e) before after c d number refused text may shown = record {}
-
--- one that is refused, and counted
-pub shown_refused : (before after : Option (List ℕ)) (c : DebugSettings) (d : DebugState) (number : ℕ) (refused : Bool) (text : List ℕ)
-    (tally : CheckTally) → refused ≡ true → tally ≡ with_refusal d.tally
-    → Appends before after (report_of_refusal c.form d.tally number text)
-    → IsDebugged before after (record d { tally = tally }) (answer_or_refused c d number refused d text)
-shown_refused before after c d number refused text tally is counted shown =
-    subst (λ (b : Bool). IsDebugged before after (record d { tally = tally }) (answer_or_refused c d number b d text)) (sym is)
-    (record {
-      text = shown;
-      state = ap (λ (t : CheckTally). let now : DebugState = record d { tally = t } in now) counted;
-    })
+-- a refusal, and counted
+pub shown_refused : (before after : Option (List ℕ)) (c : DebugSettings) (d : DebugState) (number : ℕ) (text : List ℕ)
+    (tally : CheckTally) → tally ≡ with_refusal d.tally → Appends before after (report_of_refusal c.form d.tally number text)
+    → IsDebugged before after (record d { tally = tally }) (answer_or_refused c d number true d text)
+shown_refused before after c d number text tally counted shown = record {
+  text = shown;
+  state = ap (λ (t : CheckTally). let now : DebugState = record d { tally = t } in now) counted;
+}

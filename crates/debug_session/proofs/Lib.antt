@@ -14,13 +14,13 @@ pub mod LastStepsLemmas
 pub mod LineLemmas
 pub mod ModuleLineLemmas
 pub mod NamingLemmas
+pub mod NotingLemmas
 pub mod OwnLemmas
 pub mod PastLineLemmas
 pub mod RefusalLemmas
 pub mod RepeatLemmas
 pub mod RunPastLemmas
 pub mod ShownStepsLemmas
-pub mod SourceLemmas
 pub mod SteppingLemmas
 pub mod SteppingPastLemmas
 pub mod UnreadLemmas

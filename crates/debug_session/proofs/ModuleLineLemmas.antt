@@ -1,6 +1,6 @@
 -- A line that enters the code of modules, and what is kept of it.
 use Rattle.std.proofs.Common.{◌≡◌, ℕ, zero, suc, ◌+◌, ◌/◌, ◌%◌, Bool, true, false, List, [], ◌∷◌, Option, Some, None, Result, Ok, Err, ap, refl, subst, sym, ◌∙◌, if◌then◌else◌}
-use Rattle.std.specs.Prelude.{unwrap_or, ◌&&◌, ◌++◌, codes, is_some}
+use Rattle.std.specs.Prelude.{OnOk, unwrap_or, ◌&&◌, ◌++◌, codes, is_some}
 use Rattle.std.specs.Option.{option_map}
 use Rattle.profile.specs.Outcome.{Leaves}
 use Rattle.profile.specs.Fault.{Fault}
@@ -48,25 +48,28 @@ pub modules_moved : (d : DebugState) (s : ScriptState) (m : DebugModes) (p : Pas
     → record d { script = s; modes = m; past = p } ≡ moved_by d o
 modules_moved d s m p o script modes past = λ i. record d { script = script i; modes = modes i; past = past i }
 
-pub module_viewed : (before after : Option (List ℕ)) (c : DebugSettings) (d mid now : DebugState) (number : ℕ) (line bytes : List ℕ)
+pub module_viewed : {A E : Type 0} (result : Result A E) (before after : Option (List ℕ)) (c : DebugSettings)
+    (d mid now : DebugState) (number : ℕ) (line bytes : List ℕ)
     (o : Option ModuleAnswered) → Some (Text bytes) ≡ option_map (λ a. a.shown) o → mid ≡ moved_by d o
-    → IsDebugged before after now (view_answer c mid bytes) → IsDebugged before after now (module_line_by c d number line o)
-module_viewed before after c d mid now number line bytes None is same shown = absurd (cc)
-module_viewed before after c d mid now number line bytes (Some a) is same shown =
+    → OnOk result (IsDebugged before after now (view_answer c mid bytes))
+    → OnOk result (IsDebugged before after now (module_line_by c d number line o))
+module_viewed result before after c d mid now number line bytes None is same shown = absurd (cc)
+module_viewed result before after c d mid now number line bytes (Some a) is same shown =
     let said : Text bytes ≡ a.shown = ap (λ (o : Option ModuleShown). unwrap_or o (Text [])) is in
-    subst (λ (x : DebugAnswered). IsDebugged before after now x)
+    subst (λ (x : DebugAnswered). OnOk result (IsDebugged before after now x))
     (ap (λ (x : DebugState). view_answer c x bytes) same
     ∙ ap (λ (h : ModuleShown). module_line_shown c (record d { modes = a.modes; past = a.past }) a.script h) said) shown
 
-pub module_stepped : (before after : Option (List ℕ)) (c : DebugSettings) (d mid now : DebugState) (number : ℕ)
+pub module_stepped : {A E : Type 0} (result : Result A E) (before after : Option (List ℕ)) (c : DebugSettings)
+    (d mid now : DebugState) (number : ℕ)
     (line text printed ending : List ℕ) (o : Option ModuleAnswered)
     → Some (Steps text printed ending) ≡ option_map (λ a. a.shown) o → mid ≡ moved_by d o
-    → IsDebugged before after now (stepping_answer_by c mid mid.script text printed ending)
-    → IsDebugged before after now (module_line_by c d number line o)
-module_stepped before after c d mid now number line text printed ending None is same shown = absurd (cc)
-module_stepped before after c d mid now number line text printed ending (Some a) is same shown =
+    → OnOk result (IsDebugged before after now (stepping_answer_by c mid mid.script text printed ending))
+    → OnOk result (IsDebugged before after now (module_line_by c d number line o))
+module_stepped result before after c d mid now number line text printed ending None is same shown = absurd (cc)
+module_stepped result before after c d mid now number line text printed ending (Some a) is same shown =
     let said : Steps text printed ending ≡ a.shown = ap (λ (o : Option ModuleShown). unwrap_or o (Text [])) is in
-    subst (λ (x : DebugAnswered). IsDebugged before after now x)
+    subst (λ (x : DebugAnswered). OnOk result (IsDebugged before after now x))
     (ap (λ (x : DebugState). stepping_answer_by c x x.script text printed ending) same
     ∙ ap (λ (h : ModuleShown). module_line_shown c (record d { modes = a.modes; past = a.past }) a.script h) said) shown
 

@@ -1,5 +1,5 @@
 -- What calls leave of a debugging session, by what those that they make leave.
-use Rattle.std.proofs.Common.{◌≡◌, ℕ, ◌-◌, Bool, true, false, List, [], ◌++◌, Option, None, Some, Result, ap, refl, subst, sym, ◌∙◌}
+use Rattle.std.proofs.Common.{◌≡◌, ℕ, ◌+◌, ◌-◌, Bool, true, false, List, [], ◌++◌, Option, None, Some, Result, Ok, Err, ap, arith, refl, subst, sym, ◌∙◌}
 use Rattle.std.specs.Prelude.{◌&&◌, ◌||◌, is_some, not, option_map, if◌then◌else◌, OnOk}
 use Rattle.std.specs.Io.KnownBytes.{Appends}
 use Rattle.profile.proofs.OutputLemmas.{Appends-join, Appends-nothing}
@@ -11,14 +11,12 @@ use Rattle.debug_tables.specs.run_meter.Script.{request_answer}
 use Rattle.debug_tables.specs.run_meter.State.{Answered, IsAnswered, ScriptState}
 use Rattle.debug_tables.specs.run_meter.Memory.{script_started_anew, script_with_budget}
 use Rattle.command_shell_lines.specs.Requests.{Request, Nothing, Hex, Asm, Boot, Run, Regs, Set, Poke, Call, Load, Step, Break, Unbreak, Mem, Code, Heap, Areas, Modules, Flex, Unknown, opens_block}
-use Rattle.command_shell_lines.specs.FailedBlocks.{FailedBlockPlace, block_reason}
-use Rattle.debug_modules.specs.DebugModesEndings.{ending_of, output_of}
+use Rattle.command_shell_lines.specs.Blocks.{lines_after, lines_taken}
+use Rattle.command_shell_lines.specs.FailedBlocks.{block_reason}
 use Rattle.debug_modules.specs.Labels.{ImageLabels}
-use Rattle.debug_modules.specs.DebugModes.{DebugModes}
-use Rattle.debug_session.specs.Naming.{labels_with_block}
-use Rattle.debug_session.specs.DebugScript.{machine_change_answer, checked_answer, labels_after, past_after_line, simple_request_answer, state_after_line, state_with_answer, script_line_answer, script_line_answer_by, answer_or_refused, line_in_modes_answer, past_after_reset, view_answer, with_block_noted}
-use Rattle.debug_lines.specs.LineKinds.{asks_nothing, is_named_image, is_refused_block, takes_steps}
-use Rattle.debug_modules.specs.Noted.{is_faulted, past_after_request, past_with_deed}
+use Rattle.debug_session.specs.DebugScript.{machine_change_answer, checked_answer, simple_request_answer, state_after_line, state_with_answer, script_line_answer, script_line_answer_by, answer_or_refused, line_in_modes_answer, past_after_reset, view_answer, with_block_noted}
+use Rattle.debug_lines.specs.LineKinds.{asks_nothing, is_named_image, is_refused_block}
+use Rattle.debug_modules.specs.Noted.{past_with_deed}
 use Rattle.debug_modules.specs.Past.{PastState, past_from_start}
 use Rattle.debug_modules.specs.PastDeed.{PastDeed}
 use Rattle.debug_modules.specs.PastDeed.TheVariants.{Anew}
@@ -26,7 +24,6 @@ use Rattle.profile.specs.images.Entries.{Entry}
 use Rattle.debug_tables.specs.run_meter.Session.{script_state}
 use Rattle.debug_session.specs.DebugState.{DebugAnswered, DebugState, IsDebugged, debug_answer}
 use Rattle.debug_session.specs.Session.{debug_state}
-use Rattle.debug_modules.specs.CheckTally.{CheckTally}
 use Rattle.debug_session.specs.declared.session.DebugSession.{DebugSession}
 use Rattle.debug_modules.specs.Reports.{answer_in, is_untested}
 use Rattle.debug_session.specs.ExitStatus.{debug_status}
@@ -95,129 +92,6 @@ answer_with before after now at_print c e line number refused text setting at re
     subst (λ (x : DebugSettings). IsDebugged before after now (answer_or_refused x at_print number refused at_print text)) setting
     (subst (λ (n : ℕ). IsDebugged before after now (answer_or_refused c at_print n refused at_print text)) at reported)
 
--- a state by its parts
-made : ScriptState → List ImageLabels → List Entry → List FailedBlockPlace → DebugModes → List ℕ → List ℕ → ℕ → CheckTally → Bool → PastState → DebugState
-made script labels sources failed modes answer output steps tally quit past = record {
-  script = script;
-  labels = labels;
-  sources = sources;
-  failed = failed;
-  modes = modes;
-  answer = answer;
-  output = output;
-  steps = steps;
-  tally = tally;
-  has_quit = quit;
-  past = past;
-}
-
-made_same : (s s' : ScriptState) (l l' : List ImageLabels) (x x' : List Entry) (f f' : List FailedBlockPlace) (m m' : DebugModes) (a a' o o' : List ℕ) (n n' : ℕ) (t t' : CheckTally) (q q' : Bool) (p p' : PastState)
-    → s ≡ s' → l ≡ l' → x ≡ x' → f ≡ f' → m ≡ m' → a ≡ a' → o ≡ o' → n ≡ n' → t ≡ t' → q ≡ q' → p ≡ p'
-    → made s l x f m a o n t q p ≡ made s' l' x' f' m' a' o' n' t' q' p'
-made_same s s' l l' x x' f f' m m' a a' o o' n n' t t' q q' p p' script labels sources failed modes answer output steps tally quit past = cc
-
-by_takes : {A : Type 0} (takes other : Bool) (x x' y y' : A) → takes ≡ other → x ≡ x' → y ≡ y'
-    → (if takes then x else y) ≡ (if other then x' else y')
-by_takes takes other x x' y y' is first rest = rw (is, first, rest) refl
-
--- what is kept of an answer, but for the labels and the past
-unfoldable pub noted_state : DebugSettings → DebugState → Request → Answered → DebugState
-noted_state c d r reported = record d {
-  script = reported.state;
-  answer = if takes_steps r then ending_of reported.text else reported.text;
-  output = if takes_steps r then output_of reported.text else d.output;
-  steps = if takes_steps r then c.budget - reported.state.left else d.steps;
-}
-
--- what a session keeps of an answer
-pub session_noted : (old mid new : DebugSession) (images after : List Entry) (answer : List ℕ) (takes : Bool)
-    (r : Request) (reported : Answered)
-    → mid ≡ record old { session = mid.session; scratch = mid.scratch }
-    → new ≡ record mid { answer = new.answer; output = new.output; steps = new.steps }
-    → new.answer.items ≡ (if takes then ending_of answer else answer)
-    → new.output.items ≡ (if takes then output_of answer else mid.output.items)
-    → new.steps ≡ (if takes then mid.setting.budget - mid.session.left else mid.steps)
-    → takes ≡ takes_steps r → script_state mid.session after ≡ reported.state → answer ≡ reported.text
-    → debug_state new after ≡ noted_state old.setting (debug_state old images) r reported
-unfolding made noted_state
-session_noted old mid new images after answer takes r reported first next kept printed counted is state text =
-    ap (λ (s : DebugSession). debug_state s after) next
-    ∙ made_same (script_state mid.session after) reported.state mid.labels old.labels mid.sources old.sources mid.failed old.failed mid.modes old.modes new.answer.items
-    (if takes_steps r then ending_of reported.text else reported.text) new.output.items
-    (if takes_steps r then output_of reported.text else old.output.items) new.steps
-    (if takes_steps r then old.setting.budget - reported.state.left else old.steps) mid.tally old.tally mid.has_quit old.has_quit mid.past old.past
-    state (ap (λ (s : DebugSession). s.labels) first) (ap (λ (s : DebugSession). s.sources) first) (ap (λ (s : DebugSession). s.failed) first) (ap (λ (s : DebugSession). s.modes) first)
-    (kept ∙ by_takes takes (takes_steps r) (ending_of answer) (ending_of reported.text) answer reported.text is (ap ending_of text) text)
-    (printed ∙ by_takes takes (takes_steps r) (output_of answer) (output_of reported.text) mid.output.items old.output.items is
-    (ap output_of text) (ap (λ (s : DebugSession). s.output.items) first))
-    (counted ∙ by_takes takes (takes_steps r) (mid.setting.budget - mid.session.left) (old.setting.budget - reported.state.left)
-    mid.steps old.steps is
-    (ap (λ (s : DebugSession). s.setting.budget - mid.session.left) first
-    ∙ ap (λ (s : ScriptState). old.setting.budget - s.left) state)
-    (ap (λ (s : DebugSession). s.steps) first))
-    (ap (λ (s : DebugSession). s.tally) first) (ap (λ (s : DebugSession). s.has_quit) first) (ap (λ (s : DebugSession). s.past) first)
-
--- and with the past
-unfoldable pub kept_state : DebugSettings → DebugState → ℕ → Request → Answered → DebugState
-kept_state c d number r reported = record (noted_state c d r reported) { past = past_after_line c d number r reported }
-
--- what a session keeps of its past
-pub session_kept : (noted new : DebugSession) (after : List Entry) (c : DebugSettings) (d : DebugState) (line number : ℕ) (r : Request)
-    (reported : Answered) (refused : Bool)
-    → new ≡ record noted { past = new.past } → debug_state noted after ≡ noted_state c d r reported → noted.setting ≡ c → line ≡ number
-    → refused ≡ is_refused_block d.script.images reported.state.images r
-    → new.past ≡ (if refused then noted.past else past_after_request noted.past line r (noted.setting.budget - noted.session.left)
-    (is_faulted (script_state noted.session after).machine.halt))
-    → debug_state new after ≡ kept_state c d number r reported
-unfolding noted_state kept_state
-session_kept noted new after c d line number r reported refused next state setting at refusal kept =
-    ap (λ (s : DebugSession). debug_state s after) next
-    ∙ ap (λ (x : DebugState). let with_past : DebugState = record x { past = new.past } in with_past) state
-    ∙ ap (λ (q : PastState). let with_past : DebugState = record (noted_state c d r reported) { past = q } in with_past)
-    (kept
-    ∙ ap (λ (x : DebugState). if refused then x.past else past_after_request x.past line r (noted.setting.budget - x.script.left)
-    (is_faulted x.script.machine.halt)) state
-    ∙ ap (λ (e : DebugSettings). if refused then d.past else past_after_request d.past line r (e.budget - reported.state.left)
-    (is_faulted reported.state.machine.halt)) setting
-    ∙ ap (λ (n : ℕ). if refused then d.past else past_after_request d.past n r (c.budget - reported.state.left)
-    (is_faulted reported.state.machine.halt)) at
-    ∙ ap (λ (b : Bool). if b then d.past else past_after_request d.past number r (c.budget - reported.state.left)
-    (is_faulted reported.state.machine.halt)) refusal)
-
--- the labels that a session takes in
-pub labels_taken : (taken noted : List ImageLabels) (d : DebugState) (refused : Bool) (images : List Entry) (r : Request)
-    (reported : Answered) (lines block : List (List ℕ))
-    → taken ≡ (if refused then noted else labels_with_block noted images r lines) → noted ≡ d.labels
-    → refused ≡ is_refused_block d.script.images reported.state.images r → images ≡ reported.state.images → lines ≡ block
-    → taken ≡ labels_after d r reported block
-labels_taken taken noted d refused images r reported lines block is same refusal there follows = is
-    ∙ ap (λ (ls : List ImageLabels). if refused then ls else labels_with_block ls images r lines) same
-    ∙ ap (λ (b : Bool). if b then d.labels else labels_with_block d.labels images r lines) refusal
-    ∙ ap (λ (es : List Entry). if is_refused_block d.script.images reported.state.images r then d.labels
-    else labels_with_block d.labels es r lines) there
-    ∙ ap (λ (ls : List (List ℕ)). if is_refused_block d.script.images reported.state.images r then d.labels
-    else labels_with_block d.labels reported.state.images r ls) follows
-
-pub noted_labels : (old mid new : DebugSession) → mid ≡ record old { session = mid.session; scratch = mid.scratch }
-    → new ≡ record mid { answer = new.answer; output = new.output; steps = new.steps } → new.labels ≡ old.labels
-noted_labels old mid new first next =
-    ap (λ (s : DebugSession). s.labels) next ∙ ap (λ (s : DebugSession). s.labels) first
-
--- and with the labels
-unfoldable pub labelled_state : DebugSettings → DebugState → ℕ → Request → Answered → List (List ℕ) → DebugState
-labelled_state c d number r reported block = record (kept_state c d number r reported) { labels = labels_after d r reported block }
-
-pub session_labelled : (noted new : DebugSession) (after : List Entry) (c : DebugSettings) (d : DebugState) (number : ℕ) (r : Request)
-    (reported : Answered) (block : List (List ℕ))
-    → new ≡ record noted { labels = new.labels } → debug_state noted after ≡ kept_state c d number r reported
-    → new.labels ≡ labels_after d r reported block → debug_state new after ≡ labelled_state c d number r reported block
-unfolding noted_state kept_state labelled_state
-session_labelled noted new after c d number r reported block next state labels =
-    ap (λ (s : DebugSession). debug_state s after) next
-    ∙ ap (λ (x : DebugState). let with_labels : DebugState = record x { labels = new.labels } in with_labels) state
-    ∙ ap (λ (ls : List ImageLabels). let with_labels : DebugState = record (kept_state c d number r reported) { labels = ls } in with_labels)
-    labels
-
 -- a session whose script alone is another
 pub session_moved : (old mid : DebugSession) (images after : List Entry) (to : ScriptState)
     → mid ≡ record old { session = mid.session; scratch = mid.scratch } → script_state mid.session after ≡ to
@@ -233,33 +107,6 @@ pub refused_as_answer : (refused there : Bool) (before after images : List Entry
 refused_as_answer refused there before after images r is was same = is
     ∙ ap (λ (b : Bool). opens_block r && (b || not (is_named_image after r))) was
     ∙ ap (λ (es : List Entry). opens_block r && (is_named_image before r || not (is_named_image es r))) same
-
--- a line that opens no block has no labels, and is refused by no block
-pub lone_refused : (before after : List Entry) (r : Request) → opens_block r ≡ false → is_refused_block before after r ≡ false
-lone_refused before after r is = ap (λ (b : Bool). b && (is_named_image before r || not (is_named_image after r))) is
-
-pub lone_labels : (d : DebugState) (r : Request) (reported : Answered) (block : List (List ℕ)) → opens_block r ≡ false
-    → labels_after d r reported block ≡ d.labels
-lone_labels d Nothing reported block is = refl
-lone_labels d (Hex name) reported block is = absurd (cc)
-lone_labels d (Asm name origin) reported block is = absurd (cc)
-lone_labels d (Boot name) reported block is = refl
-lone_labels d Run reported block is = refl
-lone_labels d Regs reported block is = refl
-lone_labels d (Set register value) reported block is = refl
-lone_labels d (Poke address value) reported block is = refl
-lone_labels d (Call called) reported block is = refl
-lone_labels d (Load text) reported block is = refl
-lone_labels d (Step count) reported block is = refl
-lone_labels d (Break address) reported block is = refl
-lone_labels d (Unbreak address) reported block is = refl
-lone_labels d (Mem address count) reported block is = refl
-lone_labels d (Code address count) reported block is = refl
-lone_labels d (Heap address) reported block is = refl
-lone_labels d Areas reported block is = refl
-lone_labels d Modules reported block is = refl
-lone_labels d Flex reported block is = refl
-lone_labels d Unknown reported block is = refl
 
 empty_in : (form : ReportForm) → answer_in form [] ≡ []
 empty_in Answers = refl
@@ -296,19 +143,13 @@ no_answer c d now number line Flex block named held nothing asks none state = ab
 no_answer c d now number line Unknown block named held nothing asks none state = absurd (cc)
 
 -- a view by its text
-pub view_of_text : (before after : Option (List ℕ)) (now d : DebugState) (c : DebugSettings) (text shown : List ℕ)
-    → text ≡ shown → IsDebugged before after now (view_answer c d text) → IsDebugged before after now (view_answer c d shown)
-view_of_text before after now d c text shown same reported =
-    subst (λ (xs : List ℕ). IsDebugged before after now (view_answer c d xs)) same reported
+pub view_of_text : {A E : Type 0} (result : Result A E) (before after : Option (List ℕ)) (now d : DebugState) (c : DebugSettings)
+    (text shown : List ℕ) → text ≡ shown → OnOk result (IsDebugged before after now (view_answer c d text))
+    → OnOk result (IsDebugged before after now (view_answer c d shown))
+view_of_text result before after now d c text shown same reported =
+    subst (λ (xs : List ℕ). OnOk result (IsDebugged before after now (view_answer c d xs))) same reported
 
 -- what is shown of a request, shown of a line that asks for it
-pub asked : (before after : Option (List ℕ)) (now d : DebugState) (c : DebugSettings) (number : ℕ) (words : List ℕ)
-    (block : List (List ℕ)) (r asks : DebugRequest)
-    → r ≡ asks → IsDebugged before after now (simple_request_answer c d number words r block)
-    → IsDebugged before after now (simple_request_answer c d number words asks block)
-asked before after now d c number words block r asks is reported =
-    subst (λ (x : DebugRequest). IsDebugged before after now (simple_request_answer c d number words x block)) is reported
-
 pub asked_if : {A E : Type 0} (result : Result A E) (before after : Option (List ℕ)) (now d : DebugState) (c : DebugSettings)
     (number : ℕ) (words : List ℕ) (block : List (List ℕ)) (r asks : DebugRequest)
     → r ≡ asks → OnOk result (IsDebugged before after now (simple_request_answer c d number words r block))
@@ -326,9 +167,23 @@ checked_by result before after now d c line number words reason reported at is w
     (subst (λ (n : ℕ). OnOk result (IsDebugged before after now (checked_answer c d n words reason))) at written)
 
 -- a change that writes nothing
-pub changed_silently : (held : Option (List ℕ)) (now d : DebugState) (number : ℕ) (deed : PastDeed) (script : ScriptState)
-    → now ≡ (machine_change_answer d number deed script).state → IsDebugged held held now (machine_change_answer d number deed script)
-changed_silently held now d number deed script is = record { text = Appends-nothing held; state = is }
+pub changed_silently : {A E : Type 0} (result : Result A E) (held : Option (List ℕ)) (now d : DebugState) (number : ℕ) (deed : PastDeed)
+    (script : ScriptState) → OnOk result (now ≡ (machine_change_answer d number deed script).state)
+    → OnOk result (IsDebugged held held now (machine_change_answer d number deed script))
+changed_silently (Ok a) held now d number deed script is = record { text = Appends-nothing held; state = is }
+changed_silently (Err e) held now d number deed script is = record {}
+
+-- a line that opens no block takes none
+pub left_alone : {A E : Type 0} (result : Result A E) (opens : Bool) (left : List (List ℕ)) → opens ≡ false
+    → OnOk result (left ≡ lines_after opens left)
+left_alone (Ok a) opens left alone = sym (ap (λ (b : Bool). lines_after b left) alone)
+left_alone (Err e) opens left alone = record {}
+
+pub number_alone : {A E : Type 0} (result : Result A E) (opens : Bool) (number : ℕ) (left : List (List ℕ)) → opens ≡ false
+    → OnOk result (number ≡ number + lines_taken opens left)
+number_alone (Ok a) opens number left alone =
+    let none : lines_taken opens left ≡ 0 = ap (λ (b : Bool). lines_taken b left) alone in omega (arith, none)
+number_alone (Err e) opens number left alone = record {}
 
 -- whether there is something, by what is seen of it
 pub mapped_some : {A B : Type 0} (f : A → B) (o : Option A) → is_some o ≡ is_some (option_map f o)
@@ -343,13 +198,25 @@ pub without_image : (d : DebugState) (images after : List Entry) (labels left : 
 without_image d images after labels left sources behind p q stay go leave kept = rw (stay, go, leave, kept) refl
 
 -- a view of another state
-pub view_after : (before after : Option (List ℕ)) (now d e : DebugState) (c f : DebugSettings) (text shown : List ℕ)
-    → c ≡ f → d ≡ e → text ≡ shown → IsDebugged before after now (view_answer c d text)
-    → IsDebugged before after now (view_answer f e shown)
-view_after before after now d e c f text shown setting state same reported =
-    subst (λ (x : DebugSettings). IsDebugged before after now (view_answer x e shown)) setting
-    (subst (λ (x : DebugState). IsDebugged before after now (view_answer c x shown)) state
-    (view_of_text before after now d c text shown same reported))
+pub view_after : {A E : Type 0} (result : Result A E) (before after : Option (List ℕ)) (now d e : DebugState) (c f : DebugSettings)
+    (text shown : List ℕ) → c ≡ f → d ≡ e → text ≡ shown → OnOk result (IsDebugged before after now (view_answer c d text))
+    → OnOk result (IsDebugged before after now (view_answer f e shown))
+view_after result before after now d e c f text shown setting state same reported =
+    subst (λ (x : DebugSettings). OnOk result (IsDebugged before after now (view_answer x e shown))) setting
+    (subst (λ (x : DebugState). OnOk result (IsDebugged before after now (view_answer c x shown))) state
+    (view_of_text result before after now d c text shown same reported))
+
+-- what is written, by what it should be
+pub written_as : {A E : Type 0} (result : Result A E) (before after : Option (List ℕ)) (now : DebugState) (shown reported : DebugAnswered)
+    → shown ≡ reported → OnOk result (IsDebugged before after now shown) → OnOk result (IsDebugged before after now reported)
+written_as result before after now shown reported same written =
+    subst (λ (x : DebugAnswered). OnOk result (IsDebugged before after now x)) same written
+
+pub viewed : {A E : Type 0} (result : Result A E) (before after : Option (List ℕ)) (now d : DebugState) (c e : DebugSettings)
+    (text : List ℕ) (reported : DebugAnswered) → c ≡ e → view_answer e d text ≡ reported
+    → OnOk result (IsDebugged before after now (view_answer c d text)) → OnOk result (IsDebugged before after now reported)
+viewed result before after now d c e text reported setting same =
+    written_as result before after now (view_answer c d text) reported (ap (λ (s : DebugSettings). view_answer s d text) setting ∙ same)
 
 -- an answer to a line of a script, and what stands below it
 pub line_below : (before mid after : Option (List ℕ)) (c e : DebugSettings) (d n now : DebugState) (number : ℕ) (r : Request)

@@ -1,6 +1,6 @@
 -- A line that goes back or looks into the past, and one that is none of the language.
-use Rattle.std.proofs.Common.{◌≡◌, ℕ, List, [], Option, Some, None, ap, subst, sym, ◌∙◌}
-use Rattle.std.specs.Prelude.{unwrap_or}
+use Rattle.std.proofs.Common.{◌≡◌, ℕ, List, [], Option, Some, None, Result, ap, subst, sym, ◌∙◌}
+use Rattle.std.specs.Prelude.{OnOk, unwrap_or}
 use Rattle.std.specs.Option.{option_map}
 use Rattle.debug_tables.specs.run_meter.State.{ScriptState}
 use Rattle.debug_modules.specs.DebugHistoryAnswers.{PastAnswered, past_after_past, past_line_answered, script_after_past}
@@ -19,13 +19,15 @@ pub past_moved : (d : DebugState) (s : ScriptState) (p : PastState) (o : Option 
     → record d { script = s; past = p } ≡ moved d o
 past_moved d s p o script past = λ i. record d { script = script i; past = past i }
 
-pub past_shown : (before after : Option (List ℕ)) (c : DebugSettings) (d mid now : DebugState) (number : ℕ) (line bytes : List ℕ)
+pub past_shown : {A E : Type 0} (result : Result A E) (before after : Option (List ℕ)) (c : DebugSettings)
+    (d mid now : DebugState) (number : ℕ) (line bytes : List ℕ)
     (o : Option PastAnswered) → Some bytes ≡ option_map (λ a. a.text) o → mid ≡ moved d o
-    → IsDebugged before after now (view_answer c mid bytes) → IsDebugged before after now (past_line_by c d number line o)
-past_shown before after c d mid now number line bytes None is same shown = absurd (cc)
-past_shown before after c d mid now number line bytes (Some a) is same shown =
+    → OnOk result (IsDebugged before after now (view_answer c mid bytes))
+    → OnOk result (IsDebugged before after now (past_line_by c d number line o))
+past_shown result before after c d mid now number line bytes None is same shown = absurd (cc)
+past_shown result before after c d mid now number line bytes (Some a) is same shown =
     let text : bytes ≡ a.text = ap (λ (o : Option (List ℕ)). unwrap_or o []) is in
-    subst (λ (x : DebugAnswered). IsDebugged before after now x)
+    subst (λ (x : DebugAnswered). OnOk result (IsDebugged before after now x))
     (ap (λ (x : DebugState). view_answer c x bytes) same
     ∙ ap (λ (xs : List ℕ). view_answer c (record d { script = a.script; past = a.past }) xs) text) shown
 
@@ -36,16 +38,19 @@ past_refused c d mid number line None is same = ap (λ (x : DebugState). module_
 past_refused c d mid number line (Some a) is same = absurd (cc)
 
 -- LAST STEPS, where it is asked for
-pub steps_viewed : (before after : Option (List ℕ)) (c : DebugSettings) (d mid now : DebugState) (number : ℕ) (line text : List ℕ)
+pub steps_viewed : {A E : Type 0} (result : Result A E) (before after : Option (List ℕ)) (c : DebugSettings)
+    (d mid now : DebugState) (number : ℕ) (line text : List ℕ)
     (o : Option ℕ) (count : ℕ) → o ≡ Some count → mid ≡ d → text ≡ last_steps_answer c d count
-    → IsDebugged before after now (view_answer c mid text) → IsDebugged before after now (past_line_or_steps c d number line o)
-steps_viewed before after c d mid now number line text o count is same said shown =
-    subst (λ (x : Option ℕ). IsDebugged before after now (past_line_or_steps c d number line x)) (sym is)
-    (subst (λ (x : DebugAnswered). IsDebugged before after now x) (λ i. view_answer c (same i) (said i)) shown)
+    → OnOk result (IsDebugged before after now (view_answer c mid text))
+    → OnOk result (IsDebugged before after now (past_line_or_steps c d number line o))
+steps_viewed result before after c d mid now number line text o count is same said shown =
+    subst (λ (x : Option ℕ). OnOk result (IsDebugged before after now (past_line_or_steps c d number line x))) (sym is)
+    (subst (λ (x : DebugAnswered). OnOk result (IsDebugged before after now x)) (λ i. view_answer c (same i) (said i)) shown)
 
-pub steps_not_asked : (before after : Option (List ℕ)) (c : DebugSettings) (d now : DebugState) (number : ℕ) (line : List ℕ)
+pub steps_not_asked : {A E : Type 0} (result : Result A E) (before after : Option (List ℕ)) (c : DebugSettings)
+    (d now : DebugState) (number : ℕ) (line : List ℕ)
     (o : Option ℕ) → o ≡ None
-    → IsDebugged before after now (past_line_by c d number line (past_line_answered d.labels c.config c.budget d.script d.past line))
-    → IsDebugged before after now (past_line_or_steps c d number line o)
-steps_not_asked before after c d now number line o none shown =
-    subst (λ (x : Option ℕ). IsDebugged before after now (past_line_or_steps c d number line x)) (sym none) shown
+    → OnOk result (IsDebugged before after now (past_line_by c d number line (past_line_answered d.labels c.config c.budget d.script d.past line)))
+    → OnOk result (IsDebugged before after now (past_line_or_steps c d number line o))
+steps_not_asked result before after c d now number line o none shown =
+    subst (λ (x : Option ℕ). OnOk result (IsDebugged before after now (past_line_or_steps c d number line x))) (sym none) shown

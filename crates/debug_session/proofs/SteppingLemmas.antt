@@ -61,31 +61,28 @@ written_both a b c form xs ys first next =
     (Appends-join a b c (answer_in form xs) (answer_in form ys) first next)
 
 -- what steps left, shown from the state and in the modes after them
-pub answer_of_steps : (before after : Option (List ℕ)) (c : DebugSettings) (d now : DebugState) (mid : ScriptState) (modes kept : DebugModes)
+pub answer_of_steps : {A E : Type 0} (result : Result A E) (before after : Option (List ℕ)) (c : DebugSettings)
+    (d now : DebugState) (mid : ScriptState) (modes kept : DebugModes)
     (p q : PastState)
     (s : ScriptState) (text text' printed printed' ending ending' : List ℕ)
     → modes ≡ kept → p ≡ q → mid ≡ s → text ≡ text' → printed ≡ printed' → ending ≡ ending'
-    → IsDebugged before after now
-    (stepping_answer_by c (record d { script = mid; modes = modes; past = p }) mid text printed ending)
-    → IsDebugged before after now (stepping_answer_by c (record d { modes = kept; past = q }) s text' printed' ending')
-answer_of_steps before after c d now mid modes kept p q s text text' printed printed' ending ending' same past is reported prints ends written =
-    subst (λ (x : DebugAnswered). IsDebugged before after now x) (rw (same, past, is, reported, prints, ends) refl) written
+    → OnOk result (IsDebugged before after now
+    (stepping_answer_by c (record d { script = mid; modes = modes; past = p }) mid text printed ending))
+    → OnOk result (IsDebugged before after now (stepping_answer_by c (record d { modes = kept; past = q }) s text' printed' ending'))
+answer_of_steps result before after c d now mid modes kept p q s text text' printed printed' ending ending' same past is reported prints ends written =
+    subst (λ (x : DebugAnswered). OnOk result (IsDebugged before after now x)) (rw (same, past, is, reported, prints, ends) refl) written
 
 -- bytes that a line writes, written or refused
-pub bytes_ok : (before after : Option (List ℕ)) (c : DebugSettings) (d now : DebugState) (number address : ℕ) (bytes text : List ℕ)
+pub bytes_ok : (c : DebugSettings) (d : DebugState) (number address : ℕ) (bytes text : List ℕ)
     (old new : ScriptState) (p : PastState) (o : Result ScriptState Fault) (u : Unit {0})
     → Leaves {U = Unit {0}} old o (Ok u) new → p ≡ past_with_deed d.past number (Bytes address bytes)
-    → IsDebugged before after now (view_answer c (record d { script = new; past = p }) text)
-    → IsDebugged before after now (bytes_done c d number address bytes text o)
-bytes_ok before after c d now number address bytes text old new p (Ok s) u leaves noted reported =
-    subst (λ (x : DebugAnswered). IsDebugged before after now x) (rw (leaves, noted) refl) reported
-bytes_ok before after c d now number address bytes text old new p (Err fault) u leaves noted reported = absurd leaves
+    → view_answer c (record d { script = new; past = p }) text ≡ bytes_done c d number address bytes text o
+bytes_ok c d number address bytes text old new p (Ok s) u leaves noted = rw (leaves, noted) refl
+bytes_ok c d number address bytes text old new p (Err fault) u leaves noted = absurd leaves
 
-pub bytes_refused : (before after : Option (List ℕ)) (c : DebugSettings) (d now : DebugState) (number address : ℕ) (bytes text : List ℕ)
+pub bytes_refused : (c : DebugSettings) (d : DebugState) (number address : ℕ) (bytes text : List ℕ)
     (new : ScriptState) (o : Result ScriptState Fault) (fault : Fault) (shown : List ℕ)
     → Leaves {U = Unit {0}} d.script o (Err fault) new → shown ≡ refused_text (fault_name fault)
-    → IsDebugged before after now (view_answer c (record d { script = new }) shown)
-    → IsDebugged before after now (bytes_done c d number address bytes text o)
-bytes_refused before after c d now number address bytes text new (Ok s) fault shown leaves same reported = absurd leaves
-bytes_refused before after c d now number address bytes text new (Err f) fault shown leaves same reported =
-    subst (λ (x : DebugAnswered). IsDebugged before after now x) (rw (leaves.1, same, leaves.0) refl) reported
+    → view_answer c (record d { script = new }) shown ≡ bytes_done c d number address bytes text o
+bytes_refused c d number address bytes text new (Ok s) fault shown leaves same = absurd leaves
+bytes_refused c d number address bytes text new (Err f) fault shown leaves same = rw (leaves.1, same, leaves.0) refl

@@ -37,6 +37,11 @@ abbrev pub steps_shown : List Stub → List ImageLabels → ScriptState → ℕ 
 steps_shown stubs labels s count request = stepping_answer (modes_with_stubs stubs) labels (Some count)
     (script_to_trace s (moment_of_script s) count) request
 
+-- what is shown of so many steps of a line, behind so many that are taken in the same modes
+abbrev pub steps_shown_behind : StepModes → List ImageLabels → ScriptState → ℕ → ℕ → SteppingRequest → SteppingAnswer
+steps_shown_behind modes labels s skipped count request = stepping_answer modes labels (Some count)
+    (script_to_trace s (moment_after_steps modes.stubs s.images skipped (moment_of_script s)) count) request
+
 abbrev pub text_of_steps : List Stub → List ImageLabels → ScriptState → Option (SteppingRequest × ℕ) → List ℕ
 text_of_steps stubs labels s None = []
 text_of_steps stubs labels s (Some taken) = (steps_shown stubs labels s taken.1 taken.0).text

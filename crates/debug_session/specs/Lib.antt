@@ -37,5 +37,6 @@ pub mod History
 pub mod LastSteps
 pub mod Looking
 pub mod Naming
+pub mod Noting
 pub mod Refusals
 pub mod Session

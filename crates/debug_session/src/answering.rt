@@ -278,7 +278,7 @@ impl DebugSession {
             DebugCommand::View(view) => self.look(sink, view),
             DebugCommand::Form(form) => self.show_form(sink, form),
             DebugCommand::SetPc(address) => self.move_pc(sink, number, address),
-            DebugCommand::SetPsr(pattern) => Ok(self.set_psr(number, pattern)?),
+            DebugCommand::SetPsr(pattern) => self.set_psr(number, pattern),
             DebugCommand::Put(name, address) => self.put(images, sink, number, name, address),
             DebugCommand::Write(at, count, named) => self.write(sink, number, at, count, named),
             DebugCommand::Find(address, count, named) => self.find(sink, address, count, named),
@@ -289,10 +289,7 @@ impl DebugSession {
                 self.has_quit = true;
                 Ok(())
             }
-            DebugCommand::Expect(expected) => {
-                let reason = self.reason_against(&expected)?;
-                self.print_check(sink, reason, words, number)
-            }
+            DebugCommand::Expect(expected) => self.print_check(sink, &expected, words, number),
             DebugCommand::Unknown => self.past_line(images, sink, words, number),
         }
     }

@@ -1,6 +1,6 @@
 //! The lines of its own that a debugging script has.
 
-ghost use Rattle.std.specs.Prelude.{◌≡◌, ◌%◌, ◌<◌, ◌^◌, option_map, true, List, IfOk, OnOk, OnErr};
+ghost use Rattle.std.specs.Prelude.{◌≡◌, ◌%◌, ◌<◌, ◌^◌, option_map, List, IfErr, IfOk, OnOk};
 ghost use Rattle.debug_session.specs.Failing.{EndsAtOnce};
 
 use crate::session::DebugSession;
@@ -13,9 +13,9 @@ use debug_modules::{
 };
 use debug_tables::byte_writes::{find_text, put_bytes};
 use debug_tables::run_meter::RunError;
+use profile::Sink;
 use profile::images::Images;
 use profile::text_sink::TextSink;
-use profile::{Sink, WriteFault};
 use std::alloc::AllocError;
 
 impl DebugSession {
@@ -42,9 +42,8 @@ impl DebugSession {
         ensures setting { self.new.setting ≡ self.old.setting }
         ensures ends { EndsAtOnce W.has_failed sink.old sink.new result }
     {
-        let machine = self.session.machine();
-        let text = view_text(self.alloc, &self.labels, machine, view)?;
-        Ok(self.view(sink, text)?)
+        let text = view_text(self.alloc, &self.labels, self.session.machine(), view)?;
+        self.view(sink, text)
     }
 
     /// Shows what the lines of a word need.
@@ -58,7 +57,7 @@ impl DebugSession {
         ensures ends { EndsAtOnce W.has_failed sink.old sink.new result }
     {
         let text = form_line(self.alloc, form)?;
-        Ok(self.view(sink, text)?)
+        self.view(sink, text)
     }
 
     /// Takes the image of that name out, its labels, and the text of its block.
@@ -80,7 +79,7 @@ impl DebugSession {
         self.labels.remove(name);
         let _had_source = self.sources.remove(name);
         self.past.change_images_if(is_there);
-        Ok(self.view(sink, text)?)
+        self.view(sink, text)
     }
 
     /// Writes the bytes of the image of that name to memory.
@@ -100,10 +99,11 @@ impl DebugSession {
     {
         let Some(bytes) = images.get(name) else {
             let text = refused_line(self.alloc, b"NoImage")?;
-            return Ok(self.view(sink, text)?);
+            return self.view(sink, text);
         };
         let done = put_text(self.alloc, name, address)?;
-        self.write_bytes(sink, number, address, bytes, done)
+        let text = self.write_bytes(number, address, bytes, done)?;
+        self.view(sink, text)
     }
 
     /// Writes the bytes that a text names to memory, or so many, by these again and again.
@@ -123,37 +123,33 @@ impl DebugSession {
     {
         let bytes = bytes_written(self.alloc, count, named)?;
         let nothing = Vec::new(self.alloc);
-        self.write_bytes(sink, number, address, bytes.as_slice(), nothing)
+        let text = self.write_bytes(number, address, bytes.as_slice(), nothing)?;
+        self.view(sink, text)
     }
 
-    // Writes bytes to memory, all of them or none; where they are written, the past has them, and `done` is
-    // shown.
-    fn write_bytes<W: Sink>(
+    // Writes bytes to memory, all of them or none; where they are written, the past has them. What is shown of
+    // it is `done`, or why they aren't.
+    fn write_bytes(
         &mut self,
-        sink: &mut W,
         number: usize,
         address: u32,
         bytes: &[u8],
         done: Vec<u8>,
-    ) -> Result<(), RunError>
-        ensures reported { (images : List Entry) → OnOk result
-            (IsDebugged (W.contents sink.old) (W.contents sink.new) (debug_state self.new images)
-            (bytes_answer self.old.setting (debug_state self.old images) number address bytes.now
-            done.items)) }
+    ) -> Result<Vec<u8>, AllocError>
+        ensures shown { (images : List Entry) → IfOk result (λ text. view_answer self.old.setting
+            (debug_state self.new images) text.items
+            ≡ bytes_answer self.old.setting (debug_state self.old images) number address bytes.now
+            done.items) }
         ensures setting { self.new.setting ≡ self.old.setting }
-        ensures ends { EndsAtOnce W.has_failed sink.old sink.new result }
     {
         let kept = KeptText::of(self.alloc, bytes)?;
         match put_bytes(&mut self.session, address, bytes) {
             Ok(()) => {
                 self.past
                     .put(number as u64, PastDeed::Bytes(address, kept))?;
-                Ok(self.view(sink, done)?)
+                Ok(done)
             }
-            Err(fault) => {
-                let text = refused_line(self.alloc, fault.name().as_bytes())?;
-                Ok(self.view(sink, text)?)
-            }
+            Err(fault) => refused_line(self.alloc, fault.name().as_bytes()),
         }
     }
 
@@ -173,9 +169,8 @@ impl DebugSession {
         ensures setting { self.new.setting ≡ self.old.setting }
         ensures ends { EndsAtOnce W.has_failed sink.old sink.new result }
     {
-        let machine = self.session.machine();
-        let text = find_text(self.alloc, machine, address, count, named)?;
-        Ok(self.view(sink, text)?)
+        let text = find_text(self.alloc, self.session.machine(), address, count, named)?;
+        self.view(sink, text)
     }
 
     /// Begins anew on a fresh machine; images, labels, breaks and modes stay.
@@ -206,37 +201,45 @@ impl DebugSession {
         ensures setting { self.new.setting ≡ self.old.setting }
         ensures ends { EndsAtOnce W.has_failed sink.old sink.new result }
     {
+        self.begin_again(number)?;
         let text = Vec::from_slice(self.alloc, b"reset\n")?;
+        self.view(sink, text)
+    }
+
+    // Begins anew on a fresh machine, which the past has if it is kept; else it begins.
+    fn begin_again(&mut self, number: usize) -> Result<(), AllocError>
+        ensures made { (images : List Entry) → OnOk result (debug_state self.new images
+            ≡ record (reset_answer self.old.setting (debug_state self.old images) number).state
+            { answer = self.old.answer.items }) }
+        ensures setting { self.new.setting ≡ self.old.setting }
+    {
         if !self.past.is_kept() {
-            self.start_anew()?;
-            return Ok(self.view(sink, text)?);
+            return self.start_anew();
         }
         self.session
             .start_anew(self.setting.config, self.setting.budget)?;
-        self.past.put(number as u64, PastDeed::Anew)?;
-        Ok(self.view(sink, text)?)
+        self.past.put(number as u64, PastDeed::Anew)
     }
 
     /// Writes a view, which is the last answer then.
-    pub(crate) fn view<W: Sink>(&mut self, sink: &mut W, text: Vec<u8>) -> Result<(), WriteFault>
+    pub(crate) fn view<W: Sink>(&mut self, sink: &mut W, text: Vec<u8>) -> Result<(), RunError>
         ensures reported { (images : List Entry) → OnOk result
             (IsDebugged (W.contents sink.old) (W.contents sink.new) (debug_state self.new images)
             (view_answer self.old.setting (debug_state self.old images) text.items)) }
         ensures setting { self.new.setting ≡ self.old.setting }
-        ensures flag { OnErr result (W.has_failed sink.new ≡ true) }
-        ensures same_flag { OnOk result (W.has_failed sink.new ≡ W.has_failed sink.old) }
+        ensures ends { EndsAtOnce W.has_failed sink.old sink.new result }
     {
-        push_answer(sink, self.setting.form, text.as_slice())?;
         self.answer = text;
-        Ok(())
+        Ok(push_answer(sink, self.setting.form, self.answer.as_slice())?)
     }
 
     /// Sets the program counter.
-    pub(crate) fn set_pc(&mut self, number: usize, address: Origin) -> Result<(), AllocError>
+    pub(crate) fn set_pc(&mut self, number: usize, address: Origin) -> Result<(), RunError>
         ensures reported { (images : List Entry) → OnOk result (debug_state self.new images
             ≡ (machine_change_answer (debug_state self.old images) number (Place address)
             (script_at (debug_state self.old images).script address)).state) }
         ensures setting { self.new.setting ≡ self.old.setting }
+        ensures errors { IfErr result (λ error. error ≡ RunError.Memory) }
     {
         self.past.put(number as u64, PastDeed::Place(address))?;
         self.session.set_pc(address.address());
@@ -258,11 +261,11 @@ impl DebugSession {
         ensures ends { EndsAtOnce W.has_failed sink.old sink.new result }
     {
         match halting_fault(self.session.machine().stop()) {
-            None => Ok(self.set_pc(number, address)?),
+            None => self.set_pc(number, address),
             Some(fault) => {
                 let mut text = TextSink::new(self.alloc);
                 match push_halted(&mut text, fault, self.session.machine().cpu().pc()) {
-                    Ok(()) => Ok(self.view(sink, text.into_bytes())?),
+                    Ok(()) => self.view(sink, text.into_bytes()),
                     Err(_) => Err(RunError::Memory),
                 }
             }
@@ -270,14 +273,11 @@ impl DebugSession {
     }
 
     /// Sets what a pattern reports the status.
-    pub(crate) fn set_psr(
-        &mut self,
-        number: usize,
-        pattern: StatusPattern,
-    ) -> Result<(), AllocError>
+    pub(crate) fn set_psr(&mut self, number: usize, pattern: StatusPattern) -> Result<(), RunError>
         ensures reported { (images : List Entry) → OnOk result (debug_state self.new images
             ≡ (set_psr_answer (debug_state self.old images) number pattern).state) }
         ensures setting { self.new.setting ≡ self.old.setting }
+        ensures errors { IfErr result (λ error. error ≡ RunError.Memory) }
     {
         let status = status_with(&pattern, self.session.machine().cpu().psr());
         self.past.put(number as u64, PastDeed::Status(status))?;
@@ -286,45 +286,38 @@ impl DebugSession {
         Ok(())
     }
 
-    /// Says whether what should be so is so; `reason` shows why it isn't, and `words` are the line,
-    /// made tidy.
+    /// Says whether what should be so is so, and why it isn't; `words` are the line, made tidy.
     pub(crate) fn print_check<W: Sink>(
         &mut self,
         sink: &mut W,
-        reason: Option<Vec<u8>>,
+        expected: &Expectation<'_>,
         words: &[u8],
         number: usize,
     ) -> Result<(), RunError>
         ensures reported { (images : List Entry) → OnOk result
             (IsDebugged (W.contents sink.old) (W.contents sink.new) (debug_state self.new images)
             (checked_answer self.old.setting (debug_state self.old images) number words.now
-            (option_map (λ text. text.items) reason))) }
+            (check_answer (seen_of (debug_state self.old images)) (expect_request_of expected.now)))) }
         ensures setting { self.new.setting ≡ self.old.setting }
         ensures ends { EndsAtOnce W.has_failed sink.old sink.new result }
     {
         let form = self.setting.form;
-        match reason {
+        match self.reason_against(expected)? {
             None => {
                 push_pass(sink, form, self.tally, number, words)?;
                 self.tally = self.tally.with_pass();
+                Ok(())
             }
             Some(reason) => {
                 push_fail(sink, form, self.tally, number, words, reason.as_slice())?;
                 self.tally = self.tally.with_fail();
+                Ok(())
             }
         }
-        Ok(())
     }
 
-    /// Why what should be so isn't, as text; `None` where it is so.
-    ///
-    /// # Errors
-    ///
-    /// Memory ran out.
-    pub(crate) fn reason_against(
-        &self,
-        expected: &Expectation<'_>,
-    ) -> Result<Option<Vec<u8>>, AllocError>
+    // Why what should be so isn't, as text; `None` where it is so.
+    fn reason_against(&self, expected: &Expectation<'_>) -> Result<Option<Vec<u8>>, AllocError>
         ensures { (images : List Entry) → IfOk result (λ reason. option_map (λ text. text.items) reason
             ≡ check_answer (seen_of (debug_state self.now images)) (expect_request_of expected.now)) }
     {

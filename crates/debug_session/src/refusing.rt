@@ -7,7 +7,7 @@ ghost use Rattle.debug_session.specs.Failing.{EndsAtOnce};
 use crate::session::DebugSession;
 use debug_modules::{
     ModuleAnswer, PastSetting, answer_module_line, last_steps_asked, line_on, names_on,
-    push_refusal, refusal_line, unknown_line,
+    refusal_line, unknown_line,
 };
 use debug_tables::run_meter::RunError;
 use profile::Sink;
@@ -41,7 +41,7 @@ impl DebugSession {
             let Ok(text) = self.last_steps(images, count) else {
                 return Err(RunError::Memory);
             };
-            return Ok(self.view(sink, text)?);
+            return self.view(sink, text);
         }
         let setting = PastSetting {
             alloc: self.alloc,
@@ -53,7 +53,7 @@ impl DebugSession {
             .past
             .answer_line(setting, &mut self.session, images, labels, words)?
         {
-            Some(text) => Ok(self.view(sink, text)?),
+            Some(text) => self.view(sink, text),
             None => self.module_line(images, sink, words, number),
         }
     }
@@ -84,9 +84,9 @@ impl DebugSession {
             number as u64,
             words,
         )? {
-            Some(ModuleAnswer::Shown(text)) => Ok(self.view(sink, text)?),
+            Some(ModuleAnswer::Shown(text)) => self.view(sink, text),
             Some(ModuleAnswer::Entered(taken)) => {
-                Ok(self.print_steps(sink, taken.text, taken.printed, taken.ending)?)
+                self.print_steps(sink, taken.text, taken.printed, taken.ending)
             }
             None => self.refuse(sink, words, number),
         }
@@ -103,11 +103,8 @@ impl DebugSession {
         let reason = self.refusal_reason(words)?;
         let reported = refusal_line(self.alloc, number, reason.as_slice())?;
         let answer = unknown_line(self.alloc, number)?;
-        let shown = reported.as_slice();
-        push_refusal(sink, self.setting.form, self.tally, number, shown)?;
         self.answer = answer;
-        self.tally = self.tally.with_refusal();
-        Ok(())
+        self.print_refusal(sink, number, reported.as_slice())
     }
 
     // Why a tidy line is none of the language.

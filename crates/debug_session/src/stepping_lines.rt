@@ -1,6 +1,6 @@
 //! Lines that take steps in the modes that are set, and lines that change these.
 
-ghost use Rattle.std.specs.Prelude.{◌≡◌, ◌+◌, true, List, option_map, OnOk, OnErr};
+ghost use Rattle.std.specs.Prelude.{◌≡◌, ◌+◌, List, option_map, OnOk};
 ghost use Rattle.debug_session.specs.Failing.{EndsAtOnce};
 ghost use Rattle.command_shell_lines.specs.Blocks.{block_lines, lines_after, lines_taken};
 ghost use Rattle.command_shell_lines.specs.Requests.{opens_block, request_of_command};
@@ -13,9 +13,9 @@ use debug_lines::{ModeCommand, SteppingCommand, stepping_in};
 use debug_modules::{push_answer, push_why_below, take_steps};
 use debug_tables::block_errors::errors_of_block;
 use debug_tables::run_meter::RunError;
+use profile::Sink;
 use profile::images::Images;
 use profile::text_lines::Lines;
-use profile::{Sink, WriteFault};
 use std::alloc::AllocError;
 
 impl DebugSession {
@@ -133,7 +133,7 @@ impl DebugSession {
             is_traced,
             command,
         )?;
-        Ok(self.print_steps(sink, taken.text, taken.printed, taken.ending)?)
+        self.print_steps(sink, taken.text, taken.printed, taken.ending)
     }
 
     /// Writes what a line that took steps left to write, and while WHY is on, what WHY shows of an error in
@@ -144,24 +144,22 @@ impl DebugSession {
         text: Vec<u8>,
         printed: Vec<u8>,
         ending: Vec<u8>,
-    ) -> Result<(), WriteFault>
+    ) -> Result<(), RunError>
         ensures reported { (images : List Entry) → OnOk result
             (IsDebugged (W.contents sink.old) (W.contents sink.new) (debug_state self.new images)
             (stepping_answer_by self.old.setting (debug_state self.old images)
             (debug_state self.old images).script text.items printed.items ending.items)) }
         ensures setting { self.new.setting ≡ self.old.setting }
-        ensures flag { OnErr result (W.has_failed sink.new ≡ true) }
-        ensures same_flag { OnOk result (W.has_failed sink.new ≡ W.has_failed sink.old) }
+        ensures ends { EndsAtOnce W.has_failed sink.old sink.new result }
     {
-        let form = self.setting.form;
-        push_answer(sink, form, text.as_slice())?;
-        push_answer(sink, form, ending.as_slice())?;
-        let machine = self.session.machine();
-        push_why_below(sink, form, &self.modes, machine, ending.as_slice())?;
         self.steps = self.steps_taken();
         self.answer = ending;
         self.output = printed;
-        Ok(())
+        let form = self.setting.form;
+        push_answer(sink, form, text.as_slice())?;
+        let ending = self.answer.as_slice();
+        push_answer(sink, form, ending)?;
+        Ok(push_why_below(sink, form, &self.modes, self.session.machine(), ending)?)
     }
 
     /// Shows how often the steps of the words of the image of that name were taken, where it stands now.
@@ -173,10 +171,9 @@ impl DebugSession {
         ensures ends { EndsAtOnce W.has_failed sink.old sink.new result }
     {
         let machine = self.session.machine();
-        let text = self
-            .modes
-            .counts_text(self.alloc, &self.labels, machine, name)?;
-        Ok(self.view(sink, text)?)
+        let modes = &self.modes;
+        let text = modes.counts_text(self.alloc, &self.labels, machine, name)?;
+        self.view(sink, text)
     }
 
     /// Changes the modes, and says what has become of them.
@@ -193,6 +190,6 @@ impl DebugSession {
     {
         let machine = self.session.machine();
         let text = self.modes.change(self.alloc, machine, command)?;
-        Ok(self.view(sink, text)?)
+        self.view(sink, text)
     }
 }

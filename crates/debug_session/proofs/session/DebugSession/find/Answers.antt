@@ -5,21 +5,24 @@ use Rattle.command_shell_lines.specs.debug_words.NamedBytes.{named_bytes, or_no_
 use Rattle.debug_tables.specs.byte_writes.Find.{find_text}
 use Rattle.debug_session.specs.Session.{debug_state}
 use Rattle.debug_session.proofs.OwnLemmas.{view_of_text}
-use Rattle.debug_session.proofs.EndLemmas.{ends_failed, ends_unwritten, ends_written}
+use Rattle.debug_session.proofs.EndLemmas.{ends_unwritten}
 use Rattle.debug_tables.specs.run_meter.RunError.TheVariants.{Memory}
 use Rattle.debug_session.proofs.session.DebugSession.find.Goals as goal
 
 pub returns-clause-reported : goal.returns-clause-reported
 returns-clause-reported g c images =
-    view_of_text _ _ _ (debug_state c.args.self.now images) c.args.self.now.setting c.in_ok-text.text.items _
+    view_of_text c.view.result _ _ _ (debug_state c.args.self.now images) c.args.self.now.setting c.in_ok-text.text.items _
     (c.in_ok-text.ensures ∙ ap (λ (m : MachineValue). find_text (state_of m.guest).store.bytes c.args.address c.args.count
-    (or_no_bytes (named_bytes c.args.named.now))) c.machine-machine.ensures) (c.in_ok-view.ensures.reported images)
+    (or_no_bytes (named_bytes c.args.named.now))) c.machine.ensures) (c.view.ensures.reported images)
 
 pub returns-in_err-text-clause-ends : goal.returns-in_err-text-clause-ends
 returns-in_err-text-clause-ends g c = ends_unwritten g.W.Sink.has_failed c.args.sink.now c.from_residual.result Memory c.from_residual.ensures.1 refl
 
-pub returns-in_err-view-clause-ends : goal.returns-in_err-view-clause-ends
-returns-in_err-view-clause-ends g c = ends_failed g.W.Sink.has_failed c.args.sink.now c.view.new.sink c.from_residual-in_err-view.result c.from_residual-in_err-view.ensures.1 c.in_err-view.ensures.flag
-
 pub returns-clause-ends : goal.returns-clause-ends
-returns-clause-ends g c = ends_written g.W.Sink.has_failed c.args.sink.now c.view.new.sink _ c.in_ok-view.ensures.same_flag
+returns-clause-ends g c = c.view.ensures.ends
+
+pub returns-in_err-text-clause-setting : goal.returns-in_err-text-clause-setting
+returns-in_err-text-clause-setting g c = refl
+
+pub returns-clause-setting : goal.returns-clause-setting
+returns-clause-setting g c = c.view.ensures.setting

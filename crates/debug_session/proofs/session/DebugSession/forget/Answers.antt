@@ -6,7 +6,7 @@ use Rattle.debug_modules.specs.OwnAnswers.{forget_text}
 use Rattle.debug_session.specs.Session.{debug_state}
 use Rattle.debug_session.specs.declared.session.DebugSession.{DebugSession}
 use Rattle.debug_session.proofs.OwnLemmas.{mapped_some, view_after, without_image}
-use Rattle.debug_session.proofs.EndLemmas.{ends_failed, ends_unwritten, ends_written}
+use Rattle.debug_session.proofs.EndLemmas.{ends_unwritten}
 use Rattle.debug_tables.specs.run_meter.RunError.TheVariants.{Memory}
 use Rattle.debug_session.proofs.session.DebugSession.forget.Goals as goal
 
@@ -18,19 +18,22 @@ returns-clause-reported g c =
     let old = c.args.self.now in
     let left = c.remove-had_source.new.self in
     let gone : DebugSession = record old { labels = c.remove.new.self; sources = left; past = c.change_images_if.new.self } in
-    view_after _ _ _ (debug_state gone after) _ old.setting old.setting
+    view_after c.view.result _ _ _ (debug_state gone after) _ old.setting old.setting
     c.in_ok-text.text.items _ refl
     (without_image (debug_state old c.args.images.now) _ after c.remove.new.self _ left _ c.change_images_if.new.self _
     c.remove-was_there.ensures.left c.remove.ensures c.remove-had_source.ensures.left
     (c.change_images_if.ensures ∙ ap (λ (b : Bool). past_with_images b old.past) there))
     (c.in_ok-text.ensures ∙ ap (λ (b : Bool). forget_text b c.args.name.now) there)
-    (c.in_ok-view.ensures.reported after)
+    (c.view.ensures.reported after)
 
 pub returns-in_err-text-clause-ends : goal.returns-in_err-text-clause-ends
 returns-in_err-text-clause-ends g c = ends_unwritten g.W.Sink.has_failed c.args.sink.now c.from_residual.result Memory c.from_residual.ensures.1 refl
 
-pub returns-in_err-view-clause-ends : goal.returns-in_err-view-clause-ends
-returns-in_err-view-clause-ends g c = ends_failed g.W.Sink.has_failed c.args.sink.now c.view.new.sink c.from_residual-in_err-view.result c.from_residual-in_err-view.ensures.1 c.in_err-view.ensures.flag
-
 pub returns-clause-ends : goal.returns-clause-ends
-returns-clause-ends g c = ends_written g.W.Sink.has_failed c.args.sink.now c.view.new.sink _ c.in_ok-view.ensures.same_flag
+returns-clause-ends g c = c.view.ensures.ends
+
+pub returns-in_err-text-clause-setting : goal.returns-in_err-text-clause-setting
+returns-in_err-text-clause-setting g c = refl
+
+pub returns-clause-setting : goal.returns-clause-setting
+returns-clause-setting g c = c.view.ensures.setting

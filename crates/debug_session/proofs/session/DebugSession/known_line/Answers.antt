@@ -1,5 +1,5 @@
 -- Each request is shown as its own call shows it.
-use Rattle.std.proofs.Common.{◌≡◌, ◌+◌, ap, subst, sym, ℕ}
+use Rattle.std.proofs.Common.{◌≡◌, ◌+◌, ap, refl, subst, sym, ℕ}
 use Rattle.std.specs.Prelude.{OnOk}
 use Rattle.command_shell_lines.specs.Blocks.{block_lines, lines_after, lines_taken}
 use Rattle.debug_lines.specs.DebugRequests.{DebugRequest, debug_opens_block, debug_request_of_command}
@@ -10,7 +10,8 @@ use Rattle.debug_tables.specs.run_meter.Memory.{script_with_status}
 use Rattle.debug_session.specs.DebugScript.{past_line_answer, put_answer, reset_answer, set_pc_answer, set_psr_answer, stepping_line_answer, write_answer}
 use Rattle.debug_session.specs.DebugState.{IsDebugged}
 use Rattle.debug_session.specs.Session.{debug_state}
-use Rattle.debug_session.proofs.OwnLemmas.{asked, asked_if, changed_silently, checked_by}
+use Rattle.debug_session.proofs.OwnLemmas.{asked_if, changed_silently, checked_by, left_alone, number_alone}
+use Rattle.debug_session.proofs.EndLemmas.{ends_silent}
 use Rattle.debug_session.proofs.session.DebugSession.known_line.Goals as goal
 
 pub returns-in-Script-clause-reported : goal.returns-in-Script-clause-reported
@@ -71,17 +72,17 @@ returns-in-SetPc-clause-reported g c =
     (debug_state c.args.self.now c.args.images.now) n c.in-SetPc.address)))
     c.number-number.ensures (c.move_pc.ensures.reported c.args.images.now))
 
-pub returns-in_ok-set_psr-in-SetPsr-clause-reported : goal.returns-in_ok-set_psr-in-SetPsr-clause-reported
-returns-in_ok-set_psr-in-SetPsr-clause-reported g c =
+pub returns-in-SetPsr-clause-reported : goal.returns-in-SetPsr-clause-reported
+returns-in-SetPsr-clause-reported g c =
     let d = debug_state c.args.self.now c.args.images.now in
-    asked (g.W.Sink.contents c.args.sink.now) (g.W.Sink.contents c.args.sink.now)
-    (debug_state c.set_psr.new.self c.args.images.now) d
+    let held = g.W.Sink.contents c.args.sink.now in
+    let now = debug_state c.set_psr.new.self c.args.images.now in
+    asked_if c.set_psr.result held held now d
     c.args.self.now.setting c.args.script.now.number c.args.words.now (block_lines c.args.script.now.left) _
     (debug_request_of_command c.args.command) (sym (ap debug_request_of_command c.in-SetPsr.is))
-    (subst (λ (n : ℕ). IsDebugged (g.W.Sink.contents c.args.sink.now) (g.W.Sink.contents c.args.sink.now)
-    (debug_state c.set_psr.new.self c.args.images.now) (set_psr_answer d n c.in-SetPsr.pattern)) c.number-number.ensures
-    (changed_silently _ _ d c.number-number.result (Status (status_after_pattern c.in-SetPsr.pattern d.script.machine.cpu.psr))
-    (script_with_status d.script (status_after_pattern c.in-SetPsr.pattern d.script.machine.cpu.psr)) (c.in_ok-set_psr-in-SetPsr.ensures.reported c.args.images.now)))
+    (subst (λ (n : ℕ). OnOk c.set_psr.result (IsDebugged held held now (set_psr_answer d n c.in-SetPsr.pattern))) c.number-number.ensures
+    (changed_silently c.set_psr.result held now d c.number-number.result (Status (status_after_pattern c.in-SetPsr.pattern d.script.machine.cpu.psr))
+    (script_with_status d.script (status_after_pattern c.in-SetPsr.pattern d.script.machine.cpu.psr)) (c.set_psr.ensures.reported c.args.images.now)))
 
 pub returns-in-Reset-clause-reported : goal.returns-in-Reset-clause-reported
 returns-in-Reset-clause-reported g c =
@@ -93,15 +94,15 @@ returns-in-Reset-clause-reported g c =
     (debug_state c.reset.new.self c.args.images.now) (reset_answer c.args.self.now.setting (debug_state c.args.self.now c.args.images.now) n)))
     c.number-number.ensures (c.reset.ensures.reported c.args.images.now))
 
-pub returns-in_ok-reason-in-Expect-clause-reported : goal.returns-in_ok-reason-in-Expect-clause-reported
-returns-in_ok-reason-in-Expect-clause-reported g c =
+pub returns-in-Expect-clause-reported : goal.returns-in-Expect-clause-reported
+returns-in-Expect-clause-reported g c =
     asked_if c.print_check.result (g.W.Sink.contents c.args.sink.now) (g.W.Sink.contents c.print_check.new.sink)
     (debug_state c.print_check.new.self c.args.images.now) (debug_state c.args.self.now c.args.images.now)
     c.args.self.now.setting c.args.script.now.number c.args.words.now (block_lines c.args.script.now.left) _
     (debug_request_of_command c.args.command) (sym (ap debug_request_of_command c.in-Expect.is))
     (checked_by c.print_check.result _ _ _ (debug_state c.args.self.now c.args.images.now) c.args.self.now.setting
     c.number-number.result c.args.script.now.number c.args.words.now _ _ c.number-number.ensures
-    (c.in_ok-reason-in-Expect.ensures c.args.images.now) (c.print_check.ensures.reported c.args.images.now))
+    refl (c.print_check.ensures.reported c.args.images.now))
 
 pub returns-in-Stepping-clause-reported : goal.returns-in-Stepping-clause-reported
 returns-in-Stepping-clause-reported g c =
@@ -159,3 +160,205 @@ returns-in-Unknown-clause-reported g c =
     (subst (λ (n : ℕ). OnOk c.past_line.result (IsDebugged (g.W.Sink.contents c.args.sink.now) (g.W.Sink.contents c.past_line.new.sink)
     (debug_state c.past_line.new.self c.past_line.new.images) (past_line_answer c.args.self.now.setting d n c.args.words.now)))
     c.number-number.ensures c.past_line.ensures.reported)
+
+pub returns-in-Script-clause-ends : goal.returns-in-Script-clause-ends
+returns-in-Script-clause-ends g c = c.script_line.ensures.ends
+
+pub returns-in-Stepping-clause-left : goal.returns-in-Stepping-clause-left
+returns-in-Stepping-clause-left g c = left_alone c.stepping_line.result _ c.args.script.now.left
+    (ap debug_opens_block (ap debug_request_of_command c.in-Stepping.is))
+
+pub returns-in-Stepping-clause-number : goal.returns-in-Stepping-clause-number
+returns-in-Stepping-clause-number g c = number_alone c.stepping_line.result _ c.args.script.now.number c.args.script.now.left
+    (ap debug_opens_block (ap debug_request_of_command c.in-Stepping.is))
+
+pub returns-in-Stepping-clause-ends : goal.returns-in-Stepping-clause-ends
+returns-in-Stepping-clause-ends g c = c.stepping_line.ensures.ends
+
+pub returns-in-Mode-clause-left : goal.returns-in-Mode-clause-left
+returns-in-Mode-clause-left g c = left_alone c.mode_line.result _ c.args.script.now.left
+    (ap debug_opens_block (ap debug_request_of_command c.in-Mode.is))
+
+pub returns-in-Mode-clause-number : goal.returns-in-Mode-clause-number
+returns-in-Mode-clause-number g c = number_alone c.mode_line.result _ c.args.script.now.number c.args.script.now.left
+    (ap debug_opens_block (ap debug_request_of_command c.in-Mode.is))
+
+pub returns-in-Mode-clause-ends : goal.returns-in-Mode-clause-ends
+returns-in-Mode-clause-ends g c = c.mode_line.ensures.ends
+
+pub returns-in-View-clause-left : goal.returns-in-View-clause-left
+returns-in-View-clause-left g c = left_alone c.look.result _ c.args.script.now.left
+    (ap debug_opens_block (ap debug_request_of_command c.in-View.is))
+
+pub returns-in-View-clause-number : goal.returns-in-View-clause-number
+returns-in-View-clause-number g c = number_alone c.look.result _ c.args.script.now.number c.args.script.now.left
+    (ap debug_opens_block (ap debug_request_of_command c.in-View.is))
+
+pub returns-in-View-clause-ends : goal.returns-in-View-clause-ends
+returns-in-View-clause-ends g c = c.look.ensures.ends
+
+pub returns-in-Form-clause-left : goal.returns-in-Form-clause-left
+returns-in-Form-clause-left g c = left_alone c.show_form.result _ c.args.script.now.left
+    (ap debug_opens_block (ap debug_request_of_command c.in-Form.is))
+
+pub returns-in-Form-clause-number : goal.returns-in-Form-clause-number
+returns-in-Form-clause-number g c = number_alone c.show_form.result _ c.args.script.now.number c.args.script.now.left
+    (ap debug_opens_block (ap debug_request_of_command c.in-Form.is))
+
+pub returns-in-Form-clause-ends : goal.returns-in-Form-clause-ends
+returns-in-Form-clause-ends g c = c.show_form.ensures.ends
+
+pub returns-in-SetPc-clause-left : goal.returns-in-SetPc-clause-left
+returns-in-SetPc-clause-left g c = left_alone c.move_pc.result _ c.args.script.now.left
+    (ap debug_opens_block (ap debug_request_of_command c.in-SetPc.is))
+
+pub returns-in-SetPc-clause-number : goal.returns-in-SetPc-clause-number
+returns-in-SetPc-clause-number g c = number_alone c.move_pc.result _ c.args.script.now.number c.args.script.now.left
+    (ap debug_opens_block (ap debug_request_of_command c.in-SetPc.is))
+
+pub returns-in-SetPc-clause-ends : goal.returns-in-SetPc-clause-ends
+returns-in-SetPc-clause-ends g c = c.move_pc.ensures.ends
+
+pub returns-in-Put-clause-left : goal.returns-in-Put-clause-left
+returns-in-Put-clause-left g c = left_alone c.put.result _ c.args.script.now.left
+    (ap debug_opens_block (ap debug_request_of_command c.in-Put.is))
+
+pub returns-in-Put-clause-number : goal.returns-in-Put-clause-number
+returns-in-Put-clause-number g c = number_alone c.put.result _ c.args.script.now.number c.args.script.now.left
+    (ap debug_opens_block (ap debug_request_of_command c.in-Put.is))
+
+pub returns-in-Put-clause-ends : goal.returns-in-Put-clause-ends
+returns-in-Put-clause-ends g c = c.put.ensures.ends
+
+pub returns-in-Write-clause-left : goal.returns-in-Write-clause-left
+returns-in-Write-clause-left g c = left_alone c.write.result _ c.args.script.now.left
+    (ap debug_opens_block (ap debug_request_of_command c.in-Write.is))
+
+pub returns-in-Write-clause-number : goal.returns-in-Write-clause-number
+returns-in-Write-clause-number g c = number_alone c.write.result _ c.args.script.now.number c.args.script.now.left
+    (ap debug_opens_block (ap debug_request_of_command c.in-Write.is))
+
+pub returns-in-Write-clause-ends : goal.returns-in-Write-clause-ends
+returns-in-Write-clause-ends g c = c.write.ensures.ends
+
+pub returns-in-Find-clause-left : goal.returns-in-Find-clause-left
+returns-in-Find-clause-left g c = left_alone c.find.result _ c.args.script.now.left
+    (ap debug_opens_block (ap debug_request_of_command c.in-Find.is))
+
+pub returns-in-Find-clause-number : goal.returns-in-Find-clause-number
+returns-in-Find-clause-number g c = number_alone c.find.result _ c.args.script.now.number c.args.script.now.left
+    (ap debug_opens_block (ap debug_request_of_command c.in-Find.is))
+
+pub returns-in-Find-clause-ends : goal.returns-in-Find-clause-ends
+returns-in-Find-clause-ends g c = c.find.ensures.ends
+
+pub returns-in-Forget-clause-left : goal.returns-in-Forget-clause-left
+returns-in-Forget-clause-left g c = left_alone c.forget.result _ c.args.script.now.left
+    (ap debug_opens_block (ap debug_request_of_command c.in-Forget.is))
+
+pub returns-in-Forget-clause-number : goal.returns-in-Forget-clause-number
+returns-in-Forget-clause-number g c = number_alone c.forget.result _ c.args.script.now.number c.args.script.now.left
+    (ap debug_opens_block (ap debug_request_of_command c.in-Forget.is))
+
+pub returns-in-Forget-clause-ends : goal.returns-in-Forget-clause-ends
+returns-in-Forget-clause-ends g c = c.forget.ensures.ends
+
+pub returns-in-Counts-clause-left : goal.returns-in-Counts-clause-left
+returns-in-Counts-clause-left g c = left_alone c.counts.result _ c.args.script.now.left
+    (ap debug_opens_block (ap debug_request_of_command c.in-Counts.is))
+
+pub returns-in-Counts-clause-number : goal.returns-in-Counts-clause-number
+returns-in-Counts-clause-number g c = number_alone c.counts.result _ c.args.script.now.number c.args.script.now.left
+    (ap debug_opens_block (ap debug_request_of_command c.in-Counts.is))
+
+pub returns-in-Counts-clause-ends : goal.returns-in-Counts-clause-ends
+returns-in-Counts-clause-ends g c = c.counts.ensures.ends
+
+pub returns-in-Reset-clause-left : goal.returns-in-Reset-clause-left
+returns-in-Reset-clause-left g c = left_alone c.reset.result _ c.args.script.now.left
+    (ap debug_opens_block (ap debug_request_of_command c.in-Reset.is))
+
+pub returns-in-Reset-clause-number : goal.returns-in-Reset-clause-number
+returns-in-Reset-clause-number g c = number_alone c.reset.result _ c.args.script.now.number c.args.script.now.left
+    (ap debug_opens_block (ap debug_request_of_command c.in-Reset.is))
+
+pub returns-in-Reset-clause-ends : goal.returns-in-Reset-clause-ends
+returns-in-Reset-clause-ends g c = c.reset.ensures.ends
+
+pub returns-in-Expect-clause-left : goal.returns-in-Expect-clause-left
+returns-in-Expect-clause-left g c = left_alone c.print_check.result _ c.args.script.now.left
+    (ap debug_opens_block (ap debug_request_of_command c.in-Expect.is))
+
+pub returns-in-Expect-clause-number : goal.returns-in-Expect-clause-number
+returns-in-Expect-clause-number g c = number_alone c.print_check.result _ c.args.script.now.number c.args.script.now.left
+    (ap debug_opens_block (ap debug_request_of_command c.in-Expect.is))
+
+pub returns-in-Expect-clause-ends : goal.returns-in-Expect-clause-ends
+returns-in-Expect-clause-ends g c = c.print_check.ensures.ends
+
+pub returns-in-Unknown-clause-left : goal.returns-in-Unknown-clause-left
+returns-in-Unknown-clause-left g c = left_alone c.past_line.result _ c.args.script.now.left
+    (ap debug_opens_block (ap debug_request_of_command c.in-Unknown.is))
+
+pub returns-in-Unknown-clause-number : goal.returns-in-Unknown-clause-number
+returns-in-Unknown-clause-number g c = number_alone c.past_line.result _ c.args.script.now.number c.args.script.now.left
+    (ap debug_opens_block (ap debug_request_of_command c.in-Unknown.is))
+
+pub returns-in-Unknown-clause-ends : goal.returns-in-Unknown-clause-ends
+returns-in-Unknown-clause-ends g c = c.past_line.ensures.ends
+
+pub returns-in-SetPsr-clause-left : goal.returns-in-SetPsr-clause-left
+returns-in-SetPsr-clause-left g c = left_alone c.set_psr.result _ c.args.script.now.left
+    (ap debug_opens_block (ap debug_request_of_command c.in-SetPsr.is))
+
+pub returns-in-SetPsr-clause-number : goal.returns-in-SetPsr-clause-number
+returns-in-SetPsr-clause-number g c = number_alone c.set_psr.result _ c.args.script.now.number c.args.script.now.left
+    (ap debug_opens_block (ap debug_request_of_command c.in-SetPsr.is))
+
+pub returns-in-SetPsr-clause-ends : goal.returns-in-SetPsr-clause-ends
+returns-in-SetPsr-clause-ends g c = ends_silent g.W.Sink.has_failed c.args.sink.now c.set_psr.result c.set_psr.ensures.errors
+
+pub returns-in-Script-clause-setting : goal.returns-in-Script-clause-setting
+returns-in-Script-clause-setting g c = c.script_line.ensures.setting
+
+pub returns-in-Stepping-clause-setting : goal.returns-in-Stepping-clause-setting
+returns-in-Stepping-clause-setting g c = c.stepping_line.ensures.setting
+
+pub returns-in-Mode-clause-setting : goal.returns-in-Mode-clause-setting
+returns-in-Mode-clause-setting g c = c.mode_line.ensures.setting
+
+pub returns-in-View-clause-setting : goal.returns-in-View-clause-setting
+returns-in-View-clause-setting g c = c.look.ensures.setting
+
+pub returns-in-Form-clause-setting : goal.returns-in-Form-clause-setting
+returns-in-Form-clause-setting g c = c.show_form.ensures.setting
+
+pub returns-in-SetPc-clause-setting : goal.returns-in-SetPc-clause-setting
+returns-in-SetPc-clause-setting g c = c.move_pc.ensures.setting
+
+pub returns-in-Put-clause-setting : goal.returns-in-Put-clause-setting
+returns-in-Put-clause-setting g c = c.put.ensures.setting
+
+pub returns-in-Write-clause-setting : goal.returns-in-Write-clause-setting
+returns-in-Write-clause-setting g c = c.write.ensures.setting
+
+pub returns-in-Find-clause-setting : goal.returns-in-Find-clause-setting
+returns-in-Find-clause-setting g c = c.find.ensures.setting
+
+pub returns-in-Forget-clause-setting : goal.returns-in-Forget-clause-setting
+returns-in-Forget-clause-setting g c = c.forget.ensures.setting
+
+pub returns-in-Counts-clause-setting : goal.returns-in-Counts-clause-setting
+returns-in-Counts-clause-setting g c = c.counts.ensures.setting
+
+pub returns-in-Reset-clause-setting : goal.returns-in-Reset-clause-setting
+returns-in-Reset-clause-setting g c = c.reset.ensures.setting
+
+pub returns-in-Expect-clause-setting : goal.returns-in-Expect-clause-setting
+returns-in-Expect-clause-setting g c = c.print_check.ensures.setting
+
+pub returns-in-Unknown-clause-setting : goal.returns-in-Unknown-clause-setting
+returns-in-Unknown-clause-setting g c = c.past_line.ensures.setting
+
+pub returns-in-SetPsr-clause-setting : goal.returns-in-SetPsr-clause-setting
+returns-in-SetPsr-clause-setting g c = c.set_psr.ensures.setting

@@ -46,3 +46,15 @@ returns-in-Some-clause-number g c =
     subst (λ (b : Bool). OnOk c.stepping_line.result
     (c.args.script.now.number ≡ c.args.script.now.number + lines_taken b c.args.script.now.left)) (sym alone)
     (anyhow c.stepping_line.result _ (omega arith))
+
+pub returns-in-Some-clause-ends : goal.returns-in-Some-clause-ends
+returns-in-Some-clause-ends g c = c.stepping_line.ensures.ends
+
+pub returns-in-None-clause-ends : goal.returns-in-None-clause-ends
+returns-in-None-clause-ends g c = c.plain_line.ensures.ends
+
+pub returns-in-Some-clause-setting : goal.returns-in-Some-clause-setting
+returns-in-Some-clause-setting g c = c.stepping_line.ensures.setting
+
+pub returns-in-None-clause-setting : goal.returns-in-None-clause-setting
+returns-in-None-clause-setting g c = c.plain_line.ensures.setting

@@ -1,5 +1,5 @@
 -- A line by what it means as it stands, or with numbers.
-use Rattle.std.proofs.Common.{◌≡◌, ℕ, ◌+◌, Bool, ap, sym, subst, ◌∙◌}
+use Rattle.std.proofs.Common.{◌≡◌, ℕ, ◌+◌, Bool, ap, refl, sym, subst, ◌∙◌}
 use Rattle.std.specs.Prelude.{OnOk}
 use Rattle.command_shell_lines.specs.Blocks.{block_lines, lines_after, lines_taken}
 use Rattle.debug_lines.specs.DebugRequests.{DebugRequest, NotKnown, debug_opens_block, debug_request_of_command, is_known, is_repeatable, simple_request}
@@ -9,6 +9,8 @@ use Rattle.debug_session.specs.Naming.{meant_request, naming_of}
 use Rattle.debug_session.specs.Session.{debug_state}
 use Rattle.debug_session.proofs.NamingLemmas.{meant_known, meant_nothing, meant_numbered, repeatable_alone, unknown_alone}
 use Rattle.debug_session.proofs.OwnLemmas.{asked_if}
+use Rattle.debug_session.proofs.EndLemmas.{ends_unwritten}
+use Rattle.debug_tables.specs.run_meter.RunError.TheVariants.{Memory}
 use Rattle.debug_session.proofs.session.DebugSession.simple_line.Goals as goal
 
 pub returns-then-is_known-clause-reported : goal.returns-then-is_known-clause-reported
@@ -84,3 +86,27 @@ returns-clause-reported g c =
     (subst (λ (n : ℕ). OnOk c.past_line.result (IsDebugged (g.W.Sink.contents c.args.sink.now) (g.W.Sink.contents c.past_line.new.sink)
     (debug_state c.past_line.new.self c.past_line.new.images) (past_line_answer setting d n line))) c.number.ensures
     c.past_line.ensures.reported)
+
+pub returns-then-is_known-clause-ends : goal.returns-then-is_known-clause-ends
+returns-then-is_known-clause-ends g c = c.known_line.ensures.ends
+
+pub returns-in_err-numbered-clause-ends : goal.returns-in_err-numbered-clause-ends
+returns-in_err-numbered-clause-ends g c = ends_unwritten g.W.Sink.has_failed c.args.sink.now c.from_residual.result Memory c.from_residual.ensures.1 refl
+
+pub returns-then-is_repeatable-clause-ends : goal.returns-then-is_repeatable-clause-ends
+returns-then-is_repeatable-clause-ends g c = c.known_line-then-is_repeatable.ensures.ends
+
+pub returns-clause-ends : goal.returns-clause-ends
+returns-clause-ends g c = c.past_line.ensures.ends
+
+pub returns-then-is_known-clause-setting : goal.returns-then-is_known-clause-setting
+returns-then-is_known-clause-setting g c = c.known_line.ensures.setting
+
+pub returns-in_err-numbered-clause-setting : goal.returns-in_err-numbered-clause-setting
+returns-in_err-numbered-clause-setting g c = refl
+
+pub returns-then-is_repeatable-clause-setting : goal.returns-then-is_repeatable-clause-setting
+returns-then-is_repeatable-clause-setting g c = c.known_line-then-is_repeatable.ensures.setting
+
+pub returns-clause-setting : goal.returns-clause-setting
+returns-clause-setting g c = c.past_line.ensures.setting

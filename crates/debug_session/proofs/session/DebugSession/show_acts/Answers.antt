@@ -9,7 +9,7 @@ use Rattle.debug_tables.specs.run_meter.Session.{script_state}
 use Rattle.debug_tables.specs.run_meter.State.{script_start_state}
 use Rattle.debug_session.specs.Session.{debug_state}
 use Rattle.debug_session.proofs.ShownStepsLemmas.{byte_if, none_to_show, some_to_show, text_begins, text_behind, text_whole}
-use Rattle.debug_session.proofs.session.DebugSession.last_steps.Goals as goal
+use Rattle.debug_session.proofs.session.DebugSession.show_acts.Goals as goal
 
 pub loop-act-init : goal.loop-act-init
 unfolding script_start_state
@@ -18,8 +18,8 @@ loop-act-init c =
     let setting = c.args.self.now.setting in
     let images = c.args.images.now in
     let start = script_start_state setting.config images 0 in
-    let now = script_state c.in_ok-session.session images in
-    let same : now ≡ start = c.in_ok-session.ensures images in
+    let now = script_state c.args.session.now images in
+    let same : now ≡ start = c.requires in
     let faulted = c.is_faulted.ensures images in
     let counted = c.saturating_sub-counted.ensures ∙ (λ i. (c.from.ensures i) - ((c.from-2.ensures ∙ byte_if c.is_faulted.result) i)) in
     record {

@@ -5,7 +5,7 @@ use Rattle.debug_tables.specs.run_meter.State.{script_start_state}
 use Rattle.debug_modules.proofs.AgainLemmas.{IsBeside}
 use Rattle.debug_session.specs.LastSteps.{last_steps_text, text_of_acts}
 use Rattle.debug_session.specs.Session.{debug_state}
-use Rattle.debug_session.proofs.session.DebugSession.last_steps.Given as goal
+use Rattle.debug_session.proofs.session.DebugSession.show_acts.Given as goal
 
 -- what is shown so far, and what the acts that are left show, is all
 abbrev pub invariant-loop-act : goal.invariant-loop-act
