@@ -1,6 +1,6 @@
 -- A line that enters the code of modules, and what is kept of it.
-use Rattle.std.proofs.Common.{◌≡◌, ℕ, zero, suc, ◌+◌, ◌/◌, ◌%◌, Bool, true, false, List, [], ◌∷◌, Option, Some, None, Result, Ok, Err, ap, refl, subst, sym, ◌∙◌, if◌then◌else◌}
-use Rattle.std.specs.Prelude.{OnOk, unwrap_or, ◌&&◌, ◌++◌, codes, is_some}
+use Rattle.std.proofs.Common.{◌≡◌, ℕ, zero, suc, ◌+◌, ◌/◌, ◌%◌, Bool, true, false, List, [], Option, Some, None, Result, Ok, Err, ap, refl, subst, sym, ◌∙◌, if◌then◌else◌}
+use Rattle.std.specs.Prelude.{OnOk, unwrap_or, codes, is_some}
 use Rattle.std.specs.Option.{option_map}
 use Rattle.profile.specs.Outcome.{Leaves}
 use Rattle.profile.specs.Fault.{Fault}
@@ -16,9 +16,8 @@ use Rattle.debug_modules.specs.Labels.{ImageLabels}
 use Rattle.debug_lines.specs.SteppingRequests as stepping
 use Rattle.debug_modules.specs.Modes.{answer_of_line}
 use Rattle.debug_modules.specs.DebugModes.{DebugModes}
-use Rattle.debug_modules.specs.Why.{why_text}
 use Rattle.debug_modules.specs.Answers.{ModuleAnswered, ModuleShown, Steps, Text, command_by, command_called, command_put_by, entered_so, error_below, module_answered, module_line_answered, module_line_asked, modes_after_modules, only_shown, past_after_modules, script_after_modules}
-use Rattle.debug_modules.specs.Entering.{at_entry, back_if_returned, module_code_entered, past_at_entry, status_gone_back, supervisor, with_status_back}
+use Rattle.debug_modules.specs.Entering.{at_entry, module_code_entered, past_at_entry, status_gone_back, supervisor, with_status_back}
 use Rattle.debug_modules.specs.Plans.{command_plan, tail_address, tail_bytes}
 use Rattle.debug_modules.specs.Requests.{Command, Explain, Form, ModuleAsked, Service}
 use Rattle.debug_modules.specs.Services.{ServiceState, entry_of_service, is_served, served_at, served_from, served_if, service_begun, service_called, service_code, service_left}
@@ -31,7 +30,7 @@ use Rattle.debug_tables.specs.run_meter.Memory.{script_with_budget, script_with_
 use Rattle.debug_tables.specs.run_meter.State.{ScriptState}
 use Rattle.debug_session.specs.DebugScript.{module_line_by, module_line_shown, stepping_answer_by, unknown_answer, view_answer}
 use Rattle.debug_session.specs.DebugState.{DebugAnswered, DebugState, IsDebugged}
-use Rattle.debug_session.specs.History.{IsSameButPast, IsUnhaltedWhereFresh}
+use Rattle.debug_session.specs.History.{IsSameButPast}
 use Rattle.debug_session.specs.declared.session.DebugSettings.{DebugSettings}
 use Rattle.debug_session.proofs.SteppingPastLemmas.{steps_kept}
 

@@ -1,5 +1,5 @@
 -- What calls leave of a debugging session, by what those that they make leave.
-use Rattle.std.proofs.Common.{◌≡◌, ℕ, ◌+◌, ◌-◌, Bool, true, false, List, [], ◌++◌, Option, None, Some, Result, Ok, Err, ap, arith, refl, subst, sym, ◌∙◌}
+use Rattle.std.proofs.Common.{◌≡◌, ℕ, ◌+◌, Bool, true, false, List, [], ◌++◌, Option, None, Some, Result, Ok, Err, ap, arith, refl, subst, sym, ◌∙◌}
 use Rattle.std.specs.Prelude.{◌&&◌, ◌||◌, is_some, not, option_map, if◌then◌else◌, OnOk}
 use Rattle.std.specs.Io.KnownBytes.{Appends}
 use Rattle.profile.proofs.OutputLemmas.{Appends-join, Appends-nothing}

@@ -1,6 +1,6 @@
 -- What a debugging script does and what it is answered, line by line, over the written machine. A
 -- line of a script is answered as in a script, but that each line may take the whole budget.
-use Rattle.std.specs.Prelude.{ℕ, zero, suc, ◌+◌, ◌-◌, ◌&&◌, ◌||◌, Bool, true, false, not, List, [], ◌∷◌, ◌++◌, length, codes, Option, Some, None, Result, Ok, Err, is_some, nat_lt, option_map, if◌then◌else◌}
+use Rattle.std.specs.Prelude.{ℕ, zero, suc, ◌+◌, ◌-◌, Bool, true, false, List, [], ◌∷◌, ◌++◌, length, codes, Option, Some, None, Result, Ok, Err, is_some, nat_lt, option_map, if◌then◌else◌}
 use Rattle.std.specs.Str.Lines.{lines}
 use Rattle.profile.specs.images.Entries.{Entry, bytes_of_image, without_entry}
 use Rattle.debug_tables.specs.byte_writes.Put.{script_after_put}
@@ -20,7 +20,7 @@ use Rattle.debug_modules.specs.Halted.{halted_at_text, halting_fault}
 use Rattle.debug_modules.specs.DebugModesEndings.{ending_of, output_of}
 use Rattle.debug_modules.specs.Why.{why_below}
 use Rattle.debug_lines.specs.DebugRequests.{DebugRequest, Script, Stepping, Mode, Remark, SetPc, SetPsr, Put, Write, Forget, Counts, Reset, Quit, Expect, Repeat, NotKnown, debug_opens_block, debug_request, is_script_request, View}
-use Rattle.debug_tables.specs.run_meter.MachineState.{MachineState, stop_of}
+use Rattle.debug_tables.specs.run_meter.MachineState.{stop_of}
 use Rattle.debug_lines.specs.ModeRequests.{ModeRequest}
 use Rattle.debug_lines.specs.SteppingRequests.{SteppingRequest, stepping_in}
 use Rattle.debug_modules.specs.Changes.{ModeAnswer, mode_answer}
