@@ -1,6 +1,7 @@
 -- What calls leave of a debugging session, by what those that they make leave.
 use Rattle.std.proofs.Common.{◌≡◌, ℕ, ◌+◌, Bool, true, false, List, [], ◌++◌, Option, None, Some, Result, Ok, Err, ap, arith, refl, subst, sym, ◌∙◌}
-use Rattle.std.specs.Prelude.{◌&&◌, ◌||◌, is_some, not, option_map, if◌then◌else◌, OnOk}
+use Rattle.std.specs.Result.{IsOkAnd}
+use Rattle.std.specs.Prelude.{IfOk, ◌&&◌, ◌||◌, is_some, not, option_map, if◌then◌else◌, OnOk}
 use Rattle.std.specs.Io.KnownBytes.{Appends}
 use Rattle.profile.proofs.OutputLemmas.{Appends-join, Appends-nothing}
 use Rattle.debug_lines.specs.DebugRequests.{DebugRequest}
@@ -14,7 +15,9 @@ use Rattle.command_shell_lines.specs.Requests.{Request, Nothing, Hex, Asm, Boot,
 use Rattle.command_shell_lines.specs.Blocks.{lines_after, lines_taken}
 use Rattle.command_shell_lines.specs.FailedBlocks.{block_reason}
 use Rattle.debug_modules.specs.Labels.{ImageLabels}
-use Rattle.debug_session.specs.DebugScript.{machine_change_answer, checked_answer, simple_request_answer, state_after_line, state_with_answer, script_line_answer, script_line_answer_by, answer_or_refused, line_in_modes_answer, past_after_reset, view_answer, with_block_noted}
+use Rattle.debug_modules.specs.Changes.{ModeAnswer}
+use Rattle.debug_modules.specs.DebugModes.{DebugModes}
+use Rattle.debug_session.specs.DebugScript.{mode_answer_by, machine_change_answer, checked_answer, simple_request_answer, state_after_line, state_with_answer, script_line_answer, script_line_answer_by, answer_or_refused, line_in_modes_answer, past_after_reset, view_answer, with_block_noted}
 use Rattle.debug_lines.specs.LineKinds.{asks_nothing, is_named_image, is_refused_block}
 use Rattle.debug_modules.specs.Noted.{past_with_deed}
 use Rattle.debug_modules.specs.Past.{PastState, past_from_start}
@@ -197,6 +200,16 @@ pub without_image : (d : DebugState) (images after : List Entry) (labels left : 
     ≡ record d { script = record d.script { images = images }; labels = left; sources = behind; past = q }
 without_image d images after labels left sources behind p q stay go leave kept = rw (stay, go, leave, kept) refl
 
+-- a text for which there was memory, shown
+pub shown_as : {T F A E : Type 0} (text : Result T F) (result : Result A E) (P : T → Type 0) (before after : Option (List ℕ))
+    (now : DebugState) (shown : T → DebugAnswered) (reported : DebugAnswered) → ((t : T) → P t → shown t ≡ reported)
+    → IfOk text P → OnOk result (IsOkAnd text (λ t. IsDebugged before after now (shown t)))
+    → OnOk result (IsDebugged before after now reported)
+shown_as (Ok t) (Ok a) P before after now shown reported same said written =
+    subst (λ (x : DebugAnswered). IsDebugged before after now x) (same t said) written
+shown_as (Err f) (Ok a) P before after now shown reported same said written = absurd written
+shown_as text (Err e) P before after now shown reported same said written = record {}
+
 -- a view of another state
 pub view_after : {A E : Type 0} (result : Result A E) (before after : Option (List ℕ)) (now d e : DebugState) (c f : DebugSettings)
     (text shown : List ℕ) → c ≡ f → d ≡ e → text ≡ shown → OnOk result (IsDebugged before after now (view_answer c d text))
@@ -258,3 +271,10 @@ gone_on_anew c d s p number made noted kept =
       script = script_started_anew d.script c.config c.budget;
       past = if b then past_with_deed d.past number Anew else past_from_start c.keeps_past;
     } in gone) (sym kept)
+
+-- a change of modes, and what is shown of it
+pub changed_modes : (c : DebugSettings) (d : DebugState) (modes : DebugModes) (text : List ℕ) (reported : ModeAnswer) → modes ≡ reported.modes
+    → text ≡ reported.text
+    → (let changed : DebugState = record d { modes = modes } in view_answer c changed text) ≡ mode_answer_by c d reported
+changed_modes c d modes text reported state same = λ i.
+    let changed : DebugState = record d { modes = state i } in view_answer c changed (same i)

@@ -13,7 +13,8 @@ use debug_lines::{
     DebugCommand, RepeatedLine, is_known_line, is_repeatable_line, is_script_command,
     repeated_line, repeated_text, simple_command, tidied,
 };
-use debug_modules::line_on;
+use debug_modules::{form_line, line_on, view_text};
+use debug_tables::byte_writes::find_text;
 use debug_tables::run_meter::RunError;
 use profile::Sink;
 use profile::images::Images;
@@ -273,17 +274,32 @@ impl DebugSession {
             DebugCommand::Stepping(is_traced, command) => {
                 self.stepping_line(images, sink, number, is_traced, &command)
             }
-            DebugCommand::Mode(command) => self.mode_line(sink, command),
+            DebugCommand::Mode(command) => {
+                let machine = self.session.machine();
+                let text = self.modes.change(self.alloc, machine, command);
+                self.show(sink, text)
+            }
             DebugCommand::Remark => Ok(()),
-            DebugCommand::View(view) => self.look(sink, view),
-            DebugCommand::Form(form) => self.show_form(sink, form),
+            DebugCommand::View(view) => {
+                let text = view_text(self.alloc, &self.labels, self.session.machine(), view);
+                self.show(sink, text)
+            }
+            DebugCommand::Form(form) => self.show(sink, form_line(self.alloc, form)),
             DebugCommand::SetPc(address) => self.move_pc(sink, number, address),
             DebugCommand::SetPsr(pattern) => self.set_psr(number, pattern),
             DebugCommand::Put(name, address) => self.put(images, sink, number, name, address),
             DebugCommand::Write(at, count, named) => self.write(sink, number, at, count, named),
-            DebugCommand::Find(address, count, named) => self.find(sink, address, count, named),
+            DebugCommand::Find(address, count, named) => {
+                let text = find_text(self.alloc, self.session.machine(), address, count, named);
+                self.show(sink, text)
+            }
             DebugCommand::Forget(name) => self.forget(images, sink, name),
-            DebugCommand::Counts(name) => self.counts(sink, name),
+            DebugCommand::Counts(name) => {
+                let machine = self.session.machine();
+                let modes = &self.modes;
+                let text = modes.counts_text(self.alloc, &self.labels, machine, name);
+                self.show(sink, text)
+            }
             DebugCommand::Reset => self.reset(sink, number),
             DebugCommand::Quit => {
                 self.has_quit = true;

@@ -1,17 +1,18 @@
 //! The lines of its own that a debugging script has.
 
 ghost use Rattle.std.specs.Prelude.{◌≡◌, ◌%◌, ◌<◌, ◌^◌, option_map, List, IfErr, IfOk, OnOk};
+ghost use Rattle.std.specs.Result.{IsOkAnd};
 ghost use Rattle.debug_session.specs.Failing.{EndsAtOnce};
 
 use crate::session::DebugSession;
 use command_shell_lines::debug_words::bytes_written;
 use command_shell_lines::{KeptText, Origin};
-use debug_lines::{DebugView, Expectation, StatusPattern};
+use debug_lines::{Expectation, StatusPattern};
 use debug_modules::{
-    PastDeed, SeenMachine, check, forget_text, form_line, halting_fault, push_answer, push_fail,
-    push_halted, push_pass, put_text, refused_line, status_with, text_of, view_text,
+    PastDeed, SeenMachine, check, forget_text, halting_fault, push_answer, push_fail, push_halted,
+    push_pass, put_text, refused_line, status_with, text_of,
 };
-use debug_tables::byte_writes::{find_text, put_bytes};
+use debug_tables::byte_writes::put_bytes;
 use debug_tables::run_meter::RunError;
 use profile::Sink;
 use profile::images::Images;
@@ -23,42 +24,12 @@ impl DebugSession {
     ghost use Rattle.debug_modules.specs.Past.{past_from_start};
     ghost use Rattle.debug_modules.specs.PastDeed.TheVariants.{Place};
     ghost use Rattle.debug_tables.specs.run_meter.Memory.{script_at, script_started_anew};
-    ghost use Rattle.debug_modules.specs.ViewTexts.{view_text};
     ghost use Rattle.debug_modules.specs.Checks.{check_answer};
     ghost use Rattle.debug_lines.specs.Expectations.{expect_request_of};
-    ghost use Rattle.debug_lines.specs.DebugRequests.{Find, Form, view_request_of};
     ghost use Rattle.debug_session.specs.DebugScript.{bytes_answer, checked_answer, forget_answer, machine_change_answer, put_answer, reset_answer, seen_of, set_pc_answer, set_psr_answer, view_answer, write_answer};
     ghost use Rattle.debug_session.specs.DebugState.{IsDebugged};
     ghost use Rattle.debug_session.specs.Session.{debug_state};
     ghost use Rattle.debug_tables.specs.run_meter.MachineState.{stop_of};
-
-    /// Answers a line that only looks.
-    pub(crate) fn look<W: Sink>(&mut self, sink: &mut W, view: DebugView) -> Result<(), RunError>
-        ensures reported { (images : List Entry) → OnOk result
-            (IsDebugged (W.contents sink.old) (W.contents sink.new) (debug_state self.new images)
-            (view_answer self.old.setting (debug_state self.old images)
-            (view_text (debug_state self.old images).labels (debug_state self.old images).script.machine
-            (view_request_of view)))) }
-        ensures setting { self.new.setting ≡ self.old.setting }
-        ensures ends { EndsAtOnce W.has_failed sink.old sink.new result }
-    {
-        let text = view_text(self.alloc, &self.labels, self.session.machine(), view)?;
-        self.view(sink, text)
-    }
-
-    /// Shows what the lines of a word need.
-    pub(crate) fn show_form<W: Sink>(&mut self, sink: &mut W, form: &[u8]) -> Result<(), RunError>
-        ensures reported { (images : List Entry) → OnOk result
-            (IsDebugged (W.contents sink.old) (W.contents sink.new) (debug_state self.new images)
-            (view_answer self.old.setting (debug_state self.old images)
-            (view_text (debug_state self.old images).labels (debug_state self.old images).script.machine
-            (Form form.now)))) }
-        ensures setting { self.new.setting ≡ self.old.setting }
-        ensures ends { EndsAtOnce W.has_failed sink.old sink.new result }
-    {
-        let text = form_line(self.alloc, form)?;
-        self.view(sink, text)
-    }
 
     /// Takes the image of that name out, its labels, and the text of its block.
     pub(crate) fn forget<W: Sink>(
@@ -153,26 +124,6 @@ impl DebugSession {
         }
     }
 
-    /// Shows at which of so many addresses the bytes stand that a text names.
-    pub(crate) fn find<W: Sink>(
-        &mut self,
-        sink: &mut W,
-        address: u32,
-        count: u32,
-        named: &[u8],
-    ) -> Result<(), RunError>
-        ensures reported { (images : List Entry) → OnOk result
-            (IsDebugged (W.contents sink.old) (W.contents sink.new) (debug_state self.new images)
-            (view_answer self.old.setting (debug_state self.old images)
-            (view_text (debug_state self.old images).labels (debug_state self.old images).script.machine
-            (Find address count named.now)))) }
-        ensures setting { self.new.setting ≡ self.old.setting }
-        ensures ends { EndsAtOnce W.has_failed sink.old sink.new result }
-    {
-        let text = find_text(self.alloc, self.session.machine(), address, count, named)?;
-        self.view(sink, text)
-    }
-
     /// Begins anew on a fresh machine; images, labels, breaks and modes stay.
     ///
     /// # Errors
@@ -231,6 +182,24 @@ impl DebugSession {
     {
         self.answer = text;
         Ok(push_answer(sink, self.setting.form, self.answer.as_slice())?)
+    }
+
+    /// The same of a text for which memory may have run out.
+    pub(crate) fn show<W: Sink>(
+        &mut self,
+        sink: &mut W,
+        text: Result<Vec<u8>, AllocError>,
+    ) -> Result<(), RunError>
+        ensures reported { (images : List Entry) → OnOk result (IsOkAnd text (λ text.
+            IsDebugged (W.contents sink.old) (W.contents sink.new) (debug_state self.new images)
+            (view_answer self.old.setting (debug_state self.old images) text.items))) }
+        ensures setting { self.new.setting ≡ self.old.setting }
+        ensures ends { EndsAtOnce W.has_failed sink.old sink.new result }
+    {
+        match text {
+            Ok(text) => self.view(sink, text),
+            Err(_) => Err(RunError::Memory),
+        }
     }
 
     /// Sets the program counter.

@@ -4,12 +4,11 @@ ghost use Rattle.std.specs.Prelude.{◌≡◌, ◌+◌, List, option_map, OnOk};
 ghost use Rattle.debug_session.specs.Failing.{EndsAtOnce};
 ghost use Rattle.command_shell_lines.specs.Blocks.{block_lines, lines_after, lines_taken};
 ghost use Rattle.command_shell_lines.specs.Requests.{opens_block, request_of_command};
-ghost use Rattle.debug_lines.specs.ModeRequests.{mode_request_of};
 ghost use Rattle.debug_lines.specs.SteppingRequests.{stepping_request_of};
 
 use crate::session::DebugSession;
 use command_shell_lines::ScriptCommand;
-use debug_lines::{ModeCommand, SteppingCommand, stepping_in};
+use debug_lines::{SteppingCommand, stepping_in};
 use debug_modules::{push_answer, push_why_below, take_steps};
 use debug_tables::block_errors::errors_of_block;
 use debug_tables::run_meter::RunError;
@@ -20,7 +19,7 @@ use std::alloc::AllocError;
 
 impl DebugSession {
     ghost use Rattle.profile.specs.images.Entries.{Entry};
-    ghost use Rattle.debug_session.specs.DebugScript.{counts_answer, line_in_modes_answer, mode_line_answer, script_line_answer, with_block_noted, stepping_line_answer, stepping_now, stepping_answer_by};
+    ghost use Rattle.debug_session.specs.DebugScript.{line_in_modes_answer, script_line_answer, with_block_noted, stepping_line_answer, stepping_now, stepping_answer_by};
     ghost use Rattle.debug_session.specs.DebugState.{IsDebugged};
     ghost use Rattle.debug_session.specs.Session.{debug_state};
 
@@ -160,36 +159,5 @@ impl DebugSession {
         let ending = self.answer.as_slice();
         push_answer(sink, form, ending)?;
         Ok(push_why_below(sink, form, &self.modes, self.session.machine(), ending)?)
-    }
-
-    /// Shows how often the steps of the words of the image of that name were taken, where it stands now.
-    pub(crate) fn counts<W: Sink>(&mut self, sink: &mut W, name: &[u8]) -> Result<(), RunError>
-        ensures reported { (images : List Entry) → OnOk result
-            (IsDebugged (W.contents sink.old) (W.contents sink.new) (debug_state self.new images)
-            (counts_answer self.old.setting (debug_state self.old images) name.now)) }
-        ensures setting { self.new.setting ≡ self.old.setting }
-        ensures ends { EndsAtOnce W.has_failed sink.old sink.new result }
-    {
-        let machine = self.session.machine();
-        let modes = &self.modes;
-        let text = modes.counts_text(self.alloc, &self.labels, machine, name)?;
-        self.view(sink, text)
-    }
-
-    /// Changes the modes, and says what has become of them.
-    pub(crate) fn mode_line<W: Sink>(
-        &mut self,
-        sink: &mut W,
-        command: ModeCommand,
-    ) -> Result<(), RunError>
-        ensures reported { (images : List Entry) → OnOk result
-            (IsDebugged (W.contents sink.old) (W.contents sink.new) (debug_state self.new images)
-            (mode_line_answer self.old.setting (debug_state self.old images) (mode_request_of command))) }
-        ensures setting { self.new.setting ≡ self.old.setting }
-        ensures ends { EndsAtOnce W.has_failed sink.old sink.new result }
-    {
-        let machine = self.session.machine();
-        let text = self.modes.change(self.alloc, machine, command)?;
-        self.view(sink, text)
     }
 }

@@ -1,16 +1,25 @@
 -- Each request is shown as its own call shows it.
-use Rattle.std.proofs.Common.{◌≡◌, ◌+◌, ap, refl, subst, sym, ℕ}
+use Rattle.std.proofs.Common.{◌≡◌, ◌+◌, ◌∙◌, ap, refl, subst, sym, ℕ}
 use Rattle.std.specs.Prelude.{OnOk}
 use Rattle.command_shell_lines.specs.Blocks.{block_lines, lines_after, lines_taken}
-use Rattle.debug_lines.specs.DebugRequests.{DebugRequest, debug_opens_block, debug_request_of_command}
+use Rattle.debug_lines.specs.DebugRequests.{DebugRequest, debug_opens_block, debug_request_of_command, view_request_of}
+use Rattle.debug_lines.specs.ModeRequests.{mode_request_of}
+use Rattle.command_shell_lines.specs.debug_words.NamedBytes.{named_bytes, or_no_bytes}
+use Rattle.debug_modules.specs.Changes.{mode_answer}
+use Rattle.debug_modules.specs.Counting.{counts_text}
+use Rattle.debug_modules.specs.Places.{naming_on}
+use Rattle.debug_modules.specs.ViewTexts.{view_text}
+use Rattle.debug_tables.specs.byte_writes.Find.{find_text}
+use Rattle.debug_tables.specs.run_meter.GuestState.{state_of}
+use Rattle.debug_tables.specs.run_meter.Value.{MachineValue}
 use Rattle.debug_lines.specs.SteppingRequests.{stepping_request_of}
 use Rattle.debug_modules.specs.PastDeed.TheVariants.{Status}
 use Rattle.debug_modules.specs.Checks.{status_after_pattern}
 use Rattle.debug_tables.specs.run_meter.Memory.{script_with_status}
-use Rattle.debug_session.specs.DebugScript.{past_line_answer, put_answer, reset_answer, set_pc_answer, set_psr_answer, stepping_line_answer, write_answer}
+use Rattle.debug_session.specs.DebugScript.{past_line_answer, put_answer, reset_answer, set_pc_answer, set_psr_answer, stepping_line_answer, view_answer, write_answer}
 use Rattle.debug_session.specs.DebugState.{IsDebugged}
 use Rattle.debug_session.specs.Session.{debug_state}
-use Rattle.debug_session.proofs.OwnLemmas.{asked_if, changed_silently, checked_by, left_alone, number_alone}
+use Rattle.debug_session.proofs.OwnLemmas.{asked_if, changed_modes, changed_silently, checked_by, left_alone, number_alone, shown_as}
 use Rattle.debug_session.proofs.EndLemmas.{ends_silent}
 use Rattle.debug_session.proofs.session.DebugSession.known_line.Goals as goal
 
@@ -33,33 +42,12 @@ returns-in-Script-clause-number g c =
     (c.script_line.new.script.number ≡ c.args.script.now.number + lines_taken (debug_opens_block q) c.args.script.now.left))
     (sym (ap debug_request_of_command c.in-Script.is)) c.script_line.ensures.number
 
-pub returns-in-View-clause-reported : goal.returns-in-View-clause-reported
-returns-in-View-clause-reported g c =
-    asked_if c.look.result (g.W.Sink.contents c.args.sink.now) (g.W.Sink.contents c.look.new.sink)
-    (debug_state c.look.new.self c.args.images.now) (debug_state c.args.self.now c.args.images.now)
-    c.args.self.now.setting c.args.script.now.number c.args.words.now (block_lines c.args.script.now.left) _
-    (debug_request_of_command c.args.command) (sym (ap debug_request_of_command c.in-View.is)) (c.look.ensures.reported c.args.images.now)
-
-pub returns-in-Form-clause-reported : goal.returns-in-Form-clause-reported
-returns-in-Form-clause-reported g c =
-    asked_if c.show_form.result (g.W.Sink.contents c.args.sink.now) (g.W.Sink.contents c.show_form.new.sink)
-    (debug_state c.show_form.new.self c.args.images.now) (debug_state c.args.self.now c.args.images.now)
-    c.args.self.now.setting c.args.script.now.number c.args.words.now (block_lines c.args.script.now.left) _
-    (debug_request_of_command c.args.command) (sym (ap debug_request_of_command c.in-Form.is)) (c.show_form.ensures.reported c.args.images.now)
-
 pub returns-in-Forget-clause-reported : goal.returns-in-Forget-clause-reported
 returns-in-Forget-clause-reported g c =
     asked_if c.forget.result (g.W.Sink.contents c.args.sink.now) (g.W.Sink.contents c.forget.new.sink)
     (debug_state c.forget.new.self c.forget.new.images) (debug_state c.args.self.now c.args.images.now)
     c.args.self.now.setting c.args.script.now.number c.args.words.now (block_lines c.args.script.now.left) _
     (debug_request_of_command c.args.command) (sym (ap debug_request_of_command c.in-Forget.is)) c.forget.ensures.reported
-
-pub returns-in-Counts-clause-reported : goal.returns-in-Counts-clause-reported
-returns-in-Counts-clause-reported g c =
-    asked_if c.counts.result (g.W.Sink.contents c.args.sink.now) (g.W.Sink.contents c.counts.new.sink)
-    (debug_state c.counts.new.self c.args.images.now) (debug_state c.args.self.now c.args.images.now)
-    c.args.self.now.setting c.args.script.now.number c.args.words.now (block_lines c.args.script.now.left) _
-    (debug_request_of_command c.args.command) (sym (ap debug_request_of_command c.in-Counts.is)) (c.counts.ensures.reported c.args.images.now)
 
 pub returns-in-SetPc-clause-reported : goal.returns-in-SetPc-clause-reported
 returns-in-SetPc-clause-reported g c =
@@ -136,20 +124,6 @@ returns-in-Write-clause-reported g c =
     (debug_state c.write.new.self c.args.images.now) (write_answer c.args.self.now.setting (debug_state c.args.self.now c.args.images.now) n c.in-Write.at c.in-Write.count c.in-Write.named.now)))
     c.number-number.ensures (c.write.ensures.reported c.args.images.now))
 
-pub returns-in-Find-clause-reported : goal.returns-in-Find-clause-reported
-returns-in-Find-clause-reported g c =
-    asked_if c.find.result (g.W.Sink.contents c.args.sink.now) (g.W.Sink.contents c.find.new.sink)
-    (debug_state c.find.new.self c.args.images.now) (debug_state c.args.self.now c.args.images.now)
-    c.args.self.now.setting c.args.script.now.number c.args.words.now (block_lines c.args.script.now.left) _
-    (debug_request_of_command c.args.command) (sym (ap debug_request_of_command c.in-Find.is)) (c.find.ensures.reported c.args.images.now)
-
-pub returns-in-Mode-clause-reported : goal.returns-in-Mode-clause-reported
-returns-in-Mode-clause-reported g c =
-    asked_if c.mode_line.result (g.W.Sink.contents c.args.sink.now) (g.W.Sink.contents c.mode_line.new.sink)
-    (debug_state c.mode_line.new.self c.args.images.now) (debug_state c.args.self.now c.args.images.now)
-    c.args.self.now.setting c.args.script.now.number c.args.words.now (block_lines c.args.script.now.left) _
-    (debug_request_of_command c.args.command) (sym (ap debug_request_of_command c.in-Mode.is)) (c.mode_line.ensures.reported c.args.images.now)
-
 pub returns-in-Unknown-clause-reported : goal.returns-in-Unknown-clause-reported
 returns-in-Unknown-clause-reported g c =
     let d = debug_state c.args.self.now c.args.images.now in
@@ -176,37 +150,37 @@ pub returns-in-Stepping-clause-ends : goal.returns-in-Stepping-clause-ends
 returns-in-Stepping-clause-ends g c = c.stepping_line.ensures.ends
 
 pub returns-in-Mode-clause-left : goal.returns-in-Mode-clause-left
-returns-in-Mode-clause-left g c = left_alone c.mode_line.result _ c.args.script.now.left
+returns-in-Mode-clause-left g c = left_alone c.show.result _ c.args.script.now.left
     (ap debug_opens_block (ap debug_request_of_command c.in-Mode.is))
 
 pub returns-in-Mode-clause-number : goal.returns-in-Mode-clause-number
-returns-in-Mode-clause-number g c = number_alone c.mode_line.result _ c.args.script.now.number c.args.script.now.left
+returns-in-Mode-clause-number g c = number_alone c.show.result _ c.args.script.now.number c.args.script.now.left
     (ap debug_opens_block (ap debug_request_of_command c.in-Mode.is))
 
 pub returns-in-Mode-clause-ends : goal.returns-in-Mode-clause-ends
-returns-in-Mode-clause-ends g c = c.mode_line.ensures.ends
+returns-in-Mode-clause-ends g c = c.show.ensures.ends
 
 pub returns-in-View-clause-left : goal.returns-in-View-clause-left
-returns-in-View-clause-left g c = left_alone c.look.result _ c.args.script.now.left
+returns-in-View-clause-left g c = left_alone c.show-in-View.result _ c.args.script.now.left
     (ap debug_opens_block (ap debug_request_of_command c.in-View.is))
 
 pub returns-in-View-clause-number : goal.returns-in-View-clause-number
-returns-in-View-clause-number g c = number_alone c.look.result _ c.args.script.now.number c.args.script.now.left
+returns-in-View-clause-number g c = number_alone c.show-in-View.result _ c.args.script.now.number c.args.script.now.left
     (ap debug_opens_block (ap debug_request_of_command c.in-View.is))
 
 pub returns-in-View-clause-ends : goal.returns-in-View-clause-ends
-returns-in-View-clause-ends g c = c.look.ensures.ends
+returns-in-View-clause-ends g c = c.show-in-View.ensures.ends
 
 pub returns-in-Form-clause-left : goal.returns-in-Form-clause-left
-returns-in-Form-clause-left g c = left_alone c.show_form.result _ c.args.script.now.left
+returns-in-Form-clause-left g c = left_alone c.show-in-Form.result _ c.args.script.now.left
     (ap debug_opens_block (ap debug_request_of_command c.in-Form.is))
 
 pub returns-in-Form-clause-number : goal.returns-in-Form-clause-number
-returns-in-Form-clause-number g c = number_alone c.show_form.result _ c.args.script.now.number c.args.script.now.left
+returns-in-Form-clause-number g c = number_alone c.show-in-Form.result _ c.args.script.now.number c.args.script.now.left
     (ap debug_opens_block (ap debug_request_of_command c.in-Form.is))
 
 pub returns-in-Form-clause-ends : goal.returns-in-Form-clause-ends
-returns-in-Form-clause-ends g c = c.show_form.ensures.ends
+returns-in-Form-clause-ends g c = c.show-in-Form.ensures.ends
 
 pub returns-in-SetPc-clause-left : goal.returns-in-SetPc-clause-left
 returns-in-SetPc-clause-left g c = left_alone c.move_pc.result _ c.args.script.now.left
@@ -242,15 +216,15 @@ pub returns-in-Write-clause-ends : goal.returns-in-Write-clause-ends
 returns-in-Write-clause-ends g c = c.write.ensures.ends
 
 pub returns-in-Find-clause-left : goal.returns-in-Find-clause-left
-returns-in-Find-clause-left g c = left_alone c.find.result _ c.args.script.now.left
+returns-in-Find-clause-left g c = left_alone c.show-in-Find.result _ c.args.script.now.left
     (ap debug_opens_block (ap debug_request_of_command c.in-Find.is))
 
 pub returns-in-Find-clause-number : goal.returns-in-Find-clause-number
-returns-in-Find-clause-number g c = number_alone c.find.result _ c.args.script.now.number c.args.script.now.left
+returns-in-Find-clause-number g c = number_alone c.show-in-Find.result _ c.args.script.now.number c.args.script.now.left
     (ap debug_opens_block (ap debug_request_of_command c.in-Find.is))
 
 pub returns-in-Find-clause-ends : goal.returns-in-Find-clause-ends
-returns-in-Find-clause-ends g c = c.find.ensures.ends
+returns-in-Find-clause-ends g c = c.show-in-Find.ensures.ends
 
 pub returns-in-Forget-clause-left : goal.returns-in-Forget-clause-left
 returns-in-Forget-clause-left g c = left_alone c.forget.result _ c.args.script.now.left
@@ -264,15 +238,15 @@ pub returns-in-Forget-clause-ends : goal.returns-in-Forget-clause-ends
 returns-in-Forget-clause-ends g c = c.forget.ensures.ends
 
 pub returns-in-Counts-clause-left : goal.returns-in-Counts-clause-left
-returns-in-Counts-clause-left g c = left_alone c.counts.result _ c.args.script.now.left
+returns-in-Counts-clause-left g c = left_alone c.show-in-Counts.result _ c.args.script.now.left
     (ap debug_opens_block (ap debug_request_of_command c.in-Counts.is))
 
 pub returns-in-Counts-clause-number : goal.returns-in-Counts-clause-number
-returns-in-Counts-clause-number g c = number_alone c.counts.result _ c.args.script.now.number c.args.script.now.left
+returns-in-Counts-clause-number g c = number_alone c.show-in-Counts.result _ c.args.script.now.number c.args.script.now.left
     (ap debug_opens_block (ap debug_request_of_command c.in-Counts.is))
 
 pub returns-in-Counts-clause-ends : goal.returns-in-Counts-clause-ends
-returns-in-Counts-clause-ends g c = c.counts.ensures.ends
+returns-in-Counts-clause-ends g c = c.show-in-Counts.ensures.ends
 
 pub returns-in-Reset-clause-left : goal.returns-in-Reset-clause-left
 returns-in-Reset-clause-left g c = left_alone c.reset.result _ c.args.script.now.left
@@ -324,15 +298,6 @@ returns-in-Script-clause-setting g c = c.script_line.ensures.setting
 pub returns-in-Stepping-clause-setting : goal.returns-in-Stepping-clause-setting
 returns-in-Stepping-clause-setting g c = c.stepping_line.ensures.setting
 
-pub returns-in-Mode-clause-setting : goal.returns-in-Mode-clause-setting
-returns-in-Mode-clause-setting g c = c.mode_line.ensures.setting
-
-pub returns-in-View-clause-setting : goal.returns-in-View-clause-setting
-returns-in-View-clause-setting g c = c.look.ensures.setting
-
-pub returns-in-Form-clause-setting : goal.returns-in-Form-clause-setting
-returns-in-Form-clause-setting g c = c.show_form.ensures.setting
-
 pub returns-in-SetPc-clause-setting : goal.returns-in-SetPc-clause-setting
 returns-in-SetPc-clause-setting g c = c.move_pc.ensures.setting
 
@@ -342,14 +307,8 @@ returns-in-Put-clause-setting g c = c.put.ensures.setting
 pub returns-in-Write-clause-setting : goal.returns-in-Write-clause-setting
 returns-in-Write-clause-setting g c = c.write.ensures.setting
 
-pub returns-in-Find-clause-setting : goal.returns-in-Find-clause-setting
-returns-in-Find-clause-setting g c = c.find.ensures.setting
-
 pub returns-in-Forget-clause-setting : goal.returns-in-Forget-clause-setting
 returns-in-Forget-clause-setting g c = c.forget.ensures.setting
-
-pub returns-in-Counts-clause-setting : goal.returns-in-Counts-clause-setting
-returns-in-Counts-clause-setting g c = c.counts.ensures.setting
 
 pub returns-in-Reset-clause-setting : goal.returns-in-Reset-clause-setting
 returns-in-Reset-clause-setting g c = c.reset.ensures.setting
@@ -362,3 +321,77 @@ returns-in-Unknown-clause-setting g c = c.past_line.ensures.setting
 
 pub returns-in-SetPsr-clause-setting : goal.returns-in-SetPsr-clause-setting
 returns-in-SetPsr-clause-setting g c = c.set_psr.ensures.setting
+
+pub returns-in-View-clause-reported : goal.returns-in-View-clause-reported
+returns-in-View-clause-reported g c =
+    let old = c.args.self.now in
+    let d = debug_state old c.args.images.now in
+    let before = g.W.Sink.contents c.args.sink.now in
+    let after = g.W.Sink.contents c.show-in-View.new.sink in
+    let now = debug_state c.show-in-View.new.self c.args.images.now in
+    asked_if c.show-in-View.result before after now d old.setting c.args.script.now.number c.args.words.now
+    (block_lines c.args.script.now.left) _ (debug_request_of_command c.args.command)
+    (sym (ap debug_request_of_command c.in-View.is))
+    (shown_as c.view_text-text.result c.show-in-View.result (λ text. text.items ≡ view_text old.labels (state_of c.machine.result.now.guest) (view_request_of c.in-View.view)) before after now (λ text. view_answer old.setting d text.items) _
+    (λ text said. ap (view_answer old.setting d) (said ∙ ap (λ (m : MachineValue). view_text old.labels (state_of m.guest) (view_request_of c.in-View.view)) c.machine.ensures))
+    c.view_text-text.ensures (c.show-in-View.ensures.reported c.args.images.now))
+
+pub returns-in-Form-clause-reported : goal.returns-in-Form-clause-reported
+returns-in-Form-clause-reported g c =
+    let old = c.args.self.now in
+    let d = debug_state old c.args.images.now in
+    let before = g.W.Sink.contents c.args.sink.now in
+    let after = g.W.Sink.contents c.show-in-Form.new.sink in
+    let now = debug_state c.show-in-Form.new.self c.args.images.now in
+    asked_if c.show-in-Form.result before after now d old.setting c.args.script.now.number c.args.words.now
+    (block_lines c.args.script.now.left) _ (debug_request_of_command c.args.command)
+    (sym (ap debug_request_of_command c.in-Form.is))
+    (shown_as c.form_line.result c.show-in-Form.result _ before after now (λ text. view_answer old.setting d text.items) _
+    (λ text said. ap (view_answer old.setting d) said)
+    c.form_line.ensures (c.show-in-Form.ensures.reported c.args.images.now))
+
+pub returns-in-Find-clause-reported : goal.returns-in-Find-clause-reported
+returns-in-Find-clause-reported g c =
+    let old = c.args.self.now in
+    let d = debug_state old c.args.images.now in
+    let before = g.W.Sink.contents c.args.sink.now in
+    let after = g.W.Sink.contents c.show-in-Find.new.sink in
+    let now = debug_state c.show-in-Find.new.self c.args.images.now in
+    asked_if c.show-in-Find.result before after now d old.setting c.args.script.now.number c.args.words.now
+    (block_lines c.args.script.now.left) _ (debug_request_of_command c.args.command)
+    (sym (ap debug_request_of_command c.in-Find.is))
+    (shown_as c.find_text-text.result c.show-in-Find.result _ before after now (λ text. view_answer old.setting d text.items) _
+    (λ text said. ap (view_answer old.setting d) (said ∙ ap (λ (m : MachineValue). find_text (state_of m.guest).store.bytes c.in-Find.address c.in-Find.count
+    (or_no_bytes (named_bytes c.in-Find.named.now))) c.machine-in-Find.ensures))
+    c.find_text-text.ensures (c.show-in-Find.ensures.reported c.args.images.now))
+
+pub returns-in-Counts-clause-reported : goal.returns-in-Counts-clause-reported
+returns-in-Counts-clause-reported g c =
+    let old = c.args.self.now in
+    let d = debug_state old c.args.images.now in
+    let before = g.W.Sink.contents c.args.sink.now in
+    let after = g.W.Sink.contents c.show-in-Counts.new.sink in
+    let now = debug_state c.show-in-Counts.new.self c.args.images.now in
+    asked_if c.show-in-Counts.result before after now d old.setting c.args.script.now.number c.args.words.now
+    (block_lines c.args.script.now.left) _ (debug_request_of_command c.args.command)
+    (sym (ap debug_request_of_command c.in-Counts.is))
+    (shown_as c.counts_text-text.result c.show-in-Counts.result _ before after now (λ text. view_answer old.setting d text.items) _
+    (λ text said. ap (view_answer old.setting d) (said ∙ ap (λ (m : MachineValue). counts_text old.modes.counts (naming_on old.labels (state_of m.guest))
+    (state_of m.guest).store.bytes c.in-Counts.name.now) c.machine-machine-in-Counts.ensures))
+    c.counts_text-text.ensures (c.show-in-Counts.ensures.reported c.args.images.now))
+
+pub returns-in-Mode-clause-reported : goal.returns-in-Mode-clause-reported
+returns-in-Mode-clause-reported g c =
+    let old = c.args.self.now in
+    let d = debug_state old c.args.images.now in
+    let on = λ (m : MachineValue). mode_answer (state_of m.guest) old.modes (mode_request_of c.in-Mode.command) in
+    let before = g.W.Sink.contents c.args.sink.now in
+    let after = g.W.Sink.contents c.show.new.sink in
+    let now = debug_state c.show.new.self c.args.images.now in
+    asked_if c.show.result before after now d old.setting c.args.script.now.number c.args.words.now
+    (block_lines c.args.script.now.left) _ (debug_request_of_command c.args.command)
+    (sym (ap debug_request_of_command c.in-Mode.is))
+    (shown_as c.change-text.result c.show.result _ before after now (λ text. view_answer old.setting (record d { modes = c.change-text.new.self }) text.items) _
+    (λ text said. changed_modes old.setting d c.change-text.new.self text.items _ (said.state ∙ ap (λ (m : MachineValue). (on m).modes) c.machine-machine.ensures)
+    (said.answer ∙ ap (λ (m : MachineValue). (on m).text) c.machine-machine.ensures))
+    c.change-text.ensures.reported (c.show.ensures.reported c.args.images.now))
