@@ -1,5 +1,5 @@
 -- Which lines were answered, and that each of them has its records.
-use Rattle.std.proofs.Common.{◌≡◌, ◌∙◌, ◌<◌, ◌≤◌, ℕ, ◌+◌, Bool, true, false, List, [], ◌∷◌, ◌++◌, drop, take, Option, None, Some, is_some, nat_lt, refl, sym, subst}
+use Rattle.std.proofs.Common.{◌≡◌, ◌<◌, ◌≤◌, ℕ, ◌+◌, Bool, true, false, List, [], ◌∷◌, ◌++◌, drop, take, Option, None, Some, is_some, nat_lt, refl, sym, subst}
 use Rattle.std.specs.Prelude.{option_map, if◌then◌else◌, ◌==◌, ◌&&◌, codes, IfSome}
 use Rattle.std.specs.List.{flat_map, position}
 use Rattle.std.specs.Option.{option_or}
@@ -23,6 +23,7 @@ use Rattle.profile.specs.images.Entries.{Entry}
 use Rattle.debug_records.specs.AnsweredLines.{RecordedLine, answer_by, AreLinesBetween, RecordingState, again_or_next, answered_state, behind, limit_after, next_answered, next_line, no_more, once, request_meant, state_behind, step_number, steps_asked, steps_of_line, then_line, this_time, typed_line}
 use Rattle.debug_records.specs.LineRecords.{Adds, AreRecorded, AreRecords, RecordForm, forms_of, line_forms, no_records}
 use Rattle.debug_records.specs.Recording.{recording_start, without_past}
+use Rattle.debug_records.specs.Taking.{IsFirstRecorded, IsLineRecorded}
 use Rattle.debug_records.proofs.RecordLemmas.{also_written, none_written, then_written}
 use Rattle.debug_records.proofs.RecordedLines.{records_joined}
 
@@ -54,12 +55,12 @@ unfolding answer_by
 answered_by words at = refl
 
 -- how many steps a line took, by what it asks for
-pub taken_is : (slice meant read : List ℕ) (steps : Option SteppingCommand) (taken : ℕ) (debug after : DebugState)
-    → slice ≡ meant → meant ≡ read → option_map stepping_request_of steps ≡ steps_asked (request_meant slice)
+pub taken_is : (meant read : List ℕ) (steps : Option SteppingCommand) (taken : ℕ) (debug after : DebugState)
+    → meant ≡ read → option_map stepping_request_of steps ≡ steps_asked (request_meant meant)
     → taken ≡ (if is_some steps then debug.steps else 0) → debug ≡ after → taken ≡ steps_of_line (request_meant read) after
-taken_is slice meant read steps taken debug after same is asked h state =
+taken_is meant read steps taken debug after is asked h state =
     let here : option_map stepping_request_of steps ≡ steps_asked (request_meant read) =
-    subst (λ (words : List ℕ). option_map stepping_request_of steps ≡ steps_asked (request_meant words)) (same ∙ is) asked in
+    subst (λ (words : List ℕ). option_map stepping_request_of steps ≡ steps_asked (request_meant words)) is asked in
     subst (λ (request : Option SteppingRequest). taken ≡ (if is_some request then after.steps else 0)) here
     (by_some steps taken after (subst (λ (d : DebugState). taken ≡ (if is_some steps then d.steps else 0)) state h))
 
@@ -269,34 +270,32 @@ typed_repeat : (line : List ℕ) (at : RecordingState) (count : ℕ) (words : Li
 typed_repeat line at count words other some = rw (other, some) refl
 
 pub script_recorded : (line : List ℕ) (start after : RecordingState) (a b : Option (List ℕ))
-    → is_script_request (request_of line) ≡ true → Adds (AreRecords (line_forms line line None start)) a b
-    → after ≡ state_behind line line start → Adds (AreRecorded start.debug (Some (typed_line line start)) after.debug (next_line after)) a b
-script_recorded line start after a b is h state =
-    subst (λ (x : RecordedLine). Adds (AreRecorded start.debug (Some x) after.debug (next_line after)) a b) (typed_script line start is)
-    (once_recorded line line start after a b h state)
+    → is_script_request (request_of line) ≡ true → IsLineRecorded line line None start after a b
+    → IsFirstRecorded (typed_line line start) start after a b
+script_recorded line start after a b is h =
+    subst (λ (x : RecordedLine). IsFirstRecorded x start after a b) (typed_script line start is)
+    (once_recorded line line start after a b h.records h.state)
 
--- a line that is made tidy, as two slices of it are read
-pub tidy_recorded : (line tidy one two : List ℕ) (start after : RecordingState) (a b : Option (List ℕ))
-    → is_script_request (request_of line) ≡ false → tidy ≡ tidied_line line → one ≡ tidy → two ≡ tidy
-    → repeated_now (naming_of start.debug) one ≡ None → Adds (AreRecords (line_forms line two None start)) a b
-    → after ≡ state_behind line two start → Adds (AreRecorded start.debug (Some (typed_line line start)) after.debug (next_line after)) a b
-tidy_recorded line tidy one two start after a b other is first second none h state =
-    let here : two ≡ tidied_line line = second ∙ is in
-    subst (λ (x : RecordedLine). Adds (AreRecorded start.debug (Some x) after.debug (next_line after)) a b)
-    (typed_tidy line start other (subst (λ (ws : List ℕ). repeated_now (naming_of start.debug) ws ≡ None) (first ∙ is) none))
+-- a line that is made tidy
+pub tidy_recorded : (line words : List ℕ) (start after : RecordingState) (a b : Option (List ℕ))
+    → is_script_request (request_of line) ≡ false → words ≡ tidied_line line → repeated_now (naming_of start.debug) words ≡ None
+    → IsLineRecorded line words None start after a b → IsFirstRecorded (typed_line line start) start after a b
+tidy_recorded line words start after a b other is none h =
+    subst (λ (x : RecordedLine). IsFirstRecorded x start after a b)
+    (typed_tidy line start other (subst (λ (ws : List ℕ). repeated_now (naming_of start.debug) ws ≡ None) is none))
     (once_recorded line (tidied_line line) start after a b
-    (subst (λ (ws : List ℕ). Adds (AreRecords (line_forms line ws None start)) a b) here h)
-    (subst (λ (ws : List ℕ). after ≡ state_behind line ws start) here state))
+    (subst (λ (ws : List ℕ). Adds (AreRecords (line_forms line ws None start)) a b) is h.records)
+    (subst (λ (ws : List ℕ). after ≡ state_behind line ws start) is h.state))
 
-pub repeated_recorded : (line tidy slice : List ℕ) (count : ℕ) (words : List ℕ) (start after : RecordingState)
-    (a b : Option (List ℕ)) → is_script_request (request_of line) ≡ false → tidy ≡ tidied_line line → slice ≡ tidy
-    → repeated_now (naming_of start.debug) slice ≡ Some (count, words)
-    → Adds (AreRecorded start.debug (Some (this_time line words 0 count start)) after.debug (next_line after)) a b
-    → Adds (AreRecorded start.debug (Some (typed_line line start)) after.debug (next_line after)) a b
-repeated_recorded line tidy slice count words start after a b other is same some h =
-    subst (λ (x : RecordedLine). Adds (AreRecorded start.debug (Some x) after.debug (next_line after)) a b)
-    (typed_repeat line start count words other
-    (subst (λ (ws : List ℕ). repeated_now (naming_of start.debug) ws ≡ Some (count, words)) (same ∙ is) some))
+pub repeated_recorded : (line words : List ℕ) (count : ℕ) (again : List ℕ) (start after : RecordingState)
+    (a b : Option (List ℕ)) → is_script_request (request_of line) ≡ false → words ≡ tidied_line line
+    → repeated_now (naming_of start.debug) words ≡ Some (count, again)
+    → IsFirstRecorded (this_time line again 0 count start) start after a b
+    → IsFirstRecorded (typed_line line start) start after a b
+repeated_recorded line words count again start after a b other is some h =
+    subst (λ (x : RecordedLine). IsFirstRecorded x start after a b)
+    (typed_repeat line start count again other
+    (subst (λ (ws : List ℕ). repeated_now (naming_of start.debug) ws ≡ Some (count, again)) is some))
     h
 
 -- THE LINES OF A SCRIPT

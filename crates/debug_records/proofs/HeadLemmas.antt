@@ -7,36 +7,48 @@ use Rattle.profile.specs.text_lines.Lines.{ReadingPlace}
 use Rattle.command_shell_lines.specs.Blocks.{lines_in_block}
 use Rattle.debug_session.specs.DebugState.{DebugState}
 use Rattle.trace_effects.specs.record_text.Spelling.{comma_before, string_text}
-use Rattle.debug_records.specs.AnswerHeads.{answer_fields, answer_head}
 use Rattle.trace_json.specs.MachineState.{MachineState}
-use Rattle.debug_records.specs.LineRecords.{Adds, Changes, IsOfForm, IsRecord, RecordForm, Whole, answer_form, block_field, line_head, strings_text}
+use Rattle.debug_records.specs.AnsweredLines.{RecordingState, request_read, state_answered, state_behind, steps_of_line}
+use Rattle.debug_records.specs.LineRecords.{Adds, AreRecords, IsOfForm, IsRecord, RecordForm, Whole, answer_form, answer_record_form, block_field, line_forms, line_head, line_record_form, step_forms, strings_text, then_records}
 use Rattle.debug_records.specs.Moments.{IsAlike}
 use Rattle.debug_records.specs.declared.counts.LineCounts.{LineCounts}
-use Rattle.debug_records.proofs.MomentLemmas.{changes_from}
-use Rattle.debug_records.proofs.RecordLemmas.{joined}
+use Rattle.debug_records.specs.Taking.{IsLineRecorded, IsMomentPrinted, IsShown, forms_by}
+use Rattle.debug_records.proofs.MomentLemmas.{changes_from, shown_recorded}
+use Rattle.debug_records.proofs.RecordLemmas.{joined, then_written}
+use Rattle.debug_records.proofs.RecordedLines.{record_added}
+use Rattle.trace_effects.specs.declared.record_text.text.RecordText.{RecordText}
 
 -- THE RECORD OF AN ANSWER
 
-pub answer_whole : (remark stays resets : Bool) (x y : List ℕ) (s t : MachineState) (a b : Option (List ℕ)) → remark ≡ true → x ≡ y
-    → Adds (IsOfForm (Whole x)) a b → Adds (IsOfForm (answer_form remark stays resets y s t)) a b
-answer_whole true stays resets x y s t a b is same h = subst (λ (z : List ℕ). Adds (IsOfForm (Whole z)) a b) same h
-answer_whole false stays resets x y s t a b is same h = absurd (false≢true is)
+-- the records of a line behind its own
+abbrev pub forms_next : List ℕ → List ℕ → RecordingState → List RecordForm
+forms_next line words at =
+    let request = request_read line words at in
+    let after = state_answered words at in
+    let taken = steps_of_line request after in
+    step_forms (taken == 0) at.steps at.limit taken at.debug.script.machine after.script.machine
+    ++ (answer_record_form line words at ∷ [])
 
-pub answer_begins : (remark stays resets : Bool) (x y : List ℕ) (s t : MachineState) (a b : Option (List ℕ)) → remark ≡ false
-    → (stays && not resets) ≡ false → x ≡ y
-    → Adds (IsRecord x) a b → Adds (IsOfForm (answer_form remark stays resets y s t)) a b
-answer_begins true stays resets x y s t a b is some same h = absurd (false≢true (sym is))
-answer_begins false false resets x y s t a b is some same h = subst (λ (z : List ℕ). Adds (IsRecord z) a b) same h
-answer_begins false true true x y s t a b is some same h = subst (λ (z : List ℕ). Adds (IsRecord z) a b) same h
-answer_begins false true false x y s t a b is some same h = absurd (false≢true (sym some))
+pub answer_whole : (remark stays resets : Bool) (x : List ℕ) (s t : MachineState) (a b : Option (List ℕ)) → remark ≡ true
+    → Adds (IsOfForm (Whole x)) a b → Adds (IsOfForm (answer_form remark stays resets x s t)) a b
+answer_whole true stays resets x s t a b is h = h
+answer_whole false stays resets x s t a b is h = absurd (false≢true is)
 
-pub answer_changes : (remark stays resets : Bool) (x y : List ℕ) (s t : MachineState) (a b : Option (List ℕ)) → remark ≡ false
-    → (stays && not resets) ≡ true → x ≡ y
-    → Adds (IsOfForm (Changes x s t)) a b → Adds (IsOfForm (answer_form remark stays resets y s t)) a b
-answer_changes true stays resets x y s t a b is some same h = absurd (false≢true (sym is))
-answer_changes false false resets x y s t a b is some same h = absurd (false≢true some)
-answer_changes false true true x y s t a b is some same h = absurd (false≢true some)
-answer_changes false true false x y s t a b is some same h = subst (λ (z : List ℕ). Adds (IsOfForm (Changes z s t)) a b) same h
+pub answer_begins : (remark stays resets : Bool) (x : List ℕ) (s t : MachineState) (a b : Option (List ℕ)) → remark ≡ false
+    → (stays && not resets) ≡ false → Adds (IsRecord x) a b → Adds (IsOfForm (answer_form remark stays resets x s t)) a b
+answer_begins true stays resets x s t a b is some h = absurd (false≢true (sym is))
+answer_begins false false resets x s t a b is some h = h
+answer_begins false true true x s t a b is some h = h
+answer_begins false true false x s t a b is some h = absurd (false≢true (sym some))
+
+pub answer_changes : (remark stays resets : Bool) (x : List ℕ) (s t : MachineState) (changes : RecordText) (front rest : List ℕ)
+    (a b : Option (List ℕ)) → remark ≡ false → (stays && not resets) ≡ true → IsShown (codes "pc") s.cpu.pc s t changes
+    → IsMomentPrinted x front changes.bytes.items rest a b → Adds (IsOfForm (answer_form remark stays resets x s t)) a b
+answer_changes true stays resets x s t changes front rest a b is some shown printed = absurd (false≢true (sym is))
+answer_changes false false resets x s t changes front rest a b is some shown printed = absurd (false≢true some)
+answer_changes false true true x s t changes front rest a b is some shown printed = absurd (false≢true some)
+answer_changes false true false x s t changes front rest a b is some shown printed =
+    shown_recorded x (codes "pc") s.cpu.pc s t changes front rest a b shown printed
 
 answer_from : (remark stays resets : Bool) (head : List ℕ) (s m t : MachineState) (a b : Option (List ℕ)) → (stays ≡ true → IsAlike s m)
     → Adds (IsOfForm (answer_form remark stays resets head s t)) a b → Adds (IsOfForm (answer_form remark stays resets head m t)) a b
@@ -45,31 +57,44 @@ answer_from false false resets head s m t a b alike h = h
 answer_from false true true head s m t a b alike h = h
 answer_from false true false head s m t a b alike h = changes_from head s m t a b (alike refl) h
 
-same_form : (number n : ℕ) (remark r stepping s resets e : Bool) (taken t : ℕ) (counts c : LineCounts) (after d : DebugState)
-    (text x : List ℕ) (m last m' : MachineState) → number ≡ n → remark ≡ r → stepping ≡ s → resets ≡ e → taken ≡ t → counts ≡ c → after ≡ d → text ≡ x
-    → last ≡ m' → answer_form remark (taken == 0) resets (answer_head number (answer_fields remark stepping taken counts after text)) m last
-    ≡ answer_form r (t == 0) e (answer_head n (answer_fields r s t c d x)) m m'
-same_form number n remark r stepping s resets e taken t counts c after d text x m last m' f g h i j k l o p = rw (f, g, h, i, j, k, l, o, p) refl
+-- the records of the steps, and that of the answer, on a machine that is read as that of the twin
+pub answer_written : (remark stays resets : Bool) (x head : List ℕ) (steps : List RecordForm) (first s m t : MachineState)
+    (a b c : Option (List ℕ)) → x ≡ head → IsAlike first m → (stays ≡ true → s ≡ first) → Adds (AreRecords steps) a b
+    → Adds (IsOfForm (answer_form remark stays resets x s t)) b c
+    → Adds (AreRecords (steps ++ (answer_form remark stays resets head m t ∷ []))) a c
+answer_written remark stays resets x head steps first s m t a b c same alike kept h k =
+    let last : RecordForm = answer_form remark stays resets head m t in
+    then_written (AreRecords steps) (IsOfForm last) (AreRecords (steps ++ (last ∷ []))) a b c
+    (λ y z are is. record_added steps last y z are is) h
+    (answer_from remark stays resets head s m t b c (λ none. subst (λ (n : MachineState). IsAlike n m) (sym (kept none)) alike)
+    (subst (λ (y : List ℕ). Adds (IsOfForm (answer_form remark stays resets y s t)) b c) same k))
 
 -- the same line, the same steps before it, and the same answer
-pub answer_is : (number n : ℕ) (remark r stepping s resets e : Bool) (taken t : ℕ) (counts c : LineCounts) (after d : DebugState)
-    (text x : List ℕ) (first m last m' : MachineState) (a b : Option (List ℕ)) → number ≡ n → remark ≡ r → stepping ≡ s → resets ≡ e
-    → taken ≡ t → counts ≡ c → after ≡ d → text ≡ x → last ≡ m' → ((taken == 0) ≡ true → IsAlike first m)
-    → Adds (IsOfForm (answer_form remark (taken == 0) resets (answer_head number (answer_fields remark stepping taken counts after text)) first last)) a b
-    → Adds (IsOfForm (answer_form r (t == 0) e (answer_head n (answer_fields r s t c d x)) m m')) a b
-answer_is number n remark r stepping s resets e taken t counts c after d text x first m last m' a b f g h i j k l o p alike written =
-    subst (λ (form : RecordForm). Adds (IsOfForm form) a b)
-    (same_form number n remark r stepping s resets e taken t counts c after d text x m last m' f g h i j k l o p)
-    (answer_from remark (taken == 0) resets (answer_head number (answer_fields remark stepping taken counts after text)) first m last a b alike written)
+pub same_forms : (remark r stepping s resets e : Bool) (taken t before limit : ℕ) (block place : ReadingPlace) (counts c : LineCounts)
+    (after d : DebugState) (text x : List ℕ) (m : MachineState) → remark ≡ r → stepping ≡ s → resets ≡ e → taken ≡ t → block ≡ place
+    → counts ≡ c → after ≡ d → text ≡ x → forms_by remark stepping resets taken before limit block.number counts after text m
+    ≡ forms_by r s e t before limit place.number c d x m
+same_forms remark r stepping s resets e taken t before limit block place counts c after d text x m f g h i j k l o =
+    rw (f, g, h, i, j, k, l, o) refl
+
+-- the record of a line, and those behind it
+pub line_recorded : (line words : List ℕ) (time : Option ℕ) (at after : RecordingState) (forms : List RecordForm)
+    (a b c : Option (List ℕ)) → Adds (IsOfForm (line_record_form line words time at)) a b → forms ≡ forms_next line words at
+    → after ≡ state_behind line words at → Adds (AreRecords forms) b c → IsLineRecorded line words time at after a c
+line_recorded line words time at after forms a b c first same state h = record {
+  records = then_written (IsOfForm (line_record_form line words time at)) (AreRecords (forms_next line words at))
+      (AreRecords (line_forms line words time at)) a b c (λ s t is are. then_records s is are) first
+      (subst (λ (fs : List RecordForm). Adds (AreRecords fs) b c) same h);
+  state = state;
+}
 
 pub written_is : (new old text : List ℕ) → old ≡ [] → new ≡ old ++ text → new ≡ text
 written_is new old text empty is = is ∙ ap (λ (t : List ℕ). t ++ text) empty
 
-pub line_is : (number n : ℕ) (line : List ℕ) (time : Option ℕ) (opens o : Bool) (block place : ReadingPlace) → number ≡ n
-    → opens ≡ o → block ≡ place
-    → Whole (line_head number line time ++ block_field opens (take (lines_in_block block.left) block.left))
-    ≡ Whole (line_head n line time ++ block_field o (take (lines_in_block place.left) place.left))
-line_is number n line time opens o block place e f g = rw (e, f, g) refl
+pub line_is : (line : List ℕ) (time : Option ℕ) (opens o : Bool) (block place : ReadingPlace) → opens ≡ o → block ≡ place
+    → Whole (line_head block.number line time ++ block_field opens (take (lines_in_block block.left) block.left))
+    ≡ Whole (line_head place.number line time ++ block_field o (take (lines_in_block place.left) place.left))
+line_is line time opens o block place e f = rw (e, f) refl
 
 -- THE LINES OF A BLOCK
 

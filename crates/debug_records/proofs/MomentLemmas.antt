@@ -1,5 +1,5 @@
 -- Records of moments are written, one behind another.
-use Rattle.std.proofs.Common.{◌≡◌, ◌∙◌, ℕ, ◌+◌, ◌-◌, ◌<◌, ◌≤◌, ◌%◌, ◌^◌, ◌==◌, min, Bool, true, false, is_some, List, [], ◌∷◌, ◌++◌, Option, Some, None, nat_lt, refl, sym, ap, subst, arith, inl, inr}
+use Rattle.std.proofs.Common.{◌≡◌, ◌∙◌, ℕ, ◌+◌, ◌<◌, ◌≤◌, ◌==◌, min, Bool, true, false, is_some, List, [], ◌++◌, Option, Some, None, refl, sym, ap, subst, arith, inl, inr}
 use Rattle.std.specs.Prelude.{◌||◌, codes, not, IfSome}
 use Rattle.std.proofs.lemmas.Bool.{cases_Bool, false≢true, le-ltb, lt-ltb}
 use Rattle.std.proofs.lemmas.List.{append-nil}
@@ -13,24 +13,25 @@ use Rattle.debug_session.proofs.StubLemmas.{real_steps}
 use Rattle.trace_effects.specs.Cause.{cause_of}
 use Rattle.trace_effects.specs.changes.Laws.{core_after}
 use Rattle.trace_effects.specs.declared.record_text.text.RecordText.{RecordText}
-use Rattle.trace_effects.specs.declared.shown_words.words.ShownWord.{ShownWord}
-use Rattle.trace_effects.specs.shown_words.Replay.{word_after, words_after}
 use Rattle.trace_json.specs.CoreFields.{core_fields}
 use Rattle.trace_json.specs.Fields.{entries}
-use Rattle.trace_json.specs.Moments.{ChangesKept, IsKeptBefore, IsMadeOutside, KeepsMemory, ShowsChanges, expected_at, is_copied, step_place_by, step_place, words_of}
+use Rattle.trace_json.specs.Moments.{ChangesKept, IsMadeOutside, KeepsMemory, ShowsChanges, expected_at, is_copied, step_place_by, step_place, words_of}
 use Rattle.trace_json.specs.PlainSteps.{PlainStepsStore, is_plain}
 use Rattle.trace_json.specs.declared.before.MemoryBefore.{MemoryBefore}
 use Rattle.trace_json.specs.declared.before.StepKind.{StepKind}
 use Rattle.trace_json.specs.declared.before.StepKind.TheVariants.{Outside}
 use Rattle.trace_json.specs.OtherFields.{are_others}
-use Rattle.trace_json.specs.WordFields.{AreWordChanges, word_fields}
+use Rattle.trace_json.specs.WordFields.{word_fields}
 use Rattle.trace_json.specs.declared.step.StepBefore.{StepBefore}
 use Rattle.trace_json.proofs.PrefixLemmas.{words_alike}
 use Rattle.trace_json.proofs.MomentLemmas.{copied_changes, core_replays, kept_behind, step_changes, words_same}
 use Rattle.debug_records.specs.AnsweredLines.{step_number}
-use Rattle.debug_records.specs.LineRecords.{Adds, AreRecords, Changes, IsOfForm, RecordForm, Steps, step_forms}
-use Rattle.debug_records.specs.Moments.{AreStepRecords, AreSteps, AreStepsOfLine, IsAlike, IsMoment, IsRest, IsRestIf, IsSet, IsStepRecord, IsRecordText, moment_text, no_steps, place_field, step_head, then_step}
-use Rattle.debug_records.specs.Taking.{IsNoText, IsStepTaken, IsTakenFrom}
+use Rattle.debug_records.specs.LineRecords.{Adds, AreRecords, Changes, IsOfForm, Steps, step_forms}
+use Rattle.debug_records.specs.Moments.{AreStepRecords, AreSteps, IsAlike, IsMoment, IsRest, IsRestIf, IsSet, IsStepRecord, IsRecordText, moment_text, no_steps, place_field, step_head, then_step}
+use Rattle.debug_records.specs.Recording.{session_machine, twin_machine}
+use Rattle.debug_records.specs.Taking.{IsMomentPrinted, IsNoText, IsShown, IsStepPushed, IsStepShown, IsStepTaken, IsTakenFrom}
+use Rattle.debug_records.specs.declared.recorder.Twin.{Twin}
+use Rattle.debug_session.specs.declared.session.DebugSession.{DebugSession}
 use Rattle.debug_records.proofs.RecordLemmas.{also_written, none_written, then_written}
 use Rattle.debug_records.proofs.RecordedLines.{one_record}
 
@@ -42,7 +43,7 @@ fields_are old new fields none is =
     is ∙ (ap (λ (t : List ℕ). t ++ entries old.follows fields) none.bytes ∙ ap (λ (f : Bool). entries f fields) none.follows)
 
 -- what differs was written where nothing stood, and then the record
-pub moment_written : (head name : List ℕ) (expected : ℕ) (s t : MachineState) (old new : RecordText) (front rest : List ℕ)
+moment_written : (head name : List ℕ) (expected : ℕ) (s t : MachineState) (old new : RecordText) (front rest : List ℕ)
     (a b : Option (List ℕ)) → IsNoText old → ShowsChanges name expected s t old new → are_others front ≡ true → are_others rest ≡ true
     → Adds (IsRecordText (moment_text head front new.bytes.items rest)) a b → Adds (IsMoment head name expected s t) a b
 moment_written head name expected s t old new front rest a b none shows ahead behind =
@@ -59,13 +60,31 @@ moment_written head name expected s t old new front rest a b none shows ahead be
       words_replay = shows.words_are;
     })
 
--- the same, where the fields that differ are those that were written last
-pub moment_recorded : (head name : List ℕ) (expected : ℕ) (s t : MachineState) (first old new last : RecordText) (front rest : List ℕ)
-    (a b : Option (List ℕ)) → IsNoText first → old ≡ first → last ≡ new → ShowsChanges name expected s t old new → are_others front ≡ true
-    → are_others rest ≡ true → Adds (IsRecordText (moment_text head front last.bytes.items rest)) a b → Adds (IsMoment head name expected s t) a b
-moment_recorded head name expected s t first old new last front rest a b none begins ends shows ahead behind written =
-    moment_written head name expected s t old new front rest a b (subst IsNoText (sym begins) none) shows ahead behind
-    (subst (λ (x : RecordText). Adds (IsRecordText (moment_text head front x.bytes.items rest)) a b) ends written)
+pub shown_recorded : (head name : List ℕ) (expected : ℕ) (s t : MachineState) (changes : RecordText) (front rest : List ℕ)
+    (a b : Option (List ℕ)) → IsShown name expected s t changes → IsMomentPrinted head front changes.bytes.items rest a b
+    → Adds (IsMoment head name expected s t) a b
+shown_recorded head name expected s t changes front rest a b shown printed =
+    moment_written head name expected s t shown.old changes front rest a b shown.none shown.shows printed.others printed.others_behind
+    printed.written
+
+pub shown_from : (name : List ℕ) (expected : ℕ) (s t : MachineState) (old new : RecordText) → IsNoText old
+    → ShowsChanges name expected s t old new → IsShown name expected s t new
+shown_from name expected s t old new none shows = record { old = old; none = none; shows = shows }
+
+-- what differs of a machine that is another, written where nothing else was before it nor behind it
+pub shows_between : (name : List ℕ) (expected : ℕ) (s t u : MachineState) (old first new last : RecordText) → t ≡ u → first ≡ old
+    → ShowsChanges name expected s t first new → last ≡ new → ShowsChanges name expected s u old last
+shows_between name expected s t u old first new last now begins shows ends =
+    subst (λ (x : RecordText). ShowsChanges name expected s u old x) (sym ends)
+    (subst (λ (x : RecordText). ShowsChanges name expected s u x new) begins
+    (subst (λ (m : MachineState). ShowsChanges name expected s m first new) now shows))
+
+-- the same of a session's machine that stays
+pub shows_behind : (name : List ℕ) (expected : ℕ) (s t : MachineState) (d e : DebugSession) (old new last : RecordText)
+    → t ≡ session_machine d → ShowsChanges name expected s t old new → last ≡ new → e ≡ d
+    → ShowsChanges name expected s (session_machine e) old last
+shows_behind name expected s t d e old new last now shows ends stays =
+    shows_between name expected s t (session_machine e) old old new last (now ∙ sym (ap session_machine stays)) refl shows ends
 
 -- words that are replayed, at an address
 where_alike : (head name : List ℕ) (s m t : MachineState) (text : List ℕ) → IsAlike s m → IsMoment head name s.cpu.pc s t text
@@ -106,39 +125,58 @@ there_by : (kind : StepKind) (pc at : ℕ) → pc ≡ at → IfSome (step_place_
 there_by (Outside number) pc at is = tt
 there_by kind pc at is = is
 
--- a step that was taken, and what was set in the core behind it
-pub step_recorded : (number : ℕ) (is_first is_last : Bool) (s t0 t : MachineState) (before : StepBefore) (reported : State) (cleared old new last : RecordText)
-    (front rest head : List ℕ) (place : Option ℕ) (a b : Option (List ℕ)) → IsStepTaken is_first s t0 before → IsSet t0 t
-    → (is_last ≡ false → t ≡ t0) → reported ≡ s.cpu
-    → ((s' e : MachineState) → reported ≡ s'.cpu → words_of e ≡ words_of s' → IsKeptBefore before e → ChangesKept before.memory e t
-    → ShowsChanges (codes "next") (expected_at (step_place before) e.cpu.pc (is_some t.halt)) s' t old new)
-    → IsNoText cleared → old ≡ cleared → last ≡ new → are_others front ≡ true → are_others rest ≡ true
-    → head ≡ step_head number ++ place_field place → place ≡ step_place before
-    → Adds (IsRecordText (moment_text head front last.bytes.items rest)) a b → Adds (IsStepRecord number is_first is_last s t) a b
-step_recorded number is_first is_last s t0 t before reported cleared old new last front rest head place a b taken set earlier core shows none opens
-    ends ahead behind begins there written =
+-- a step that was taken, what was set in the core behind it, and what was written of both
+pub step_shown : (is_first is_last : Bool) (s t0 settled : MachineState) (before : StepBefore) (reported : State) (cleared : RecordText)
+    (old new : Twin) → IsStepTaken is_first s t0 before → IsSet t0 settled → (is_last ≡ false → settled ≡ t0)
+    → twin_machine old ≡ settled → reported ≡ s.cpu → IsNoText cleared → old.changes ≡ cleared → (place : Option ℕ)
+    → IsStepPushed before reported old new place → IsStepShown is_first is_last s (twin_machine new) place new.changes
+step_shown is_first is_last s t0 settled before reported cleared old new taken set earlier here core none opens place pushed =
+    let t = pushed.machine in
+    let now : t ≡ settled = pushed.same ∙ here in
+    let ends : t ≡ twin_machine new = pushed.same ∙ sym (ap session_machine pushed.session) in
     let e = taken.entered in
-    let kept : ChangesKept before.memory e t = kept_behind e t0 t before.memory set.store set.halt taken.taken.kept in
+    let leaves : IsSet t0 t = subst (λ (m : MachineState). IsSet t0 m) (sym now) set in
+    let kept : ChangesKept before.memory e t = kept_behind e t0 t before.memory leaves.store leaves.halt taken.taken.kept in
     let words : words_of e ≡ words_of s = words_same s e taken.set.store in
-    let expected : ℕ = expected_at (step_place before) s.cpu.pc (is_some t.halt) in
-    let shown = step_from before s e t old new taken.stays (shows s e core words taken.taken.keeps kept) in
-    let at : head ≡ step_head number ++ place_field (step_place before) =
-    begins ∙ ap (λ (p : Option ℕ). step_head number ++ place_field p) there in
-    also_written (IsMoment (step_head number ++ place_field (step_place before)) (codes "next") expected s t)
-    (IsStepRecord number is_first is_last s t) a b (λ text moment. record {
+    subst (λ (p : Option ℕ). IsStepShown is_first is_last s (twin_machine new) p new.changes) (sym pushed.there)
+    (subst (λ (m : MachineState). IsStepShown is_first is_last s m (step_place before) new.changes) ends (record {
       entered = e;
       left = t0;
       enters = taken.set;
       step = taken.taken.step;
-      leaves = set;
+      leaves = leaves;
       later = taken.later;
-      earlier = earlier;
-      place = step_place before;
+      earlier = λ more. now ∙ earlier more;
       there = there_by before.kind before.cpu.pc e.cpu.pc (ap (λ (x : State). x.pc) taken.taken.keeps.core);
+      shown = record {
+        old = old.changes;
+        none = subst IsNoText (sym opens) none;
+        shows = step_from before s e t old.changes new.changes taken.stays (pushed.shows s e core words taken.taken.keeps kept);
+      };
+    }))
+
+-- its record
+pub step_recorded : (number : ℕ) (is_first is_last : Bool) (s t : MachineState) (place : Option ℕ) (changes : RecordText)
+    (front rest head : List ℕ) (a b : Option (List ℕ)) → IsStepShown is_first is_last s t place changes
+    → head ≡ step_head number ++ place_field place → IsMomentPrinted head front changes.bytes.items rest a b
+    → Adds (IsStepRecord number is_first is_last s t) a b
+step_recorded number is_first is_last s t place changes front rest head a b shown begins printed =
+    let expected : ℕ = expected_at place s.cpu.pc (is_some t.halt) in
+    also_written (IsMoment (step_head number ++ place_field place) (codes "next") expected s t)
+    (IsStepRecord number is_first is_last s t) a b (λ text moment. record {
+      entered = shown.entered;
+      left = shown.left;
+      enters = shown.enters;
+      step = shown.step;
+      leaves = shown.leaves;
+      later = shown.later;
+      earlier = shown.earlier;
+      place = place;
+      there = shown.there;
       moment = moment;
     })
-    (subst (λ (x : List ℕ). Adds (IsMoment x (codes "next") expected s t) a b) at
-    (moment_recorded head (codes "next") expected s t cleared old new last front rest a b none opens ends shown ahead behind written))
+    (subst (λ (x : List ℕ). Adds (IsMoment x (codes "next") expected s t) a b) begins
+    (shown_recorded head (codes "next") expected s t changes front rest a b shown.shown printed))
 
 -- what is kept before a step knows all that it changes, and before what a stub does in its place
 pub taken_kept : (stubs : List Stub) (images : List Entry) (s t : MachineState) (deed : Option StubDeedState) (stubbed : Bool) (memory : MemoryBefore)
@@ -169,6 +207,16 @@ inside_taken is_first s e t before set later inside taken = record {
   set = set;
   later = later;
   stays = λ outside. absurd (no_place (step_place before) inside outside);
+  taken = taken;
+}
+
+-- a call from outside
+pub outside_taken : (is_first : Bool) (s t : MachineState) (before : StepBefore) → IsTakenFrom s t before → IsStepTaken is_first s t before
+outside_taken is_first s t before taken = record {
+  entered = s;
+  set = record { store = refl; halt = refl };
+  later = λ more. refl;
+  stays = λ outside. refl;
   taken = taken;
 }
 
@@ -213,16 +261,8 @@ some_steps before limit taken s t u a b c beyond =
     })
 
 -- those of a line
-pub line_stepped : (before limit taken : ℕ) (s t m m' : MachineState) (a b : Option (List ℕ)) → IsAlike s m → IsAlike t m'
-    → Adds (AreSteps before limit taken s t) a b → Adds (AreRecords (step_forms false before limit taken m m')) a b
-line_stepped before limit taken s t m m' a b starts ends =
+pub line_stepped : (before limit taken : ℕ) (s t m m' : MachineState) (a b : Option (List ℕ)) → IsAlike s m
+    → Adds (AreSteps before limit taken s t) a b → IsAlike t m' → Adds (AreRecords (step_forms false before limit taken m m')) a b
+line_stepped before limit taken s t m m' a b starts written ends =
     also_written (AreSteps before limit taken s t) (AreRecords (step_forms false before limit taken m m')) a b
-    (λ x are. one_record (Steps before limit taken m m') x (record { first = s; last = t; starts = starts; steps = are; ends = ends }))
-
--- the same, by what the line took, and the machine behind it
-pub steps_are : (before limit taken t : ℕ) (m last m' : MachineState) (a b : Option (List ℕ)) → taken ≡ t
-    → last ≡ m' → Adds (AreRecords (step_forms (taken == 0) before limit taken m last)) a b
-    → Adds (AreRecords (step_forms (t == 0) before limit t m m')) a b
-steps_are before limit taken t m last m' a b took behind h =
-    subst (λ (forms : List RecordForm). Adds (AreRecords forms) a b)
-    (ap (λ (n : ℕ). step_forms (n == 0) before limit n m last) took ∙ ap (step_forms (t == 0) before limit t m) behind) h
+    (λ x are. one_record (Steps before limit taken m m') x (record { first = s; last = t; starts = starts; steps = are; ends = ends })) written

@@ -1,7 +1,7 @@
 -- How the records of a script are put together.
-use Rattle.std.proofs.Common.{◌≡◌, ◌∙◌, ℕ, Bool, true, false, List, [], ◌++◌, Option, refl, ap, subst, append_assoc}
+use Rattle.std.proofs.Common.{◌≡◌, ◌∙◌, ℕ, Bool, true, false, List, [], ◌++◌, Option, Result, Ok, Err, refl, ap, subst, append_assoc}
 use Rattle.std.proofs.lemmas.List.Folds.{list_all-append}
-use Rattle.std.specs.Prelude.{codes}
+use Rattle.std.specs.Prelude.{IfOk, OnOk, codes}
 use Rattle.profile.specs.text_sink.Safe.{AddsSafe, is_safe}
 use Rattle.trace_effects.specs.record_text.Spelling.{comma_before}
 use Rattle.trace_effects.proofs.RecordTextLemmas.WritingLemmas.{nothing_adds, then_added, then_adds}
@@ -13,6 +13,19 @@ use Rattle.debug_records.specs.AnsweredLines.{RecordingState}
 use Rattle.debug_records.specs.LineRecords.{Adds, AreAllRecorded, IsRecord}
 use Rattle.debug_records.specs.Recording.{recording_start}
 use Rattle.debug_records.specs.Records.{HasAllRecords, IsLastRecord, first_head}
+
+-- What holds of a result.
+pub in_any_case : {T E : Type 0} (r : Result T E) (P : Type 0) → P → OnOk r P
+in_any_case (Ok x) P is = is
+in_any_case (Err e) P is = record {}
+
+pub on_ok_both : {T E : Type 0} (r : Result T E) (P Q R : Type 0) → (P → Q → R) → OnOk r P → OnOk r Q → OnOk r R
+on_ok_both (Ok x) P Q R both h k = both h k
+on_ok_both (Err e) P Q R both h k = record {}
+
+pub if_ok_both : {T E : Type 0} (r : Result T E) (P Q R : T → Type 0) → ((x : T) → P x → Q x → R x) → IfOk r P → IfOk r Q → IfOk r R
+if_ok_both (Ok x) P Q R both h k = both x h k
+if_ok_both (Err e) P Q R both h k = record {}
 
 -- A text behind another.
 pub then_written : (P Q R : List ℕ → Type 0) (a b c : Option (List ℕ))

@@ -1,5 +1,5 @@
 -- What is the same where nothing differs.
-use Rattle.std.proofs.Common.{◌≡◌, ◌∙◌, ◌+◌, ◌%◌, ◌<◌, ◌^◌, ℕ, ◌==◌, length, Bool, true, false, List, [], ◌∷◌, refl, sym, ap, arith}
+use Rattle.std.proofs.Common.{◌≡◌, ◌∙◌, ◌%◌, ℕ, ◌==◌, length, Bool, true, false, List, [], ◌∷◌, refl, sym, ap, arith}
 use Rattle.std.proofs.lemmas.Bool.{eqb-true, false≢true}
 use Rattle.std.proofs.Math.Bool.{beq}
 use Rattle.std.specs.Prelude.{◌&&◌, not}
@@ -12,7 +12,6 @@ use Rattle.trace_effects.specs.changes.Laws.{registers_after}
 use Rattle.trace_effects.specs.declared.changes.registers.RegisterChange.{RegisterChange}
 use Rattle.trace_effects.specs.declared.shown_words.words.ShownWord.{ShownWord}
 use Rattle.trace_effects.specs.shown_words.Replay.{words_after}
-use Rattle.trace_json.specs.Moments.{words_of}
 use Rattle.debug_records.specs.Moments.{IsAlike}
 
 pub none_differ : (cs : List RegisterChange) (f g : List ℕ) → (length cs == 0) ≡ true → registers_after f cs ≡ g → f ≡ g

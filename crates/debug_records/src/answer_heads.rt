@@ -7,45 +7,34 @@ ghost use Rattle.profile.specs.images.Entries.{Entry};
 ghost use Rattle.debug_session.specs.Session.{debug_state};
 ghost use Rattle.debug_records.specs.AnswerHeads.{answer_fields, answer_head, expect_field, is_remark_use, is_stepping_use, reason_from, reason_in, refused_field, steps_field, text_field, without_end};
 
-use crate::answers::AnswerParts;
+use crate::answers::AnsweredLine;
 use crate::counts::LineCounts;
 use crate::lines::LineUse;
 use crate::records::head_of;
-use debug_session::DebugSession;
 use std::alloc::{AllocError, Global};
 use trace_effects::record_text::{Bracket, RecordText};
 
 /// The line's number, and what the line was answered.
-pub(crate) fn answer_head(
-    alloc: Global,
-    session: &DebugSession,
-    parts: &AnswerParts<'_>,
-    used: &LineUse<'_>,
-) -> Result<RecordText, AllocError>
-    ensures { (held : List Entry) → IfOk result (λ head. head.bytes.items
-        ≡ answer_head parts.now.number (answer_fields (is_remark_use used.now) (is_stepping_use used.now)
-        parts.now.taken parts.now.counts (debug_state session.now held) parts.now.answer.now)) }
+pub(crate) fn answer_head(alloc: Global, line: &AnsweredLine<'_>) -> Result<RecordText, AllocError>
+    ensures { (held : List Entry) → let l = line.now in IfOk result (λ head. head.bytes.items
+        ≡ answer_head l.block.now.number (answer_fields (is_remark_use l.used) (is_stepping_use l.used)
+        l.taken l.counts (debug_state l.session.now held) l.answer.now)) }
 {
-    let mut head = head_of(alloc, b"answer", parts.number as u64)?;
-    push_answer(&mut head, session, parts, used)?;
+    let mut head = head_of(alloc, b"answer", line.block.number() as u64)?;
+    push_answer(&mut head, line)?;
     Ok(head)
 }
 
-fn push_answer(
-    head: &mut RecordText,
-    session: &DebugSession,
-    parts: &AnswerParts<'_>,
-    used: &LineUse<'_>,
-) -> Result<(), AllocError>
+fn push_answer(head: &mut RecordText, line: &AnsweredLine<'_>) -> Result<(), AllocError>
     requires { head.old.follows ≡ true }
-    ensures { (held : List Entry) → OnOk result (head.new.bytes.items ≡ head.old.bytes.items
-        ++ answer_fields (is_remark_use used.now) (is_stepping_use used.now) parts.now.taken
-        parts.now.counts (debug_state session.now held) parts.now.answer.now) }
+    ensures { (held : List Entry) → let l = line.now in OnOk result (head.new.bytes.items
+        ≡ head.old.bytes.items ++ answer_fields (is_remark_use l.used) (is_stepping_use l.used)
+        l.taken l.counts (debug_state l.session.now held) l.answer.now) }
 {
-    match *used {
+    match line.used {
         LineUse::Remark => head.truth_field(b"remark"),
-        LineUse::Steps => push_stepped(head, parts.taken, session.answer()),
-        _ => push_plain(head, parts, LineCounts::of(session)),
+        LineUse::Steps => push_stepped(head, line.taken, line.session.answer()),
+        _ => push_plain(head, line, LineCounts::of(line.session)),
     }
 }
 
@@ -73,17 +62,16 @@ fn push_steps(head: &mut RecordText, taken: u64) -> Result<(), AllocError>
 // What a line is answered that takes no steps.
 fn push_plain(
     head: &mut RecordText,
-    parts: &AnswerParts<'_>,
+    line: &AnsweredLine<'_>,
     counts: LineCounts,
 ) -> Result<(), AllocError>
     requires { head.old.follows ≡ true }
-    ensures { OnOk result (head.new.bytes.items ≡ head.old.bytes.items
-        ++ (text_field parts.now.answer.now ++ (refused_field parts.now.counts counts
-        ++ expect_field parts.now.counts counts parts.now.answer.now))) }
+    ensures { OnOk result (head.new.bytes.items ≡ head.old.bytes.items ++ (text_field line.now.answer.now ++
+        (refused_field line.now.counts counts ++ expect_field line.now.counts counts line.now.answer.now))) }
 {
-    push_text(head, parts.answer)?;
-    push_refused(head, parts.counts, counts)?;
-    push_verdict(head, parts, counts)
+    push_text(head, line.answer)?;
+    push_refused(head, line.counts, counts)?;
+    push_verdict(head, line, counts)
 }
 
 // A text without the end of its last line, if there is one.
@@ -128,20 +116,20 @@ fn push_refused(
 // Whether what a line expects is so, and what is so if not.
 fn push_verdict(
     head: &mut RecordText,
-    parts: &AnswerParts<'_>,
+    line: &AnsweredLine<'_>,
     counts: LineCounts,
 ) -> Result<(), AllocError>
     requires { head.old.follows ≡ true }
     ensures { OnOk result (head.new.bytes.items ≡ head.old.bytes.items
-        ++ expect_field parts.now.counts counts parts.now.answer.now) }
+        ++ expect_field line.now.counts counts line.now.answer.now) }
 {
-    if parts.counts.passed < counts.passed {
+    if line.counts.passed < counts.passed {
         return push_pass(head);
     }
-    if parts.counts.failed == counts.failed {
+    if line.counts.failed == counts.failed {
         return Ok(());
     }
-    push_fail(head, reason_in(parts.answer))
+    push_fail(head, reason_in(line.answer))
 }
 
 fn push_pass(head: &mut RecordText) -> Result<(), AllocError>

@@ -1,18 +1,20 @@
 //! The answer to a line, recorded.
 
-ghost use Rattle.std.specs.Prelude.{◌≡◌, ◌==◌, ◌&&◌, not, List, OnOk};
-ghost use Rattle.profile.specs.images.Entries.{Entry};
-ghost use Rattle.debug_session.specs.Session.{debug_state};
-ghost use Rattle.debug_records.specs.AnswerHeads.{answer_fields, answer_head, is_remark_use, is_reset_use, is_stepping_use};
-ghost use Rattle.debug_records.specs.LineRecords.{Adds, Changes, IsOfForm, IsRecord, answer_form};
+ghost use Rattle.std.specs.Prelude.{◌≡◌, ◌==◌, ◌&&◌, not, codes, OnOk};
+ghost use Rattle.debug_records.specs.AnswerHeads.{is_remark_use, is_reset_use};
+ghost use Rattle.debug_records.specs.LineRecords.{Adds, IsOfForm, answer_form};
 ghost use Rattle.debug_records.specs.Recording.{session_machine, twin_machine};
+ghost use Rattle.debug_records.specs.Taking.{IsShown};
+ghost use Rattle.trace_json.specs.MachineState.{MachineState};
+ghost use Rattle.trace_json.specs.Moments.{IsCopy, ShowsChanges};
 
-use crate::answer_heads::{answer_head, without_end};
+use crate::answer_heads::without_end;
 use crate::counts::LineCounts;
 use crate::lines::LineUse;
 use crate::recorder::Twin;
-use crate::records::{push_moment, push_record, push_whole};
+use crate::records::{push_record, push_whole};
 use command_shell_lines::skip_block;
+use debug_lines::SteppingCommand;
 use debug_session::{DebugSession, RunError};
 use profile::Sink;
 use profile::images::Images;
@@ -20,151 +22,144 @@ use profile::text_lines::{Lines, cut};
 use std::alloc::{AllocError, Global};
 use trace_effects::record_text::{Bracket, RecordText};
 use trace_json::{
-    MachineCopy, push_changed_store, push_changes, push_image, push_state, push_stop,
+    Machine, MachineCopy, push_changed_store, push_changes, push_image, push_state, push_stop,
 };
 
-/// A line that was answered.
+/// A line that a session has answered.
 #[derive(Clone, Copy)]
-pub(crate) struct AnswerParts<'a> {
-    /// Its number.
-    pub(crate) number: usize,
+pub(crate) struct AnsweredLine<'a> {
+    pub(crate) session: &'a DebugSession,
+    pub(crate) images: &'a Images,
+    /// What it asked for, by which words, and the lines behind it.
+    pub(crate) used: LineUse<'a>,
+    pub(crate) words: &'a [u8],
+    pub(crate) block: &'a Lines<'a>,
+    /// The steps that it asked for, how many were taken before it, how many of it are shown one by one, and
+    /// how many it took.
+    pub(crate) command: Option<SteppingCommand<'a>>,
+    pub(crate) before: u64,
+    pub(crate) limit: u64,
+    pub(crate) taken: u64,
     /// How many lines passed, failed and were refused before it.
     pub(crate) counts: LineCounts,
-    /// How many steps it took.
-    pub(crate) taken: u64,
     /// What was written.
     pub(crate) answer: &'a [u8],
 }
 
-impl AnswerParts<'_> {
+impl AnsweredLine<'_> {
     // Whether the record says what differs: steps have records of their own, and RESET shows the whole machine.
-    fn may_change(&self, used: &LineUse<'_>) -> bool
-        ensures { result ≡ ((self.now.taken == 0) && not (is_reset_use used.now)) }
+    fn may_change(&self) -> bool
+        ensures { result ≡ ((self.now.taken == 0) && not (is_reset_use self.now.used)) }
     {
-        self.taken == 0 && !matches!(used, LineUse::Reset)
+        self.taken == 0 && !matches!(self.used, LineUse::Reset)
     }
 }
 
 impl Twin {
-    /// Writes the record of an answer.
+    /// Writes the record of an answer, behind what it begins with: of a remark nothing; what the line
+    /// changed, with what stands before it; or of a line that took steps where they ended, and of RESET the
+    /// whole machine.
     pub(crate) fn print_answer<W: Sink>(
         &mut self,
-        session: &DebugSession,
-        images: &Images,
-        parts: &AnswerParts<'_>,
-        used: &LineUse<'_>,
-        block: &Lines,
-        sink: &mut W,
-    ) -> Result<(), RunError>
-        ensures { (held : List Entry) → OnOk result (Adds (IsOfForm (answer_form (is_remark_use used.now)
-            (parts.now.taken == 0) (is_reset_use used.now)
-            (answer_head parts.now.number (answer_fields (is_remark_use used.now) (is_stepping_use used.now)
-            parts.now.taken parts.now.counts (debug_state session.now held) parts.now.answer.now))
-            (twin_machine self.old) (session_machine session.now)))
-            (W.contents sink.old) (W.contents sink.new)) }
-    {
-        let head = answer_head(self.alloc, session, parts, used)?;
-        if used.is_remark() {
-            return Ok(push_whole(sink, &head)?);
-        }
-        if parts.may_change(used) {
-            return self.print_changed(session, images, parts, used, block, &head, sink);
-        }
-        self.print_without_changes(session, used, &head, sink)
-    }
-
-    // Writes that of a line that took steps: where they ended; or of RESET: the whole machine.
-    fn print_without_changes<W: Sink>(
-        &mut self,
-        session: &DebugSession,
-        used: &LineUse<'_>,
+        line: &AnsweredLine<'_>,
         head: &RecordText,
         sink: &mut W,
     ) -> Result<(), RunError>
-        ensures { OnOk result
-            (Adds (IsRecord head.now.bytes.items) (W.contents sink.old) (W.contents sink.new)) }
+        ensures { let l = line.now in OnOk result (Adds (IsOfForm (answer_form (is_remark_use l.used)
+            (l.taken == 0) (is_reset_use l.used) head.now.bytes.items (twin_machine self.old)
+            (session_machine l.session.now))) (W.contents sink.old) (W.contents sink.new)) }
     {
+        if line.used.is_remark() {
+            return push_whole(sink, head);
+        }
+        if line.may_change() {
+            self.show_changed(line)?;
+            return self.print_moment(head, sink);
+        }
+        self.show_others(line)?;
+        push_record(sink, head, &self.text)
+    }
+
+    // Writes the fields of where steps ended, or of the whole machine.
+    fn show_others(&mut self, line: &AnsweredLine<'_>) -> Result<(), AllocError> {
         self.text.clear();
-        if let LineUse::Reset = *used {
-            self.text.open_field(b"reset", Bracket::Object)?;
-            push_state(&mut self.text, session.machine())?;
-            self.text.close(Bracket::Object)?;
-        } else {
-            push_ending(self.alloc, &mut self.text, session)?;
+        match line.used {
+            LineUse::Reset => push_reset(&mut self.text, line.session.machine())?,
+            _ => push_ending(self.alloc, &mut self.text, line.session)?,
         }
-        self.push_places(Some(session))?;
-        Ok(push_record(sink, head, &self.text)?)
+        self.push_places(Some(line.session))
     }
 
-    // That of another answer: with what the line changed, and what stands before it.
-    fn print_changed<W: Sink>(
-        &mut self,
-        session: &DebugSession,
-        images: &Images,
-        parts: &AnswerParts<'_>,
-        used: &LineUse<'_>,
-        block: &Lines,
-        head: &RecordText,
-        sink: &mut W,
-    ) -> Result<(), RunError>
-        ensures { OnOk result (Adds (IsOfForm (Changes head.now.bytes.items (twin_machine self.old)
-            (session_machine session.now))) (W.contents sink.old) (W.contents sink.new)) }
+    // Writes those of what a line changed, and of what stands before that.
+    fn show_changed(&mut self, line: &AnsweredLine<'_>) -> Result<(), AllocError>
+        ensures { let s = twin_machine self.old in OnOk result
+            (IsShown (codes "pc") s.cpu.pc s (session_machine line.now.session.now) self.new.changes) }
     {
         let before = MachineCopy::of(self.alloc, self.session.machine())?;
         self.clear();
-        self.push_made(session, images, parts, used, block)?;
-        push_changes(self.alloc, &mut self.changes, &before, session.machine())?;
-        push_changed_store(self.alloc, &mut self.text, &before, session.machine())?;
-        self.push_places(Some(session))?;
-        Ok(push_moment(sink, head, &self.front, &self.changes, &self.text)?)
+        self.push_changed(&before, line)
+    }
+
+    // The same against a copy of the machine before.
+    fn push_changed(
+        &mut self,
+        before: &MachineCopy,
+        line: &AnsweredLine<'_>,
+    ) -> Result<(), AllocError>
+        ensures { (s : MachineState) → IsCopy before.now s → OnOk result (ShowsChanges (codes "pc") s.cpu.pc s
+            (session_machine line.now.session.now) self.old.changes self.new.changes) }
+    {
+        self.push_made(line)?;
+        let machine = line.session.machine();
+        push_changes(self.alloc, &mut self.changes, before, machine)?;
+        push_changed_store(self.alloc, &mut self.text, before, machine)?;
+        self.push_places(Some(line.session))
     }
 
     // The image that a block has made, if it has made one; where a line ended that took none of its steps.
-    fn push_made(
-        &mut self,
-        session: &DebugSession,
-        images: &Images,
-        parts: &AnswerParts<'_>,
-        used: &LineUse<'_>,
-        block: &Lines,
-    ) -> Result<(), AllocError>
+    fn push_made(&mut self, line: &AnsweredLine<'_>) -> Result<(), AllocError>
         ensures { OnOk result (self.new.changes ≡ self.old.changes) }
     {
-        let counts = LineCounts::of(session);
-        match *used {
-            LineUse::Steps => push_ending(self.alloc, &mut self.text, session)?,
-            LineUse::Block(name, origin) if parts.counts.refused == counts.refused => {
-                self.print_image(images, name, origin, block)?;
+        let counts = LineCounts::of(line.session);
+        match line.used {
+            LineUse::Steps => push_ending(self.alloc, &mut self.text, line.session),
+            LineUse::Block(name, origin) if line.counts.refused == counts.refused => {
+                self.print_image(line, name, origin)
             }
-            _ => {}
+            _ => Ok(()),
         }
-        Ok(())
     }
 
     fn print_image(
         &mut self,
-        images: &Images,
+        line: &AnsweredLine<'_>,
         name: &[u8],
         origin: Option<u32>,
-        block: &Lines,
     ) -> Result<(), AllocError>
         ensures { OnOk result (self.new.changes ≡ self.old.changes) }
     {
-        let Some(bytes) = images.get(name) else {
+        let Some(bytes) = line.images.get(name) else {
             return Ok(());
         };
         let length = bytes.len();
-        let count = skip_block(&mut block.again());
+        let count = skip_block(&mut line.block.again());
         let source = match origin {
-            Some(origin) => Some((block, count, origin)),
+            Some(origin) => Some((line.block, count, origin)),
             None => None,
         };
         push_image(self.alloc, &mut self.front, name, length, source)?;
         if origin.is_some() {
-            self.know(name)?;
+            return self.know(name);
         }
         Ok(())
     }
+}
+
+// The whole machine, behind RESET.
+fn push_reset(text: &mut RecordText, machine: &Machine) -> Result<(), AllocError> {
+    text.open_field(b"reset", Bracket::Object)?;
+    push_state(text, machine)?;
+    text.close(Bracket::Object)
 }
 
 // Where a stop that ended a line stands, or the number of the error.
@@ -178,11 +173,11 @@ fn push_ending(
         let stop = session.session.last();
         let at = session.machine().cpu().pc();
         let cause = first_word(behind.unwrap_or(b""));
-        push_stop(alloc, text, cause, stop, at)?;
+        return push_stop(alloc, text, cause, stop, at);
     }
     if word == b"error".as_slice() {
         let number = session.machine().error_number();
-        text.number_field(b"error", u64::from(number))?;
+        return text.number_field(b"error", u64::from(number));
     }
     Ok(())
 }

@@ -36,8 +36,7 @@ pub(crate) fn record_start<W: Sink>(
     push_setting(&mut head, setting, name)?;
     let mut state = RecordText::new(recorder.alloc);
     push_state(&mut state, recorder.session.machine())?;
-    push_record(sink, &head, &state)?;
-    Ok(())
+    push_record(sink, &head, &state)
 }
 
 // Begins the first record: the script's name, the sizes of its machine, and its bounds.
@@ -54,8 +53,7 @@ fn push_setting(
     text.string_field(b"name", name)?;
     push_sizes(text, setting.config)?;
     text.number_field(b"budget", setting.budget)?;
-    text.number_field(b"limit", FIRST_LIMIT)?;
-    Ok(())
+    text.number_field(b"limit", FIRST_LIMIT)
 }
 
 fn push_sizes(text: &mut RecordText, config: Config) -> Result<(), AllocError>
@@ -74,9 +72,8 @@ fn push_sizes(text: &mut RecordText, config: Config) -> Result<(), AllocError>
 /// Writes the last record: how many lines passed, failed and were refused, and the exit status, which it
 /// gives.
 pub(crate) fn record_end<W: Sink>(recorder: &Recorder, sink: &mut W) -> Result<u8, RunError>
-    ensures { (images : List Entry) → IfOk result (λ status.
-        Adds (IsLastRecord (debug_state recorder.now.session images) status)
-        (W.contents sink.old) (W.contents sink.new)) }
+    ensures { (images : List Entry) → IfOk result (λ status. Adds (IsLastRecord (debug_state
+        recorder.now.session images) status) (W.contents sink.old) (W.contents sink.new)) }
 {
     let mut text = RecordText::new(recorder.alloc);
     let status = recorder.session.status();
@@ -96,8 +93,7 @@ fn push_end(text: &mut RecordText, counts: LineCounts, status: u8) -> Result<(),
     text.number_field(b"failed", counts.failed)?;
     text.number_field(b"refused", counts.refused)?;
     text.number_field(b"status", u64::from(status))?;
-    end_record(text)?;
-    Ok(())
+    end_record(text)
 }
 
 // Ends the object and the line of a record.

@@ -3,20 +3,23 @@
 ghost use Rattle.std.specs.Prelude.{◌≡◌, ◌<◌, ◌-◌, ◌++◌, ◌==◌, false, true, take, List, Some, IfOk, OnOk, option_map, is_some, if◌then◌else◌};
 ghost use Rattle.profile.specs.images.Entries.{Entry};
 ghost use Rattle.command_shell_lines.specs.Blocks.{lines_in_block};
-ghost use Rattle.command_shell_lines.specs.Requests.{opens_block, request_of_command};
-ghost use Rattle.debug_lines.specs.DebugRequests.{Script, debug_opens_block};
+ghost use Rattle.command_shell_lines.specs.Requests.{opens_block, request_of, request_of_command};
+ghost use Rattle.debug_lines.specs.DebugRequests.{Script, debug_opens_block, is_script_request};
 ghost use Rattle.debug_lines.specs.SteppingRequests.{stepping_in, stepping_request_of};
+ghost use Rattle.debug_lines.specs.Tidy.{tidied_line};
 ghost use Rattle.debug_records.specs.AnswerHeads.{is_block_use, is_remark_use, is_reset_use, is_stepping_use};
 ghost use Rattle.debug_records.specs.AnsweredLines.{is_remark_request, is_reset_request, limit_after, next_line, request_meant, state_behind, steps_asked, this_time, typed_line, words_read};
 ghost use Rattle.debug_records.specs.LineRecords.{Adds, AreRecorded, AreRecords, IsOfForm, Whole, block_field, line_forms, line_head, step_forms, strings_text};
 ghost use Rattle.debug_records.specs.Moments.{IsAlike};
 ghost use Rattle.debug_records.specs.Recording.{recording_state, session_machine, twin_machine};
+ghost use Rattle.debug_records.specs.Taking.{IsFirstRecorded, IsLineRecorded, forms_behind};
 ghost use Rattle.debug_session.specs.Session.{debug_state};
 ghost use Rattle.trace_json.specs.MachineState.{MachineState};
 
-use crate::answers::AnswerParts;
+use crate::answer_heads::answer_head;
+use crate::answers::AnsweredLine;
 use crate::counts::LineCounts;
-use crate::recorder::{Recorder, SteppedLine, Twin};
+use crate::recorder::{Recorder, Twin};
 use crate::records::{line_head, push_whole};
 use crate::taking::take_or_let;
 use command_shell_lines::{ScriptCommand, command_of, skip_block};
@@ -82,8 +85,7 @@ fn use_of(words: &[u8]) -> LineUse<'_>
 }
 
 fn use_of_script<'a>(command: &ScriptCommand<'a>) -> LineUse<'a>
-    ensures remark { is_remark_use result
-        ≡ is_remark_request (Script (request_of_command command.now)) }
+    ensures remark { is_remark_use result ≡ is_remark_request (Script (request_of_command command.now)) }
     ensures stepping { is_stepping_use result ≡ is_some (stepping_in (request_of_command command.now)) }
     ensures block { is_block_use result ≡ opens_block (request_of_command command.now) }
     ensures resets { is_reset_use result ≡ false }
@@ -95,8 +97,7 @@ fn use_of_script<'a>(command: &ScriptCommand<'a>) -> LineUse<'a>
 }
 
 fn use_without_steps<'a>(command: &ScriptCommand<'a>) -> LineUse<'a>
-    ensures remark { is_remark_use result
-        ≡ is_remark_request (Script (request_of_command command.now)) }
+    ensures remark { is_remark_use result ≡ is_remark_request (Script (request_of_command command.now)) }
     ensures stepping { is_stepping_use result ≡ false }
     ensures block { is_block_use result ≡ opens_block (request_of_command command.now) }
     ensures resets { is_reset_use result ≡ false }
@@ -156,20 +157,34 @@ impl Recorder {
         script: &mut Lines,
         sink: &mut W,
     ) -> Result<(), RunError>
-        ensures { let before = recording_state self.old script.old in
-            let after = recording_state self.new script.new in
-            OnOk result (Adds (AreRecorded before.debug (Some (typed_line line.now before)) after.debug
-            (next_line after)) (W.contents sink.old) (W.contents sink.new)) }
+        ensures { let before = recording_state self.old script.old in OnOk result (IsFirstRecorded
+            (typed_line line.now before) before (recording_state self.new script.new)
+            (W.contents sink.old) (W.contents sink.new)) }
     {
         if is_script_line(line) {
             return self.record_line(line, line, None, script, sink);
         }
         let words = tidied(self.alloc, line)?;
-        match self.session.repeated(words.as_slice())? {
-            None => self.record_line(line, words.as_slice(), None, script, sink),
-            Some(repeated) => {
-                self.record_repeated(line, repeated.line, repeated.count, script, sink)
-            }
+        self.record_tidy(line, words.as_slice(), script, sink)
+    }
+
+    // The same of one that is no line of a script, by its tidy words.
+    fn record_tidy<W: Sink>(
+        &mut self,
+        line: &[u8],
+        words: &[u8],
+        script: &mut Lines,
+        sink: &mut W,
+    ) -> Result<(), RunError>
+        requires other { is_script_request (request_of line.now) ≡ false }
+        requires tidy { words.now ≡ tidied_line line.now }
+        ensures { let before = recording_state self.old script.old in OnOk result (IsFirstRecorded
+            (typed_line line.now before) before (recording_state self.new script.new)
+            (W.contents sink.old) (W.contents sink.new)) }
+    {
+        match self.session.repeated(words)? {
+            None => self.record_line(line, words, None, script, sink),
+            Some(again) => self.record_repeated(line, again.line, again.count, script, sink),
         }
     }
 
@@ -183,10 +198,8 @@ impl Recorder {
         sink: &mut W,
     ) -> Result<(), RunError>
         requires { 0 < count }
-        ensures { let before = recording_state self.old script.old in
-            let after = recording_state self.new script.new in
-            OnOk result (Adds (AreRecorded before.debug
-            (Some (this_time line.now words.now 0 count before)) after.debug (next_line after))
+        ensures { let before = recording_state self.old script.old in OnOk result (IsFirstRecorded
+            (this_time line.now words.now 0 count before) before (recording_state self.new script.new)
             (W.contents sink.old) (W.contents sink.new)) }
     {
         for time in 0..count {
@@ -207,42 +220,55 @@ impl Recorder {
         script: &mut Lines,
         sink: &mut W,
     ) -> Result<(), RunError>
-        ensures records { OnOk result (Adds (AreRecords (line_forms line.now words.now time
-            (recording_state self.old script.old))) (W.contents sink.old) (W.contents sink.new)) }
-        ensures state { OnOk result (recording_state self.new script.new
-            ≡ state_behind line.now words.now (recording_state self.old script.old)) }
+        ensures { OnOk result (IsLineRecorded line.now words.now time (recording_state self.old script.old)
+            (recording_state self.new script.new) (W.contents sink.old) (W.contents sink.new)) }
     {
         self.twin.stand_with(&self.session)?;
-        let number = script.number();
         let meant = meant_words(&self.session, self.alloc, line, words)?;
-        let used = use_of(meant.as_slice());
-        let steps = steps_of(meant.as_slice());
+        self.record_meant(line, words, meant.as_slice(), time, script, sink)
+    }
+
+    // The same of a line that is read as these words.
+    fn record_meant<W: Sink>(
+        &mut self,
+        line: &[u8],
+        words: &[u8],
+        meant: &[u8],
+        time: Option<u32>,
+        script: &mut Lines,
+        sink: &mut W,
+    ) -> Result<(), RunError>
+        requires alike { IsAlike (twin_machine self.old.twin) (session_machine self.old.session) }
+        requires read { meant.now
+            ≡ words_read (debug_state self.old.session self.old.images) line.now words.now }
+        ensures { OnOk result (IsLineRecorded line.now words.now time (recording_state self.old script.old)
+            (recording_state self.new script.new) (W.contents sink.old) (W.contents sink.new)) }
+    {
         let block = script.again();
-        self.twin
-            .print_line(line, number, time, used.opens_block(), &block, sink)?;
+        let used = use_of(meant);
+        print_line(self.alloc, line, time, used.opens_block(), &block, sink)?;
         let counts = LineCounts::of(&self.session);
         let mut answer = TextSink::new(self.alloc);
         self.session
             .answer_line(&mut self.images, &mut answer, words, script)?;
-        let taken = steps_taken(&self.session, &steps);
-        let stepped = SteppedLine {
+        let command = steps_of(meant);
+        let taken = steps_taken(&self.session, &command);
+        let answered = AnsweredLine {
+            session: &self.session,
+            images: &self.images,
+            used,
+            words,
+            block: &block,
+            command,
             before: self.steps,
             limit: self.limit,
             taken,
-        };
-        self.twin
-            .record_taken(&self.session, &steps, stepped, sink)?;
-        self.steps = self.steps.saturating_add(taken);
-        self.limit = limit_after(meant.as_slice(), self.limit);
-        let parts = AnswerParts {
-            number,
             counts,
-            taken,
             answer: answer.bytes(),
         };
-        self.twin
-            .print_answer(&self.session, &self.images, &parts, &used, &block, sink)?;
-        self.twin.follow(&self.session, taken, words, &block)
+        self.steps = self.steps.saturating_add(taken);
+        self.limit = limit_after(meant, self.limit);
+        self.twin.record_answer(&answered, sink)
     }
 }
 
@@ -264,68 +290,74 @@ fn meant_words(
 }
 
 impl Twin {
+    // Records the steps and the answer of a line, behind which the twin stands as the session does.
+    fn record_answer<W: Sink>(
+        &mut self,
+        line: &AnsweredLine<'_>,
+        sink: &mut W,
+    ) -> Result<(), RunError>
+        ensures { (m : MachineState) (held : List Entry) → IsAlike (twin_machine self.old) m
+            → OnOk result (Adds (AreRecords (forms_behind line.now m (debug_state line.now.session.now held)))
+            (W.contents sink.old) (W.contents sink.new)) }
+    {
+        self.record_taken(line, sink)?;
+        let head = answer_head(self.alloc, line)?;
+        self.print_answer(line, &head, sink)?;
+        self.follow(line)
+    }
+
     // The twin answers a line that took no steps. Behind steps it is halted where the session is: a fault is
     // no step.
-    fn follow(
-        &mut self,
-        session: &DebugSession,
-        taken: u64,
-        words: &[u8],
-        block: &Lines,
-    ) -> Result<(), RunError> {
+    fn follow(&mut self, line: &AnsweredLine<'_>) -> Result<(), RunError> {
         let mut unseen = TextSink::new(self.alloc);
-        if taken > 0 {
-            if is_faulted(&session.session) {
+        if line.taken > 0 {
+            if is_faulted(&line.session.session) {
                 take_or_let(&mut self.session.session, &self.images, &mut unseen, &None)?;
             }
             return Ok(());
         }
-        let mut lines = block.again();
+        let mut lines = line.block.again();
         self.session
-            .answer_line(&mut self.images, &mut unseen, words, &mut lines)
+            .answer_line(&mut self.images, &mut unseen, line.words, &mut lines)
     }
 
     // Records the steps that a line has taken, if there are some: behind them the twin stands as the session
     // does.
     fn record_taken<W: Sink>(
         &mut self,
-        session: &DebugSession,
-        command: &Option<SteppingCommand<'_>>,
-        line: SteppedLine,
+        line: &AnsweredLine<'_>,
         sink: &mut W,
     ) -> Result<(), RunError>
-        ensures records { (m : MachineState) → IsAlike (twin_machine self.old) m → OnOk result
-            (Adds (AreRecords (step_forms (line.taken == 0) line.before line.limit line.taken m
-            (session_machine session.now))) (W.contents sink.old) (W.contents sink.new)) }
-        ensures kept { (line.taken == 0) ≡ true → OnOk result
+        ensures records { (m : MachineState) → IsAlike (twin_machine self.old) m → let l = line.now in
+            OnOk result (Adds (AreRecords (step_forms (l.taken == 0) l.before l.limit l.taken m
+            (session_machine l.session.now))) (W.contents sink.old) (W.contents sink.new)) }
+        ensures kept { (line.now.taken == 0) ≡ true → OnOk result
             (twin_machine self.new ≡ twin_machine self.old) }
     {
         if line.taken == 0 {
             return Ok(());
         }
-        self.record_steps(session, command, line, sink)?;
-        self.stand_with(session)?;
-        Ok(())
+        self.record_steps(line, sink)?;
+        self.stand_with(line.session)
     }
+}
 
-    // Writes the record of a line, with its block where it opens one.
-    fn print_line<W: Sink>(
-        &self,
-        line: &[u8],
-        number: usize,
-        time: Option<u32>,
-        opens_block: bool,
-        script: &Lines,
-        sink: &mut W,
-    ) -> Result<(), RunError>
-        ensures { OnOk result (Adds (IsOfForm (Whole (line_head number line.now time
-            ++ block_field opens_block (take (lines_in_block script.now.left) script.now.left))))
-            (W.contents sink.old) (W.contents sink.new)) }
-    {
-        let mut fields = line_head(self.alloc, number, line, time)?;
-        push_block(&mut fields, opens_block, script)?;
-        Ok(push_whole(sink, &fields)?)
-    }
+// Writes the record of a line, with its block where it opens one.
+fn print_line<W: Sink>(
+    alloc: Global,
+    line: &[u8],
+    time: Option<u32>,
+    opens_block: bool,
+    script: &Lines,
+    sink: &mut W,
+) -> Result<(), RunError>
+    ensures { OnOk result (Adds (IsOfForm (Whole (line_head script.now.number line.now time
+        ++ block_field opens_block (take (lines_in_block script.now.left) script.now.left))))
+        (W.contents sink.old) (W.contents sink.new)) }
+{
+    let mut fields = line_head(alloc, script.number(), line, time)?;
+    push_block(&mut fields, opens_block, script)?;
+    push_whole(sink, &fields)
 }
 
 // The lines of a block, with the one that ends it, of a line that opens one.

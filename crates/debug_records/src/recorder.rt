@@ -52,15 +52,6 @@ pub(crate) struct Twin {
     pub(crate) known: Vec<KnownImage>,
 }
 
-/// The steps of a line: how many were taken before it, how many of it are shown one by one, and how many
-/// it took.
-#[derive(Clone, Copy)]
-pub(crate) struct SteppedLine {
-    pub(crate) before: u64,
-    pub(crate) limit: u64,
-    pub(crate) taken: u64,
-}
-
 impl Recorder {
     /// Before the first line, on a fresh machine; the twin's images are the same.
     ///

@@ -6,10 +6,12 @@ ghost use Rattle.std.specs.List.{list_all};
 ghost use Rattle.trace_effects.specs.record_text.Spelling.{name_text};
 ghost use Rattle.profile.specs.text_sink.Safe.{is_safe};
 ghost use Rattle.debug_records.specs.LineRecords.{Adds, IsOfForm, IsRecord, Whole, line_head};
-ghost use Rattle.debug_records.specs.Moments.{IsRecordText, behind_fields, moment_text, place_field, skip_head, step_head};
-ghost use Rattle.trace_json.specs.OtherFields.{are_others};
+ghost use Rattle.debug_records.specs.Moments.{behind_fields, place_field, skip_head, step_head};
+ghost use Rattle.debug_records.specs.Taking.{IsMomentPrinted};
 
-use profile::{Sink, WriteFault, push_parts};
+use crate::recorder::Twin;
+use debug_session::RunError;
+use profile::{Sink, push_parts};
 use std::alloc::{AllocError, Global};
 use trace_effects::record_text::RecordText;
 use trace_json::are_others;
@@ -23,14 +25,13 @@ pub(crate) fn push_record<'a, W: Sink>(
     sink: &mut W,
     head: &'a RecordText,
     others: &'a RecordText,
-) -> Result<(), WriteFault>
-    ensures { OnOk result
-        (Adds (IsRecord head.now.bytes.items) (W.contents sink.old) (W.contents sink.new)) }
+) -> Result<(), RunError>
+    ensures { OnOk result (Adds (IsRecord head.now.bytes.items) (W.contents sink.old) (W.contents sink.new)) }
 {
     if !is_one_line(others.bytes()) {
-        return Err(WriteFault);
+        return Err(RunError::WriteFault);
     }
-    push_parts(
+    Ok(push_parts(
         sink,
         &[
             b"{".as_slice(),
@@ -39,8 +40,7 @@ pub(crate) fn push_record<'a, W: Sink>(
             others.bytes(),
             b"}\n".as_slice(),
         ],
-    )?;
-    Ok(())
+    )?)
 }
 
 /// Writes a record that has no other fields.
@@ -48,49 +48,47 @@ pub(crate) fn push_record<'a, W: Sink>(
 /// # Errors
 ///
 /// `WriteFault` where the sink failed.
-pub(crate) fn push_whole<W: Sink>(sink: &mut W, fields: &RecordText) -> Result<(), WriteFault>
+pub(crate) fn push_whole<W: Sink>(sink: &mut W, fields: &RecordText) -> Result<(), RunError>
     ensures { OnOk result
         (Adds (IsOfForm (Whole fields.now.bytes.items)) (W.contents sink.old) (W.contents sink.new)) }
 {
-    push_parts(sink, &[b"{".as_slice(), fields.bytes(), b"}\n".as_slice()])
+    Ok(push_parts(sink, &[b"{".as_slice(), fields.bytes(), b"}\n".as_slice()])?)
 }
 
-/// Writes the record of a moment: what differs of the core and of words, between other fields.
-///
-/// # Errors
-///
-/// `WriteFault` where the sink failed, or other fields say something of the core or of words: nothing is
-/// written then.
-pub(crate) fn push_moment<'a, W: Sink>(
-    sink: &mut W,
-    head: &'a RecordText,
-    front: &'a RecordText,
-    changes: &'a RecordText,
-    rest: &'a RecordText,
-) -> Result<(), WriteFault>
-    ensures others { OnOk result (are_others front.now.bytes.items ≡ true) }
-    ensures others_behind { OnOk result (are_others rest.now.bytes.items ≡ true) }
-    ensures written { OnOk result (Adds (IsRecordText (moment_text head.now.bytes.items front.now.bytes.items
-        changes.now.bytes.items rest.now.bytes.items)) (W.contents sink.old) (W.contents sink.new)) }
-{
-    if !are_others(front.bytes()) || !are_others(rest.bytes()) {
-        return Err(WriteFault);
+impl Twin {
+    /// Writes the record of a moment: what differs of the core and of words, between other fields.
+    ///
+    /// # Errors
+    ///
+    /// `WriteFault` where the sink failed, or other fields say something of the core or of words: nothing
+    /// is written then.
+    pub(crate) fn print_moment<'a, W: Sink>(
+        &'a self,
+        head: &'a RecordText,
+        sink: &mut W,
+    ) -> Result<(), RunError>
+        ensures { OnOk result (IsMomentPrinted head.now.bytes.items self.now.front.bytes.items
+            self.now.changes.bytes.items self.now.text.bytes.items
+            (W.contents sink.old) (W.contents sink.new)) }
+    {
+        if !are_others(self.front.bytes()) || !are_others(self.text.bytes()) {
+            return Err(RunError::WriteFault);
+        }
+        Ok(push_parts(
+            sink,
+            &[
+                b"{".as_slice(),
+                head.bytes(),
+                comma_before(&self.front),
+                self.front.bytes(),
+                comma_before(&self.changes),
+                self.changes.bytes(),
+                comma_before(&self.text),
+                self.text.bytes(),
+                b"}\n".as_slice(),
+            ],
+        )?)
     }
-    push_parts(
-        sink,
-        &[
-            b"{".as_slice(),
-            head.bytes(),
-            comma_before(front),
-            front.bytes(),
-            comma_before(changes),
-            changes.bytes(),
-            comma_before(rest),
-            rest.bytes(),
-            b"}\n".as_slice(),
-        ],
-    )?;
-    Ok(())
 }
 
 // What stands between fields and others that come next, if there are some.

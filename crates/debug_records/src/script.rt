@@ -39,8 +39,7 @@ pub fn record_script<W: Sink>(
     let mut recorder = Recorder::new(alloc, setting, images, twin_images)?;
     record_start(&recorder, &setting, name, sink)?;
     record_lines(&mut recorder, script, sink)?;
-    let status = record_end(&recorder, sink)?;
-    Ok(status)
+    record_end(&recorder, sink)
 }
 
 // Records the lines of a script, up to its end or a line QUIT.

@@ -1,18 +1,21 @@
 //! The steps of a line, taken one by one by the twin.
 
-ghost use Rattle.std.specs.Prelude.{◌≡◌, ◌<◌, ◌==◌, true, is_some, IfOk, OnOk};
+ghost use Rattle.std.specs.Prelude.{◌≡◌, ◌<◌, ◌==◌, true, codes, is_some, IfOk, OnOk};
 ghost use Rattle.trace_json.specs.GuestState.{state_of};
 ghost use Rattle.debug_records.specs.LineRecords.{Adds};
 ghost use Rattle.debug_records.specs.Moments.{AreStepRecords, AreSteps, IsRest, IsStepRecord};
 ghost use Rattle.debug_records.specs.Recording.{twin_machine};
-ghost use Rattle.debug_records.specs.Taking.{IsMadeBefore, IsNoText, IsStepTaken, IsTakenFrom};
-ghost use Rattle.trace_json.specs.Moments.{step_place};
+ghost use Rattle.debug_records.specs.Taking.{IsMadeBefore, IsNoText, IsShown, IsStepPushed, IsStepShown, IsStepTaken, IsTakenFrom};
+ghost use Rattle.trace_json.specs.MachineState.{MachineState};
+ghost use Rattle.trace_json.specs.Moments.{IsCopy, ShowsChanges, step_place};
 
-use crate::recorder::{SteppedLine, Twin};
-use crate::records::{push_moment, skip_head, step_head};
+use crate::answers::AnsweredLine;
+use crate::recorder::Twin;
+use crate::records::{skip_head, step_head};
 use crate::taking::{
     enter_first, make_call, outside_call, settle_last, take_or_let, take_rest, written_by_stub,
 };
+use arm_core::Cpu;
 use debug_lines::SteppingCommand;
 use debug_session::{DebugSession, OutsideCall, RunError};
 use profile::Sink;
@@ -29,39 +32,33 @@ impl Twin {
     /// one by one up to the limit, and the rest as one.
     pub(crate) fn record_steps<W: Sink>(
         &mut self,
-        session: &DebugSession,
-        command: &Option<SteppingCommand<'_>>,
-        line: SteppedLine,
+        line: &AnsweredLine<'_>,
         sink: &mut W,
     ) -> Result<(), RunError>
-        ensures { OnOk result
-            (Adds (AreSteps line.before line.limit line.taken (twin_machine self.old) (twin_machine self.new))
-            (W.contents sink.old) (W.contents sink.new)) }
+        ensures { OnOk result (Adds (AreSteps line.now.before line.now.limit line.now.taken
+            (twin_machine self.old) (twin_machine self.new)) (W.contents sink.old) (W.contents sink.new)) }
     {
         if line.limit < line.taken {
-            self.record_each(session, command, line, line.limit, sink)?;
-            return self.record_rest(session, command, line, sink);
+            self.record_each(line, line.limit, sink)?;
+            return self.record_rest(line, sink);
         }
-        self.record_each(session, command, line, line.taken, sink)
+        self.record_each(line, line.taken, sink)
     }
 
     // Records so many of the steps that a line has taken one by one.
     fn record_each<W: Sink>(
         &mut self,
-        session: &DebugSession,
-        command: &Option<SteppingCommand<'_>>,
-        line: SteppedLine,
+        line: &AnsweredLine<'_>,
         count: u64,
         sink: &mut W,
     ) -> Result<(), RunError>
-        ensures { OnOk result
-            (Adds (AreStepRecords line.before line.taken count (twin_machine self.old)
-            (twin_machine self.new)) (W.contents sink.old) (W.contents sink.new)) }
+        ensures { OnOk result (Adds (AreStepRecords line.now.before line.now.taken count
+            (twin_machine self.old) (twin_machine self.new)) (W.contents sink.old) (W.contents sink.new)) }
     {
         for index in 0..count {
             let number = line.before.saturating_add(index + 1);
             let is_last = index + 1 == line.taken;
-            self.record_step(session, command, number, index, is_last, sink)?;
+            self.record_step(line, number, index, is_last, sink)?;
         }
         Ok(())
     }
@@ -69,29 +66,54 @@ impl Twin {
     // Records one step.
     fn record_step<W: Sink>(
         &mut self,
-        session: &DebugSession,
-        command: &Option<SteppingCommand<'_>>,
+        line: &AnsweredLine<'_>,
         number: u64,
         index: u64,
         is_last: bool,
         sink: &mut W,
     ) -> Result<(), RunError>
-        ensures { OnOk result
-            (Adds (IsStepRecord number (index == 0) is_last (twin_machine self.old) (twin_machine self.new))
-            (W.contents sink.old) (W.contents sink.new)) }
+        ensures { OnOk result (Adds (IsStepRecord number (index == 0) is_last (twin_machine self.old)
+            (twin_machine self.new)) (W.contents sink.old) (W.contents sink.new)) }
+    {
+        let place = self.show_step(line, index, is_last)?;
+        let head = step_head(self.alloc, number, place)?;
+        self.print_moment(&head, sink)
+    }
+
+    // Takes a step, and writes the fields of its record. Gives the address at which it was made.
+    fn show_step(
+        &mut self,
+        line: &AnsweredLine<'_>,
+        index: u64,
+        is_last: bool,
+    ) -> Result<Option<u32>, AllocError>
+        ensures { IfOk result (λ place. IsStepShown (index == 0) is_last (twin_machine self.old)
+            (twin_machine self.new) place self.new.changes) }
     {
         let shown = *self.session.machine().cpu();
         self.clear();
         let mut printed = TextSink::new(self.alloc);
-        let (before, stub) = self.begin(command, index, &mut printed)?;
-        settle_last(&mut self.session.session, session, is_last);
+        let (before, stub) = self.begin(&line.command, index, &mut printed)?;
+        settle_last(&mut self.session.session, line.session, is_last);
+        self.push_step(&before, &shown, &stub, printed.bytes())
+    }
+
+    // Writes the fields of a step that was taken, behind those that it began with.
+    fn push_step(
+        &mut self,
+        before: &StepBefore,
+        shown: &Cpu,
+        stub: &WrittenRegisters,
+        printed: &[u8],
+    ) -> Result<Option<u32>, AllocError>
+        ensures { IfOk result (λ place. IsStepPushed before.now shown.now self.old self.new place) }
+    {
         let machine = self.session.machine();
         before.push_reads(&mut self.front, machine)?;
-        before.push_changes(self.alloc, &mut self.changes, &shown, machine, &stub)?;
-        before.push_rest(self.alloc, &mut self.text, machine, printed.bytes())?;
-        self.push_moved(&before)?;
-        let head = step_head(self.alloc, number, before.place())?;
-        Ok(push_moment(sink, &head, &self.front, &self.changes, &self.text)?)
+        before.push_changes(self.alloc, &mut self.changes, shown, machine, stub)?;
+        before.push_rest(self.alloc, &mut self.text, machine, printed)?;
+        self.push_moved(before)?;
+        Ok(before.place())
     }
 
     /// No fields of a record yet.
@@ -110,7 +132,7 @@ impl Twin {
         ensures session { OnOk result (self.new.session ≡ self.old.session) }
     {
         if before.may_move_images() {
-            self.push_places(None)?;
+            return self.push_places(None);
         }
         Ok(())
     }
@@ -128,10 +150,10 @@ impl Twin {
         ensures changes { OnOk result (self.new.changes ≡ self.old.changes) }
     {
         match outside_call(command, index) {
-            Some(call) => Ok(self.begin_call(call, printed)?),
+            Some(call) => self.begin_call(call, printed),
             None => {
                 enter_first(&mut self.session.session, command, index);
-                Ok(self.begin_entered(printed)?)
+                self.begin_entered(printed)
             }
         }
     }
@@ -141,8 +163,7 @@ impl Twin {
         &mut self,
         printed: &mut TextSink,
     ) -> Result<(StepBefore, WrittenRegisters), AllocError>
-        ensures taken { IfOk result
-            (λ r. IsTakenFrom (twin_machine self.old) (twin_machine self.new) r.0) }
+        ensures taken { IfOk result (λ r. IsTakenFrom (twin_machine self.old) (twin_machine self.new) r.0) }
         ensures inside { IfOk result (λ r. is_some (step_place r.0) ≡ true) }
         ensures changes { OnOk result (self.new.changes ≡ self.old.changes) }
     {
@@ -160,8 +181,7 @@ impl Twin {
         call: OutsideCall<'_>,
         printed: &mut TextSink,
     ) -> Result<(StepBefore, WrittenRegisters), AllocError>
-        ensures taken { IfOk result
-            (λ r. IsTakenFrom (twin_machine self.old) (twin_machine self.new) r.0) }
+        ensures taken { IfOk result (λ r. IsTakenFrom (twin_machine self.old) (twin_machine self.new) r.0) }
         ensures changes { OnOk result (self.new.changes ≡ self.old.changes) }
     {
         let machine = self.session.machine();
@@ -173,28 +193,42 @@ impl Twin {
     // Records the steps that a line has taken past the limit as one.
     fn record_rest<W: Sink>(
         &mut self,
-        session: &DebugSession,
-        command: &Option<SteppingCommand<'_>>,
-        line: SteppedLine,
+        line: &AnsweredLine<'_>,
         sink: &mut W,
     ) -> Result<(), RunError>
-        requires { line.limit < line.taken }
-        ensures { OnOk result (Adds (IsRest line.before line.limit line.taken
-            (twin_machine self.old) (twin_machine self.new))
-            (W.contents sink.old) (W.contents sink.new)) }
+        requires { line.now.limit < line.now.taken }
+        ensures { OnOk result (Adds (IsRest line.now.before line.now.limit line.now.taken
+            (twin_machine self.old) (twin_machine self.new)) (W.contents sink.old) (W.contents sink.new)) }
     {
+        self.show_rest(line)?;
         let last = line.before.saturating_add(line.taken);
         let head = skip_head(self.alloc, last, line.taken - line.limit)?;
+        self.print_moment(&head, sink)
+    }
+
+    // Takes these steps, and writes the fields of their record.
+    fn show_rest(&mut self, line: &AnsweredLine<'_>) -> Result<(), AllocError>
+        requires { line.now.limit < line.now.taken }
+        ensures { let s = twin_machine self.old in OnOk result
+            (IsShown (codes "next") s.cpu.pc s (twin_machine self.new) self.new.changes) }
+    {
         let copy = MachineCopy::of(self.alloc, self.session.machine())?;
         self.clear();
         let mut printed = TextSink::new(self.alloc);
-        take_rest(&mut self.session, &self.images, &mut printed, command, line)?;
-        settle_last(&mut self.session.session, session, true);
+        take_rest(&mut self.session, &self.images, &mut printed, line)?;
+        settle_last(&mut self.session.session, line.session, true);
+        self.push_rest(&copy, printed.bytes())
+    }
+
+    // Writes these fields, against a copy of the machine before.
+    fn push_rest(&mut self, copy: &MachineCopy, printed: &[u8]) -> Result<(), AllocError>
+        ensures { (s : MachineState) → IsCopy copy.now s → OnOk result (ShowsChanges (codes "next") s.cpu.pc s
+            (twin_machine self.new) self.old.changes self.new.changes) }
+    {
         let machine = self.session.machine();
-        push_skip_changes(self.alloc, &mut self.changes, &copy, machine)?;
-        push_skip(self.alloc, &mut self.text, &copy, machine, printed.bytes())?;
-        self.push_places(None)?;
-        Ok(push_moment(sink, &head, &self.front, &self.changes, &self.text)?)
+        push_skip_changes(self.alloc, &mut self.changes, copy, machine)?;
+        push_skip(self.alloc, &mut self.text, copy, machine, printed)?;
+        self.push_places(None)
     }
 }
 

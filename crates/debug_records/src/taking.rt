@@ -7,7 +7,7 @@ ghost use Rattle.debug_records.specs.Moments.{IsSet};
 ghost use Rattle.command_shell_lines.specs.declared.debug_words.stubs.Stub.{Stub};
 ghost use Rattle.debug_session.specs.Stubs.{deed_ahead, stubbed_step};
 
-use crate::recorder::SteppedLine;
+use crate::answers::AnsweredLine;
 use debug_lines::SteppingCommand;
 use debug_session::{DebugSession, OutsideCall, Session, StubDeed, enter};
 use profile::WriteFault;
@@ -22,14 +22,13 @@ pub(crate) fn take_rest(
     twin: &mut DebugSession,
     images: &Images,
     printed: &mut TextSink,
-    command: &Option<SteppingCommand<'_>>,
-    line: SteppedLine,
+    line: &AnsweredLine<'_>,
 ) -> Result<(), AllocError>
-    requires { line.limit < line.taken }
+    requires { line.now.limit < line.now.taken }
 {
     let mut left = line.taken - line.limit;
-    enter_first(&mut twin.session, command, line.limit);
-    if let Some(call) = outside_call(command, line.limit) {
+    enter_first(&mut twin.session, &line.command, line.limit);
+    if let Some(call) = outside_call(&line.command, line.limit) {
         make_call(&mut twin.session, images, printed, call)?;
         left = left.saturating_sub(1);
     }
@@ -39,8 +38,7 @@ pub(crate) fn take_rest(
 /// Stands at the routine that a line calls, before the first of its steps.
 pub(crate) fn enter_first(twin: &mut Session, command: &Option<SteppingCommand<'_>>, index: u64)
     ensures set { IsSet (state_of twin.old.machine.guest) (state_of twin.new.machine.guest) }
-    ensures later { (index == 0) ≡ false
-        → state_of twin.new.machine.guest ≡ state_of twin.old.machine.guest }
+    ensures later { (index == 0) ≡ false → state_of twin.new.machine.guest ≡ state_of twin.old.machine.guest }
 {
     if index > 0 {
         return;
@@ -55,10 +53,8 @@ pub(crate) fn outside_call<'a>(
     command: &Option<SteppingCommand<'a>>,
     index: u64,
 ) -> Option<OutsideCall<'a>> {
-    if index > 0 {
-        return None;
-    }
     match command {
+        _ if index > 0 => None,
         Some(SteppingCommand::Call(number)) => Some(OutsideCall::Swi(*number)),
         Some(SteppingCommand::Load(words)) => Some(OutsideCall::Load(*words)),
         _ => None,
@@ -150,8 +146,7 @@ fn take_steps(
 /// back leaves R14 and the program counter as they were before it.
 pub(crate) fn settle_last(twin: &mut Session, session: &DebugSession, is_last: bool)
     ensures set { IsSet (state_of twin.old.machine.guest) (state_of twin.new.machine.guest) }
-    ensures earlier { is_last ≡ false
-        → state_of twin.new.machine.guest ≡ state_of twin.old.machine.guest }
+    ensures earlier { is_last ≡ false → state_of twin.new.machine.guest ≡ state_of twin.old.machine.guest }
 {
     if !is_last {
         return;

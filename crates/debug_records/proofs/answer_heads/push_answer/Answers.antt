@@ -8,5 +8,5 @@ pub returns-in-Steps : goal.returns-in-Steps
 returns-in-Steps c = λ held.
     rw c.in-Steps.is
     (subst (λ (t : List ℕ). OnOk c.push_stepped.result (c.push_stepped.new.head.bytes.items
-    ≡ c.args.head.now.bytes.items ++ (steps_field c.args.parts.now.taken ++ text_field t))) (c.answer.ensures held)
+    ≡ c.args.head.now.bytes.items ++ (steps_field c.args.line.now.taken ++ text_field t))) (c.answer.ensures held)
     c.push_stepped.ensures)

@@ -1,5 +1,6 @@
 -- What is pushed, one part behind another.
-use Rattle.std.proofs.Common.{ℕ, ◌++◌, ◌∙◌, ap}
+use Rattle.std.proofs.Common.{ℕ, ◌++◌, ◌≡◌, ◌∙◌, ap}
+use Rattle.std.proofs.lemmas.Result.{on_ok_weaker}
 use Rattle.std.specs.Prelude.{codes}
 use Rattle.std.specs.Fmt.{decimal}
 use Rattle.debug_records.specs.Records.{last_record}
@@ -25,6 +26,8 @@ returns c =
     let behind_failed = codes "," ++ (refused_text ++ behind_refused) in
     let behind_passed = codes "," ++ (failed_text ++ behind_failed) in
     let behind_end = codes "," ++ (passed_text ++ behind_passed) in
+    on_ok_weaker c.end_record.result
+    (λ (last : all ≡ status.bytes.items ++ codes "}\n").
     opened c.args.text.now.bytes.items opening.bytes.items all (codes "{") (end_text ++ behind_end) c.args.text.now.follows
     c.requires.empty c.requires.first c.in_ok-open.ensures.text
     (first_field opening.bytes.items end.bytes.items all end_text behind_end opening.follows
@@ -36,5 +39,6 @@ returns c =
     (next_field failed.bytes.items refused.bytes.items all refused_text behind_refused failed.follows
     c.in_ok-number_field-3.ensures.follows c.in_ok-number_field-4.ensures.text
     (next_field refused.bytes.items status.bytes.items all status_text (codes "}\n") refused.follows
-    c.in_ok-number_field-4.ensures.follows c.in_ok-number_field-5.ensures.text c.in_ok-end_record.ensures)))))
-    ∙ ap (λ (v : ℕ). last_record n v) c.from.ensures
+    c.in_ok-number_field-4.ensures.follows c.in_ok-number_field-5.ensures.text last)))))
+    ∙ ap (λ (v : ℕ). last_record n v) c.from.ensures)
+    c.end_record.ensures

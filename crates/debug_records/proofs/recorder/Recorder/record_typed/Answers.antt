@@ -1,40 +1,20 @@
--- A line of a script as it stands, any other made tidy, and a REPEAT each time.
-use Rattle.std.proofs.Common.{◌∙◌, sym, ap}
-use Rattle.std.specs.Prelude.{option_map}
-use Rattle.debug_lines.specs.Repeats.{count_and_line}
-use Rattle.debug_session.specs.Session.{debug_state}
+-- A line of a script as it stands, any other made tidy.
+use Rattle.std.proofs.Common.{◌∙◌, sym}
+use Rattle.std.proofs.lemmas.Result.{on_ok_weaker}
 use Rattle.debug_records.specs.Recording.{recording_state}
-use Rattle.debug_records.proofs.AnsweredLemmas.{repeated_once, repeated_recorded, script_recorded, tidy_recorded}
+use Rattle.debug_records.proofs.AnsweredLemmas.{script_recorded}
 use Rattle.debug_records.proofs.recorder.Recorder.record_typed.Goals as goal
 
 pub returns-then-is_script_line : goal.returns-then-is_script_line
 returns-then-is_script_line g c =
-    script_recorded c.args.line.now (recording_state c.args.self.now c.args.script.now)
+    on_ok_weaker c.record_line.result
+    (script_recorded c.args.line.now (recording_state c.args.self.now c.args.script.now)
     (recording_state c.record_line.new.self c.record_line.new.script) (g.W.Sink.contents c.args.sink.now)
-    (g.W.Sink.contents c.record_line.new.sink) (sym c.is_script_line.ensures ∙ c.if-is_script_line.true)
-    c.in_ok-record_line.ensures.records c.in_ok-record_line.ensures.state
+    (g.W.Sink.contents c.record_line.new.sink) (sym c.is_script_line.ensures ∙ c.if-is_script_line.true))
+    c.record_line.ensures
 
-pub returns-in-None : goal.returns-in-None
-returns-in-None g c =
-    tidy_recorded c.args.line.now c.in_ok-words.words.items c.as_slice.result.now c.as_slice-in-None.result.now
-    (recording_state c.args.self.now c.args.script.now)
-    (recording_state c.record_line-in-None.new.self c.record_line-in-None.new.script) (g.W.Sink.contents c.args.sink.now)
-    (g.W.Sink.contents c.record_line-in-None.new.sink) (sym c.is_script_line.ensures ∙ c.if-is_script_line.false) c.in_ok-words.ensures
-    c.as_slice.ensures.value c.as_slice-in-None.ensures.value
-    (sym (c.in_ok-repeated.ensures c.args.self.now.images) ∙ ap (option_map count_and_line) c.in-None.is)
-    c.in_ok-record_line-in-None.ensures.records c.in_ok-record_line-in-None.ensures.state
-
-pub record_repeated-requires : goal.record_repeated-requires
-record_repeated-requires g c =
-    repeated_once (debug_state c.args.self.now.session c.args.self.now.images) c.as_slice.result.now
-    c.in-Some.repeated.line.now c.in-Some.repeated.count
-    (sym (c.in_ok-repeated.ensures c.args.self.now.images) ∙ ap (option_map count_and_line) c.in-Some.is)
-
-pub returns : goal.returns
-returns g c =
-    repeated_recorded c.args.line.now c.in_ok-words.words.items c.as_slice.result.now c.in-Some.repeated.count
-    c.in-Some.repeated.line.now (recording_state c.args.self.now c.args.script.now)
-    (recording_state c.record_repeated.new.self c.record_repeated.new.script) (g.W.Sink.contents c.args.sink.now)
-    (g.W.Sink.contents c.record_repeated.new.sink) (sym c.is_script_line.ensures ∙ c.if-is_script_line.false) c.in_ok-words.ensures
-    c.as_slice.ensures.value (sym (c.in_ok-repeated.ensures c.args.self.now.images) ∙ ap (option_map count_and_line) c.in-Some.is)
-    c.in_ok-record_repeated-in-Some.ensures
+pub record_tidy-requires : goal.record_tidy-requires
+record_tidy-requires g c = record {
+  other = sym c.is_script_line.ensures ∙ c.if-is_script_line.false;
+  tidy = c.as_slice.ensures.value ∙ c.in_ok-words.ensures;
+}

@@ -1,6 +1,8 @@
 -- The steps that a line took; one that took none has no records of steps.
-use Rattle.std.proofs.Common.{◌≡◌, ◌∙◌, ◌==◌, ℕ, Bool, true, false, [], refl, ap, subst, sym}
+use Rattle.std.proofs.Common.{◌≡◌, ◌∙◌, ◌==◌, ℕ, Bool, false, [], refl, ap, subst, sym}
+use Rattle.std.specs.Prelude.{OnOk}
 use Rattle.std.proofs.lemmas.Bool.{eqb-true, false_from_ne_true, false≢true}
+use Rattle.std.proofs.lemmas.Result.{on_ok_weaker}
 use Rattle.debug_records.specs.LineRecords.{Adds, AreRecords, no_records, step_forms}
 use Rattle.debug_records.specs.Recording.{session_machine, twin_machine}
 use Rattle.debug_records.proofs.MomentLemmas.{line_stepped}
@@ -9,26 +11,29 @@ use Rattle.debug_records.proofs.recorder.Twin.record_taken.Goals as goal
 
 pub returns-then-line-eq0 : goal.returns-then-line-eq0
 returns-then-line-eq0 g c =
-    let line = c.args.line in
+    let line = c.args.line.now in
     let a = g.W.Sink.contents c.args.sink.now in
     record {
       records = λ m alike.
-          subst (λ (s : Bool). Adds (AreRecords (step_forms s line.before line.limit line.taken m (session_machine c.args.session.now))) a a)
+          subst (λ (s : Bool). Adds (AreRecords (step_forms s line.before line.limit line.taken m (session_machine line.session.now))) a a)
           (ap (λ (n : ℕ). n == 0) (sym c.if-line-eq0.true)) (none_written (AreRecords []) a no_records);
       kept = λ none. refl;
     }
 
 pub returns : goal.returns
 returns g c =
-    let line = c.args.line in
+    let line = c.args.line.now in
     let a = g.W.Sink.contents c.args.sink.now in
     let b = g.W.Sink.contents c.record_steps.new.sink in
-    let m' = session_machine c.args.session.now in
+    let m' = session_machine line.session.now in
     let some : (line.taken == 0) ≡ false = false_from_ne_true (line.taken == 0) (λ none. c.if-line-eq0.false (eqb-true line.taken 0 none)) in
     record {
       records = λ m alike.
-          subst (λ (s : Bool). Adds (AreRecords (step_forms s line.before line.limit line.taken m m')) a b) (sym some)
-          (line_stepped line.before line.limit line.taken (twin_machine c.args.self.now) (twin_machine c.record_steps.new.self) m m' a b alike
-          c.in_ok-stand_with.ensures c.in_ok-record_steps.ensures);
+          subst (λ (s : Bool). OnOk c.stand_with.result (Adds (AreRecords (step_forms s line.before line.limit line.taken m m')) a b))
+          (sym some)
+          (on_ok_weaker c.stand_with.result
+          (line_stepped line.before line.limit line.taken (twin_machine c.args.self.now) (twin_machine c.record_steps.new.self)
+          m m' a b alike c.in_ok-record_steps.ensures)
+          c.stand_with.ensures);
       kept = λ none. absurd (false≢true (sym some ∙ none));
     }
