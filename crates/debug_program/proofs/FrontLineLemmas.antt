@@ -1,34 +1,22 @@
 -- The first lines of a text, where it is cut behind one of them.
-use Rattle.std.proofs.Common.{◌≡◌, ◌≤◌, ◌<◌, ◌+◌, ◌-◌, ℕ, true, false, List, [], ◌∷◌, ◌++◌, All, length, get_or, take, drop, Some, None, refl, ap, sym, ◌∙◌, subst, arith, length-append, append_assoc}
-use Rattle.std.proofs.lemmas.List.{get_or-take, length-take-le, take-append-drop, take_all, drop_all, take_more}
-use Rattle.std.proofs.lemmas.List.Quantifiers.{position-Some}
-use Rattle.std.proofs.lemmas.List.Splits.{slice_split_at}
+use Rattle.std.proofs.Common.{◌≡◌, ◌≤◌, ◌<◌, ◌+◌, ◌-◌, ℕ, Bool, false, List, [], ◌∷◌, ◌++◌, length, take, drop, refl, ap, sym, ◌∙◌, subst, arith, length-append, append_assoc, append-nil}
+use Rattle.std.proofs.lemmas.List.{take-append-drop, take_all, drop_all}
 use Rattle.std.proofs.lemmas.Bool.Decides.{nat_tests}
 use Rattle.std.proofs.Math.Seq.{drop-append_seam, take-append_seam}
-use Rattle.std.specs.Prelude.{◌==◌}
-use Rattle.std.specs.List.{slice_split, position}
-use Rattle.std.specs.Str.Lines.{lines, strip_carriage_return}
-use Rattle.profile.proofs.TextLinesLemmas.LineLemmas.{lines_first, lines_last, split_nowhere}
+use Rattle.std.specs.Prelude.{◌==◌, if◌then◌else◌}
+use Rattle.std.specs.Str.Lines.{lines}
+use Rattle.profile.specs.text_lines.WholeLines.{line_of_some, unended_line, whole_lines}
+use Rattle.profile.proofs.TextLinesLemmas.WholeLineLemmas.{lines_cut, lines_whole_or_last}
 use Rattle.debug_program.specs.FrontLines.{EndsItsLines, IsBehindLine}
 
--- no byte before the first line feed is one
-none_before : (text : List ℕ) (place : ℕ) → position (λ b. b == 10) text ≡ Some place
-    → All (λ b. (b == 10) ≡ false) (take place text)
-none_before text place found k d within =
-    let first = position-Some (λ b. b == 10) text place d found in
-    let size : length (take place text) ≡ place = length-take-le place text (omega (arith, first.0)) in
-    let before : k < place = omega (arith, within, size) in
-    subst (λ (b : ℕ). (b == 10) ≡ false) (sym (get_or-take place text k d before)) (first.2 k before)
+-- a text that ends with a line's end
+lines_of_whole : (front : List ℕ) → unended_line front ≡ [] → lines front ≡ whole_lines front
+lines_of_whole front ends =
+    lines_whole_or_last front ∙ ap (λ (line : List ℕ). whole_lines front ++ line_of_some line) ends ∙ append-nil (whole_lines front)
 
--- a line with its end, before any other
-line_first : (line more : List ℕ) → All (λ b. (b == 10) ≡ false) line
-    → lines (line ++ 10 ∷ more) ≡ strip_carriage_return line ∷ lines more
-line_first line more none = lines_first (line ++ 10 ∷ more) line more (slice_split_at (λ b. b == 10) line 10 more none refl)
-
-line_ends : (line : List ℕ) → All (λ b. (b == 10) ≡ false) line → EndsItsLines (line ++ 10 ∷ [])
-line_ends line none more =
-    ap lines (append_assoc line (10 ∷ []) more) ∙ line_first line more none
-    ∙ ap (λ (ls : List (List ℕ)). ls ++ lines more) (sym (line_first line [] none))
+line_ends : (front : List ℕ) → unended_line front ≡ [] → EndsItsLines front
+line_ends front ends more =
+    lines_cut front more ends ∙ ap (λ (ls : List (List ℕ)). ls ++ lines more) (sym (lines_of_whole front ends))
 
 pub nothing_ends : EndsItsLines []
 nothing_ends more = refl
@@ -41,28 +29,28 @@ both_end one other first second more =
     ∙ sym (append_assoc (lines one) (lines other) (lines more))
     ∙ ap (λ (ls : List (List ℕ)). ls ++ lines more) (sym (first other))
 
-pub behind_line : (text : List ℕ) (place : ℕ) → position (λ b. b == 10) text ≡ Some place → IsBehindLine text (place + 1)
-behind_line text place found =
-    let first = position-Some (λ b. b == 10) text place 0 found in
-    let none = none_before text place found in
-    let feed : get_or text place 0 ≡ 10 = (let e : (get_or text place 0 == 10) ≡ true = first.1 in grind (arith, nat_tests, e)) in
-    let cut : take (place + 1) text ≡ take place text ++ 10 ∷ [] =
-    take_more text place 0 first.0 ∙ ap (λ (b : ℕ). take place text ++ b ∷ []) feed in
+pub behind_line : (text after line : List ℕ) → whole_lines (take (length text - length after) text) ≡ line ∷ []
+    → unended_line (take (length text - length after) text) ≡ [] → IsBehindLine text (length text - length after)
+behind_line text after line one ends =
+    let front : List ℕ = take (length text - length after) text in
     record {
-      within = omega (arith, first.0);
-      ended = subst EndsItsLines (sym cut) (line_ends (take place text) none);
-      one = ap (λ (xs : List ℕ). length (lines xs)) cut ∙ ap length (line_first (take place text) [] none);
+      within = omega arith;
+      ended = line_ends front ends;
+      one = ap (λ (ls : List (List ℕ)). length ls) (lines_of_whole front ends ∙ one);
     }
 
-one_at_most : (text : List ℕ) → slice_split (λ b. b == 10) text ≡ text ∷ [] → length (lines text) ≤ 1
-one_at_most [] one = omega arith
-one_at_most (byte ∷ text) one =
-    let last : lines (byte ∷ text) ≡ (byte ∷ text) ∷ [] = lines_last (byte ∷ text) (byte ∷ text) (omega arith) one in
-    omega (arith, ap length last)
+few_of_some : (line : List ℕ) → length (line_of_some line) ≤ 1
+few_of_some [] = omega arith
+few_of_some (byte ∷ line) =
+    subst (λ (b : Bool). length (if b then [] else (byte ∷ line) ∷ []) ≤ 1)
+    (let shut : false ≡ (length (byte ∷ line) == 0) = grind (arith, nat_tests) in shut) (omega arith)
 
 -- a text without a line's end is a line at most
-pub one_line : (text : List ℕ) → position (λ b. b == 10) text ≡ None → length (lines text) ≤ 1
-one_line text none = one_at_most text (split_nowhere (λ b. b == 10) text none)
+pub one_line : (text : List ℕ) → whole_lines text ≡ [] → unended_line text ≡ text → length (lines text) ≤ 1
+one_line text whole unended =
+    let all : lines text ≡ line_of_some text =
+    lines_whole_or_last text ∙ (λ i. whole i ++ line_of_some (unended i)) in
+    omega (arith, ap (λ (ls : List (List ℕ)). length ls) all, few_of_some text)
 
 -- a text of which so many lines are still to be passed over
 pub record CutSoFar (text rest : List ℕ) (count left : ℕ) : Type 0 where

@@ -56,31 +56,35 @@ pub given_nothing : (files : Included) (script : List ℕ) (g : GivenSoFar) → 
 unfolding given_bytes
 given_nothing files script g = refl
 
+-- all bytes of a file were taken, and its last line
+pub all_stays : (files : Included) (path : List ℕ) (g : GivenSoFar) (bytes : List ℕ) (last mid h : GivenSoFar) (wanted : Option (List ℕ))
+    → StaysKnown (given_bytes files path g bytes) (given_bytes files path last [])
+    → given_last files path (10 ∷ []) last ≡ given_wanted files path mid wanted
+    → IfSome (given_wanted files path mid wanted) (λ k. h ≡ k)
+    → StaysKnown (given_all files path (10 ∷ []) g bytes) (Some h)
+all_stays files path g bytes last mid h wanted taken ended there =
+    let lasts = stays_then (given_bytes files path g bytes) (Some last) (given_last files path (10 ∷ []))
+    (subst (λ (v : Option GivenSoFar). StaysKnown (given_bytes files path g bytes) v) (given_nothing files path last) taken) in
+    stays_trans (given_all files path (10 ∷ []) g bytes) (given_last files path (10 ∷ []) last) (Some h) lasts
+    (last_stays files path (10 ∷ []) last mid h wanted ended there)
+
 -- all of a file was taken
-pub file_stays : (text_of : List ℕ → Option (List ℕ)) (depth : ℕ) (path : List ℕ) (number : ℕ) (bytes : List ℕ) (last mid h : GivenSoFar)
-    (wanted : Option (List ℕ)) → 0 < depth
-    → IfSome (text_of path) (λ known. bytes ≡ known)
-    → StaysKnown (given_bytes (file_given text_of (depth - 1)) path (given_none number) bytes)
-    (given_bytes (file_given text_of (depth - 1)) path last [])
-    → given_last (file_given text_of (depth - 1)) path (10 ∷ []) last ≡ given_wanted (file_given text_of (depth - 1)) path mid wanted
-    → IfSome (given_wanted (file_given text_of (depth - 1)) path mid wanted) (λ k. h ≡ k)
+file_stays : (text_of : List ℕ → Option (List ℕ)) (depth : ℕ) (path : List ℕ) (number : ℕ) (bytes : List ℕ) (h : GivenSoFar)
+    → 0 < depth → IfSome (text_of path) (λ known. bytes ≡ known)
+    → StaysKnown (given_all (file_given text_of (depth - 1)) path (10 ∷ []) (given_none number) bytes) (Some h)
     → StaysKnown (file_given text_of depth path number) (Some h)
 unfolding file_given
-file_stays text_of zero path number bytes last mid h wanted some known taken ended there = absurd (omega (arith, some))
-file_stays text_of (suc d) path number bytes last mid h wanted some known taken ended there =
+file_stays text_of zero path number bytes h some known taken = absurd (omega (arith, some))
+file_stays text_of (suc d) path number bytes h some known taken =
     let less : suc d - 1 ≡ d = omega arith in
     let files : Included = file_given text_of (suc d - 1) in
     let all = then_stays (text_of path) bytes (given_all files path (10 ∷ []) (given_none number)) known in
-    let lasts = stays_then (given_bytes files path (given_none number) bytes) (Some last) (given_last files path (10 ∷ []))
-    (subst (λ (v : Option GivenSoFar). StaysKnown (given_bytes files path (given_none number) bytes) v) (given_nothing files path last) taken) in
-    let file = last_stays files path (10 ∷ []) last mid h wanted ended there in
-    let both = stays_trans (given_all files path (10 ∷ []) (given_none number) bytes) (given_last files path (10 ∷ []) last) (Some h) lasts file in
     subst (λ (n : ℕ). StaysKnown (option_and_then (given_all (file_given text_of n) path (10 ∷ []) (given_none number)) (text_of path)) (Some h))
     less (stays_trans (option_and_then (given_all files path (10 ∷ []) (given_none number)) (text_of path))
-    (given_all files path (10 ∷ []) (given_none number) bytes) (Some h) all both)
+    (given_all files path (10 ∷ []) (given_none number) bytes) (Some h) all taken)
 
 file_there : (v : Option GivenSoFar) (path : List ℕ) (g file now : GivenSoFar) → StaysKnown v (Some file) → now ≡ given_file g path file
-    → IfSome (option_map (given_file g path) v) (λ k. now ≡ k)
+    → IfSome v (λ h. now ≡ given_file g path h)
 file_there None path g file now stays taken = tt
 file_there (Some k) path g file now stays taken =
     let same : Some file ≡ Some k = stays in
@@ -88,16 +92,29 @@ file_there (Some k) path g file now stays taken =
     taken ∙ ap (given_file g path) is
 
 -- and stands in place of the line that names it
-pub wanted_taken : (text_of : List ℕ → Option (List ℕ)) (depth : ℕ) (script wanted path : List ℕ) (g file now : GivenSoFar)
-    → is_path wanted ≡ true → path ≡ path_beside script wanted
-    → StaysKnown (file_given text_of depth path (one_line_more g.number)) (Some file)
+pub file_taken : (text_of : List ℕ → Option (List ℕ)) (depth : ℕ) (path bytes : List ℕ) (g file now : GivenSoFar) → 0 < depth
+    → IfSome (text_of path) (λ known. bytes ≡ known)
+    → StaysKnown (given_all (file_given text_of (depth - 1)) path (10 ∷ []) (given_none (one_line_more g.number)) bytes) (Some file)
     → now ≡ given_file g path file
+    → IfSome (file_given text_of depth path (one_line_more g.number)) (λ h. now ≡ given_file g path h)
+file_taken text_of depth path bytes g file now some known all taken =
+    file_there (file_given text_of depth path (one_line_more g.number)) path g file now
+    (file_stays text_of depth path (one_line_more g.number) bytes file some known all) taken
+
+mapped_there : (v : Option GivenSoFar) (f : GivenSoFar → GivenSoFar) (now : GivenSoFar) → IfSome v (λ h. now ≡ f h)
+    → IfSome (option_map f v) (λ k. now ≡ k)
+mapped_there None f now is = tt
+mapped_there (Some h) f now is = is
+
+pub wanted_taken : (text_of : List ℕ → Option (List ℕ)) (depth : ℕ) (script wanted path : List ℕ) (g now : GivenSoFar)
+    → is_path wanted ≡ true → path ≡ path_beside script wanted
+    → IfSome (file_given text_of depth path (one_line_more g.number)) (λ h. now ≡ given_file g path h)
     → IfSome (given_wanted (file_given text_of depth) script g (Some wanted)) (λ k. now ≡ k)
-wanted_taken text_of depth script wanted path g file now is at stays taken =
+wanted_taken text_of depth script wanted path g now is at taken =
     subst (λ (b : Bool). IfSome (if b then option_map (given_file g (path_beside script wanted))
     (file_given text_of depth (path_beside script wanted) (one_line_more g.number)) else None) (λ k. now ≡ k)) (sym is)
     (subst (λ (p : List ℕ). IfSome (option_map (given_file g p) (file_given text_of depth p (one_line_more g.number))) (λ k. now ≡ k)) at
-    (file_there (file_given text_of depth path (one_line_more g.number)) path g file now stays taken))
+    (mapped_there (file_given text_of depth path (one_line_more g.number)) (given_file g path) now taken))
 
 -- A TEXT THAT WAS GIVEN BEFORE
 

@@ -3,6 +3,7 @@ pub mod FrontLineLemmas
 pub mod GoingOnLemmas
 pub mod IncludingLemmas
 pub mod ReadLemmas
+pub mod ResultLemmas
 pub mod ScriptLemmas
 pub mod ShownLemmas
 pub mod SpellingLemmas

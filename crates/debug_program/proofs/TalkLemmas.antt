@@ -1,11 +1,12 @@
 -- Pieces of an input that are answered one after another, up to its end.
 use Rattle.std.proofs.Common.{◌≡◌, ◌⊎◌, inl, inr, ℕ, Bool, true, false, List, [], ◌++◌, length, Option, None, Some, IfSome, append_assoc, append-nil, ap, sym, subst, refl, take, Result, Ok, Err, ◌∙◌}
-use Rattle.std.specs.Prelude.{OnOk}
+use Rattle.std.specs.Prelude.{IfErr, OnOk}
+use Rattle.std.specs.Result.{IsErrAnd}
 use Rattle.std.specs.Io.KnownBytes.{Appends, Consumes, IsAtEnd, Keeps}
 use Rattle.std.specs.Str.Lines.{lines}
 use Rattle.std.proofs.KnownBytes.{Consumes-nil, Consumes-trans}
 use Rattle.debug_session.specs.RunError.{RunError}
-use Rattle.debug_session.specs.RunError.TheVariants.{WriteFault}
+use Rattle.debug_session.specs.RunError.TheVariants.{Memory, ReadFault, ScriptTooLong, WriteFault}
 use Rattle.profile.specs.images.Entries.{Entry}
 use Rattle.profile.specs.Devices.{device_inner}
 use Rattle.profile.specs.Output.{AddsAllBut, AddsFront}
@@ -13,36 +14,20 @@ use Rattle.profile.specs.declared.device.Device.{Device}
 use Rattle.profile.proofs.KnownLemmas.{Keeps-self}
 use Rattle.profile.proofs.OutputLemmas.{AddsAllBut-more, AddsAllBut-start, Appends-from_all_but, Appends-join}
 use Rattle.debug_session.specs.DebugScript.{debug_lines_answer, debug_script_answer, then_summary}
-use Rattle.debug_session.specs.DebugState.{DebugAnswered, DebugState, IsDebugged, debug_start_state}
+use Rattle.debug_session.specs.DebugState.{DebugAnswered, DebugState, IsDebugTypingError, IsDebugged, debug_start_state}
 use Rattle.debug_session.specs.ExitStatus.{debug_status}
 use Rattle.debug_session.specs.Reports.{summary_text}
-use Rattle.debug_program.specs.Typing.{IsTakenInPart}
-use Rattle.debug_session.specs.Failing.{ReportsWriteFault}
 use Rattle.debug_session.specs.Session.{debug_state}
-use Rattle.debug_program.specs.Typing.{IsTaken}
+use Rattle.debug_program.specs.Typing.{IsTaken, IsTakenInPart}
 use Rattle.debug_session.specs.DebugChecksReportForm.TheVariants.{Answers}
 use Rattle.debug_session.specs.declared.session.DebugSession.{DebugSession}
 use Rattle.debug_session.specs.declared.session.DebugSettings.{DebugSettings}
 use Rattle.debug_program.specs.declared.typing.DebugTyping.{DebugTyping}
 use Rattle.debug_session.proofs.LineLemmas.{none_answer}
 use Rattle.debug_session.proofs.FailLemmas.{front_start, front_then}
+use Rattle.debug_program.proofs.ResultLemmas.{FailsIn, fails_by, fails_in}
 use Rattle.debug_program.proofs.TakenLemmas.{part_answer, piece_answer}
-use Rattle.debug_program.specs.Talking.{BeginsInput, DebugsInput, HasTalked, IsPlainTalk, IsStatusOfInput, IsStatusOfScript, TakesPiece, TakesPieceInPart, debug_bytes_shown}
-
--- WRITERS
-
--- a writer that has failed no more than before
-pub unfailed_reports : {S A : Type 0} (has_failed : S → Bool) (old new : S) (value : A) → has_failed new ≡ has_failed old
-    → ReportsWriteFault has_failed old new (Ok value)
-unfailed_reports has_failed old new value same = record {
-  only = λ is. absurd (let no : Ok value ≡ Err WriteFault = is in cc);
-  reported = λ before after. absurd (let no : true ≡ false = sym after ∙ same ∙ before in cc);
-}
-
--- a writer whose fault is reported
-pub failed_reports : {S A : Type 0} (has_failed : S → Bool) (old new : S) (result : Result A RunError)
-    → result ≡ Err WriteFault → has_failed new ≡ true → ReportsWriteFault has_failed old new result
-failed_reports has_failed old new result is failed = record { only = λ same. failed; reported = λ before after. is }
+use Rattle.debug_program.specs.Talking.{BeginsInput, BeginsWhereFailed, DebugsInput, HasTalked, IsPlainTalk, IsStatusOfInput, IsStatusOfScript, TakesPiece, TakesPieceInPart, debug_bytes_shown}
 
 keeps_nothing : (a b : Option (List ℕ)) → Keeps a b → Appends a b []
 keeps_nothing None b kept = tt
@@ -52,11 +37,6 @@ keeps_nothing (Some a) (Some b) kept = kept ∙ sym (append-nil a)
 appends_kept : (a b c : Option (List ℕ)) (text : List ℕ) → Appends a b text → Keeps b c → Appends a c text
 appends_kept a b c text done kept =
     subst (λ (xs : List ℕ). Appends a c xs) (append-nil text) (Appends-join a b c text [] done (keeps_nothing b c kept))
-
--- a flag that would have stayed up was down
-pub flag_kept : (first last : Bool) → last ≡ false → (first ≡ true → last ≡ true) → last ≡ first
-flag_kept true last down stays = stays refl
-flag_kept false last down stays = down
 
 -- PIECES
 
@@ -72,12 +52,12 @@ talked_none t images input held is_terminal = record {
 
 -- one piece more, before which a prompt may stand
 pub talked_more : (old t now : DebugTyping) (images images_t images_now : List Entry)
-    (input left next before here prompted handed after : Option (List ℕ)) (is_terminal : Bool) (piece : List ℕ)
+    (input left next before here handed after : Option (List ℕ)) (is_terminal : Bool) (piece : List ℕ)
     → HasTalked old t images images_t input left before here is_terminal → Consumes left next piece
-    → (is_terminal ≡ false → prompted ≡ here) → Keeps prompted handed
+    → (is_terminal ≡ false → Keeps here handed)
     → TakesPiece t now images_t images_now handed after piece → now.session.setting ≡ t.session.setting
     → HasTalked old now images images_now input next before after is_terminal
-talked_more old t now images images_t images_now input left next before here prompted handed after is_terminal piece so_far takes prompt kept taken setting =
+talked_more old t now images images_t images_now input left next before here handed after is_terminal piece so_far takes kept taken setting =
     let reported : (rest : List ℕ) → debug_bytes_shown t images_t (piece ++ rest) ≡ _ =
     λ rest. piece_answer t now images_t images_now taken.between after piece rest taken.taken setting in
     record {
@@ -89,11 +69,9 @@ talked_more old t now images images_t images_now input left next before here pro
           ∙ so_far.state (piece ++ rest) ∙ ap (λ (a : DebugAnswered). a.state) (reported rest);
       text = λ plain rest.
           let whole = so_far.text plain (piece ++ rest) in
-          let stands = subst (λ (w : Option (List ℕ)). AddsAllBut before w (debug_bytes_shown t images_t (piece ++ rest)).text
-          (debug_bytes_shown old images (so_far.read ++ (piece ++ rest))).text) (sym (prompt plain.prompts)) whole in
-          let there = AddsAllBut-more before prompted handed (debug_bytes_shown t images_t (piece ++ rest)).text []
+          let there = AddsAllBut-more before here handed (debug_bytes_shown t images_t (piece ++ rest)).text []
           (debug_bytes_shown t images_t (piece ++ rest)).text (debug_bytes_shown old images (so_far.read ++ (piece ++ rest))).text
-          stands (keeps_nothing prompted handed kept) refl in
+          whole (keeps_nothing here handed (kept plain.prompts)) refl in
           let form = ap (λ (c : DebugSettings). c.form) so_far.setting ∙ plain.form in
           let answered : List ℕ = (debug_lines_answer t.session.setting t.number (debug_state t.session images_t)
           (lines (take taken.taken.count (t.pending.items ++ piece)))).text in
@@ -115,11 +93,11 @@ takes_so (Err e) old now images images_now before between after piece plain take
 
 -- no piece more, before which a prompt may stand all the same
 pub talked_still : (old t : DebugTyping) (images images_t : List Entry)
-    (input left next before here prompted handed : Option (List ℕ)) (is_terminal : Bool) (piece : List ℕ)
+    (input left next before here handed : Option (List ℕ)) (is_terminal : Bool) (piece : List ℕ)
     → HasTalked old t images images_t input left before here is_terminal → Consumes left next piece → piece ≡ []
-    → (is_terminal ≡ false → prompted ≡ here) → Keeps prompted handed
+    → (is_terminal ≡ false → Keeps here handed)
     → HasTalked old t images images_t input next before handed is_terminal
-talked_still old t images images_t input left next before here prompted handed is_terminal piece so_far takes none prompt kept = record {
+talked_still old t images images_t input left next before here handed is_terminal piece so_far takes none kept = record {
   read = so_far.read;
   of_input = subst (λ (xs : List ℕ). Consumes input next xs) (append-nil so_far.read)
       (Consumes-trans input left next so_far.read [] so_far.of_input (subst (λ (xs : List ℕ). Consumes left next xs) none takes));
@@ -128,9 +106,8 @@ talked_still old t images images_t input left next before here prompted handed i
   text = λ plain rest.
       let reported = (debug_bytes_shown t images_t rest).text in
       let all = (debug_bytes_shown old images (so_far.read ++ rest)).text in
-      let stands : AddsAllBut before prompted reported all =
-      subst (λ (w : Option (List ℕ)). AddsAllBut before w reported all) (sym (prompt plain.prompts)) (so_far.text plain rest) in
-      AddsAllBut-more before prompted handed reported [] reported all stands (keeps_nothing prompted handed kept) refl;
+      AddsAllBut-more before here handed reported [] reported all (so_far.text plain rest)
+      (keeps_nothing here handed (kept plain.prompts)) refl;
 }
 
 -- what is written is handed on, and what is left of the input stays
@@ -139,42 +116,41 @@ pub talked_so : (old t : DebugTyping) (images images_t : List Entry) (input left
     → HasTalked old t images images_t input other before handed is_terminal
 talked_so old t images images_t input left other before here handed is_terminal same kept so_far =
     subst (λ (v : Option (List ℕ)). HasTalked old t images images_t input v before handed is_terminal) (sym same)
-    (talked_still old t images images_t input left left before here here handed is_terminal [] so_far (Consumes-nil left) refl
-    (λ _. refl) kept)
+    (talked_still old t images images_t input left left before here handed is_terminal [] so_far (Consumes-nil left) refl
+    (λ _. kept))
 
 -- the same where a read gives no bytes
 pub talked_still_by : (old t : DebugTyping) (images images_t : List Entry)
-    (input left next before here prompted handed : Option (List ℕ)) (is_terminal : Bool) (count : ℕ) (buffer : List ℕ)
+    (input left next before here handed : Option (List ℕ)) (is_terminal : Bool) (count : ℕ) (buffer : List ℕ)
     → HasTalked old t images images_t input left before here is_terminal → Consumes left next (take count buffer) → count ≡ 0
-    → (is_terminal ≡ false → prompted ≡ here) → Keeps prompted handed
+    → (is_terminal ≡ false → Keeps here handed)
     → HasTalked old t images images_t input next before handed is_terminal
-talked_still_by old t images images_t input left next before here prompted handed is_terminal count buffer so_far takes none prompt kept =
-    talked_still old t images images_t input left next before here prompted handed is_terminal (take count buffer) so_far takes
-    (ap (λ (n : ℕ). take n buffer) none) prompt kept
+talked_still_by old t images images_t input left next before here handed is_terminal count buffer so_far takes none kept =
+    talked_still old t images images_t input left next before here handed is_terminal (take count buffer) so_far takes
+    (ap (λ (n : ℕ). take n buffer) none) kept
 
 -- A READER THAT FAILS
 
 -- where the next piece can't be read, a front of the answers stands written, behind which a prompt may stand
-pub talked_front : (old t : DebugTyping) (images images_t : List Entry) (input left before here prompted handed : Option (List ℕ))
+pub talked_front : (old t : DebugTyping) (images images_t : List Entry) (input left before here handed : Option (List ℕ))
     (is_terminal : Bool) → HasTalked old t images images_t input left before here is_terminal
-    → (is_terminal ≡ false → prompted ≡ here) → Keeps prompted handed → BeginsInput old images is_terminal input before handed
-talked_front old t images images_t None left before here prompted handed is_terminal so_far prompt kept = tt
-talked_front old t images images_t (Some bytes) None before here prompted handed is_terminal so_far prompt kept =
-    absurd so_far.of_input
-talked_front old t images images_t (Some bytes) (Some rest) before here prompted handed is_terminal so_far prompt kept = λ plain.
+    → (is_terminal ≡ false → Keeps here handed) → BeginsInput old images is_terminal input before handed
+talked_front old t images images_t None left before here handed is_terminal so_far kept = tt
+talked_front old t images images_t (Some bytes) None before here handed is_terminal so_far kept = absurd so_far.of_input
+talked_front old t images images_t (Some bytes) (Some rest) before here handed is_terminal so_far kept = λ plain.
     let reported : List ℕ = (debug_bytes_shown t images_t rest).text in
-    let same : Keeps here handed = subst (λ (w : Option (List ℕ)). Keeps w handed) (prompt plain.prompts) kept in
     record {
       rest = reported;
       front = subst (λ (xs : List ℕ). AddsAllBut before handed reported (debug_bytes_shown old images xs).text) (sym so_far.of_input)
-          (AddsAllBut-more before here handed reported [] reported _ (so_far.text plain rest) (keeps_nothing here handed same) refl);
+          (AddsAllBut-more before here handed reported [] reported _ (so_far.text plain rest)
+          (keeps_nothing here handed (kept plain.prompts)) refl);
     }
 
 pub talked_here : (old t : DebugTyping) (images images_t : List Entry) (input left before here : Option (List ℕ))
     (is_terminal : Bool) → HasTalked old t images images_t input left before here is_terminal
     → BeginsInput old images is_terminal input before here
 talked_here old t images images_t input left before here is_terminal so_far =
-    talked_front old t images images_t input left before here here here is_terminal so_far (λ _. refl) (Keeps-self here)
+    talked_front old t images images_t input left before here here is_terminal so_far (λ _. Keeps-self here)
 
 -- a writer that is as it was
 pub begins_still : {T : Type 0} (contents : T → Option (List ℕ)) (old : DebugTyping) (images : List Entry) (is_terminal : Bool)
@@ -192,8 +168,7 @@ pub takes_in_part : {S : Type 0} (contents : S → Option (List ℕ)) (old : Deb
     → (old.session.setting.form ≡ Answers → contents mid ≡ before) → text ≡ old.pending.items ++ piece
     → (new ≡ mid) ⊎ IsTakenInPart old images (contents mid) (contents new) text
     → TakesPieceInPart old images before (contents new) piece
-takes_in_part contents old images before mid new piece text plain is (inl same) =
-    record { between = contents mid; plain = plain; part = inl (ap contents same) }
+takes_in_part contents old images before mid new piece text plain is (inl same) = record { between = contents mid; plain = plain; part = inl (ap contents same) }
 takes_in_part contents old images before mid new piece text plain is (inr part) = record {
   between = contents mid;
   plain = plain;
@@ -204,6 +179,22 @@ takes_in_part contents old images before mid new piece text plain is (inr part) 
 pub takes_nothing : (old : DebugTyping) (images : List Entry) (held : Option (List ℕ)) (piece : List ℕ)
     → TakesPieceInPart old images held held piece
 takes_nothing old images held piece = record { between = held; plain = λ _. refl; part = inl refl }
+
+-- by how the answer to it failed
+pub takes_failed : {A S : Type 0} (result : Result A RunError) (contents : S → Option (List ℕ)) (old : DebugTyping) (images : List Entry)
+    (before : Option (List ℕ)) (mid new : S) (piece text : List ℕ)
+    → (old.session.setting.form ≡ Answers → contents mid ≡ before) → text ≡ old.pending.items ++ piece
+    → IfErr result IsDebugTypingError
+    → (result ≡ Err Memory → (new ≡ mid) ⊎ IsTakenInPart old images (contents mid) (contents new) text)
+    → (result ≡ Err ScriptTooLong → new ≡ mid)
+    → FailsIn result (TakesPieceInPart old images before (contents new) piece)
+takes_failed (Ok a) contents old images before mid new piece text plain is typing part none = tt
+takes_failed (Err Memory) contents old images before mid new piece text plain is typing part none =
+    inr (takes_in_part contents old images before mid new piece text plain is (part refl))
+takes_failed (Err ReadFault) contents old images before mid new piece text plain is typing part none = absurd typing
+takes_failed (Err WriteFault) contents old images before mid new piece text plain is typing part none = inl refl
+takes_failed (Err ScriptTooLong) contents old images before mid new piece text plain is typing part none =
+    inr (takes_in_part contents old images before mid new piece text plain is (inl (none refl)))
 
 front_by : (t : DebugTyping) (images : List Entry) (handed between after : Option (List ℕ)) (piece rest : List ℕ)
     → between ≡ handed → (after ≡ between) ⊎ IsTakenInPart t images between after (t.pending.items ++ piece)
@@ -217,29 +208,41 @@ front_by t images handed between after piece rest same (inr part) =
 
 -- what was read before it and a front of its answers are a front of what all is answered
 pub talked_part : (old t : DebugTyping) (images images_t : List Entry)
-    (input left next before here prompted handed after : Option (List ℕ)) (is_terminal : Bool) (piece : List ℕ)
+    (input left next before here handed after : Option (List ℕ)) (is_terminal : Bool) (piece : List ℕ)
     → HasTalked old t images images_t input left before here is_terminal → Consumes left next piece
-    → (is_terminal ≡ false → prompted ≡ here) → Keeps prompted handed → TakesPieceInPart t images_t handed after piece
+    → (is_terminal ≡ false → Keeps here handed) → TakesPieceInPart t images_t handed after piece
     → BeginsInput old images is_terminal input before after
-talked_part old t images images_t None left next before here prompted handed after is_terminal piece so_far takes prompt kept part = tt
-talked_part old t images images_t (Some bytes) None next before here prompted handed after is_terminal piece so_far takes prompt kept part =
+talked_part old t images images_t None left next before here handed after is_terminal piece so_far takes kept part = tt
+talked_part old t images images_t (Some bytes) None next before here handed after is_terminal piece so_far takes kept part =
     absurd so_far.of_input
-talked_part old t images images_t (Some bytes) (Some left) None before here prompted handed after is_terminal piece so_far takes prompt kept part =
+talked_part old t images images_t (Some bytes) (Some left) None before here handed after is_terminal piece so_far takes kept part =
     absurd takes
-talked_part old t images images_t (Some bytes) (Some left) (Some rest) before here prompted handed after is_terminal piece so_far takes prompt kept part =
+talked_part old t images images_t (Some bytes) (Some left) (Some rest) before here handed after is_terminal piece so_far takes kept part =
     λ plain.
     let reported : List ℕ = (debug_bytes_shown t images_t (piece ++ rest)).text in
     let all : List ℕ = (debug_bytes_shown old images bytes).text in
-    let same : Keeps here handed = subst (λ (w : Option (List ℕ)). Keeps w handed) (prompt plain.prompts) kept in
     let parts : bytes ≡ so_far.read ++ (piece ++ rest) =
     so_far.of_input ∙ ap (λ (xs : List ℕ). so_far.read ++ xs) takes in
     let done : AddsAllBut before handed reported all =
     subst (λ (xs : List ℕ). AddsAllBut before handed reported (debug_bytes_shown old images xs).text) (sym parts)
-    (AddsAllBut-more before here handed reported [] reported _ (so_far.text plain (piece ++ rest)) (keeps_nothing here handed same) refl) in
+    (AddsAllBut-more before here handed reported [] reported _ (so_far.text plain (piece ++ rest))
+    (keeps_nothing here handed (kept plain.prompts)) refl) in
     let answers : t.session.setting.form ≡ Answers =
     ap (λ (c : DebugSettings). c.form) so_far.setting ∙ plain.form in
     front_then before handed after reported reported [] all done (sym (append-nil reported))
     (front_by t images_t handed part.between after piece rest (part.plain answers) part.part)
+
+-- by the error that the call for the piece hands on
+pub talked_failed : {A : Type 0} (result : Result A RunError) (error : RunError) (old t : DebugTyping) (images images_t : List Entry)
+    (input left next before here handed after : Option (List ℕ)) (is_terminal : Bool) (piece : List ℕ)
+    → IsErrAnd result (λ e. e ≡ error) → (error ≡ WriteFault) ⊎ TakesPieceInPart t images_t handed after piece
+    → HasTalked old t images images_t input left before here is_terminal → Consumes left next piece
+    → (is_terminal ≡ false → Keeps here handed) → BeginsWhereFailed old images is_terminal input before after result
+talked_failed result error old t images images_t input left next before here handed after is_terminal piece given (inl fault) so_far takes kept =
+    fails_by result error (BeginsInput old images is_terminal input before after) given (inl fault)
+talked_failed result error old t images images_t input left next before here handed after is_terminal piece given (inr part) so_far takes kept =
+    fails_in result (BeginsInput old images is_terminal input before after)
+    (talked_part old t images images_t input left next before here handed after is_terminal piece so_far takes kept part)
 
 -- THE END
 
@@ -287,7 +290,6 @@ has_ended old now images images_now (Some bytes) (Some rest) before after is_ter
     ended_by old now images images_now before after is_terminal bytes talked.read rest talked.of_input
     (quit_shown now images_now rest quit) (talked.state rest) (λ plain. talked.text plain rest)
 
--- what is answered of what waits, where nothing follows it
 waiting_shown : (t : DebugTyping) (images : List Entry)
     → debug_bytes_shown t images [] ≡ debug_lines_answer t.session.setting t.number (debug_state t.session images) (lines t.pending.items)
 waiting_shown t images =

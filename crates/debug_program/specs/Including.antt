@@ -46,8 +46,9 @@ path_beside script path = path_join (unwrap_or (path_parent script) []) path
 
 -- the remark in place of a line INCLUDE: which lines of the whole text are its file's
 abbrev pub note_text : List ℕ → ℕ → ℕ → List ℕ
-note_text path first last = if nat_lt last first then codes "; INCLUDE " ++ path ++ codes ": no lines\n" else
-    codes "; INCLUDE " ++ path ++ codes ": lines " ++ decimal first ++ codes " to " ++ decimal last ++ codes " here\n"
+note_text path first last = if nat_lt last first then codes "; INCLUDE " ++ (path ++ codes ": no lines\n") else
+    codes "; INCLUDE " ++ (path ++ (codes ": lines " ++ (decimal first
+    ++ (codes " to " ++ (decimal last ++ codes " here\n")))))
 
 -- The text that a script has given, and where its reading stands: the bytes of the line that has no end yet, whether
 -- a block is open before it, and how many lines were given.

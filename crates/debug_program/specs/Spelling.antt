@@ -1,6 +1,5 @@
 -- The text of a transcript, which a program can run again and compare.
 use Rattle.std.specs.Prelude.{ℕ, ◌/◌, ◌%◌, ◌==◌, ◌&&◌, ◌||◌, Bool, nat_lt, List, [], ◌∷◌, ◌++◌, codes, if◌then◌else◌}
-use Rattle.std.specs.List.{flat_map}
 use Rattle.profile.specs.Digits.{hex_digit}
 use Rattle.debug_program.specs.declared.spelling.Side.{Side}
 use Rattle.debug_program.specs.declared.spelling.Side.TheVariants as side
@@ -18,9 +17,6 @@ spelt_byte byte =
     if is_shown byte then byte ∷ [] else
     92 ∷ 120 ∷ hex_digit (byte / 16) ∷ hex_digit (byte % 16) ∷ [])))
 
-abbrev pub spelt : List ℕ → List ℕ
-spelt bytes = flat_map spelt_byte bytes
-
 -- `#`, `$`, `>`, `=` and `!`, which mean something at the front of a line
 abbrev pub has_meaning : ℕ → Bool
 has_meaning byte = (byte == 35) || ((byte == 36) || ((byte == 62) || ((byte == 61) || (byte == 33))))
@@ -35,7 +31,7 @@ abbrev pub sign_of : Side → Bool → ℕ → List ℕ
 sign_of s is_first byte = if is_first then first_sign s byte else []
 
 abbrev pub spelt_in : Side → Bool → ℕ → List ℕ
-spelt_in s is_first byte = sign_of s is_first byte ++ spelt (byte ∷ [])
+spelt_in s is_first byte = sign_of s is_first byte ++ spelt_byte byte
 
 -- after a line without an end
 abbrev pub end_text : Bool → List ℕ

@@ -1,6 +1,6 @@
 -- What is read and answered, up to the end of what is read or a line QUIT: in whatever pieces it comes,
 -- it is answered as the whole of it is.
-use Rattle.std.specs.Prelude.{◌≡◌, ◌⊎◌, ℕ, Bool, true, false, List, ◌++◌, Option, IfSome}
+use Rattle.std.specs.Prelude.{◌≡◌, ◌⊎◌, ℕ, Bool, true, false, List, ◌++◌, Option, Result, IfErr, IfSome}
 use Rattle.std.specs.Io.KnownBytes.{Appends, Consumes}
 use Rattle.std.specs.Str.Lines.{lines}
 use Rattle.profile.specs.images.Entries.{Entry}
@@ -8,6 +8,8 @@ use Rattle.profile.specs.Output.{AddsAllBut, AddsFront}
 use Rattle.debug_session.specs.DebugScript.{debug_lines_answer, debug_script_answer, then_summary}
 use Rattle.debug_session.specs.DebugState.{DebugAnswered}
 use Rattle.debug_session.specs.ExitStatus.{debug_status}
+use Rattle.debug_session.specs.RunError.{RunError}
+use Rattle.debug_session.specs.RunError.TheVariants.{WriteFault}
 use Rattle.debug_program.specs.Typing.{IsTakenInPart}
 use Rattle.debug_session.specs.Session.{debug_state}
 use Rattle.debug_program.specs.Typing.{IsTaken}
@@ -65,6 +67,12 @@ abbrev pub BeginsInput : DebugTyping → List Entry → Bool → Option (List �
     → Option (List ℕ) → Type 0
 BeginsInput t images is_terminal input before after = IfSome input (λ bytes. IsPlainTalk t is_terminal
     → AddsFront before after (debug_bytes_shown t images bytes).text)
+
+-- The same where a talk ends in an error, but for one of the writer.
+abbrev pub BeginsWhereFailed : {A : Type 0} → DebugTyping → List Entry → Bool → Option (List ℕ)
+    → Option (List ℕ) → Option (List ℕ) → Result A RunError → Type 0
+BeginsWhereFailed t images is_terminal input before after result = IfErr result
+    (λ error. (error ≡ WriteFault) ⊎ BeginsInput t images is_terminal input before after)
 
 -- The exit status is that of the whole input.
 abbrev pub IsStatusOfInput : DebugTyping → List Entry → Option (List ℕ) → ℕ → Type 0

@@ -6,7 +6,7 @@ use Rattle.profile.specs.images.Entries.{Entry}
 use Rattle.debug_lines.specs.BlockEnds.{missing_ends_if, shown_beyond}
 use Rattle.debug_lines.specs.WholeDebugRequests.{AreWholeDebugRequests}
 use Rattle.debug_session.specs.DebugScript.{debug_lines_answer}
-use Rattle.debug_session.specs.DebugState.{DebugState, IsDebugged}
+use Rattle.debug_session.specs.DebugState.{DebugAnswered, DebugState, IsDebugged}
 use Rattle.debug_session.specs.Session.{debug_state}
 use Rattle.debug_program.specs.declared.typing.DebugTyping.{DebugTyping}
 
@@ -56,6 +56,11 @@ TypedTextTakenOneWay = (first one other : DebugTyping) (images images_one images
     → IsTaken first one images images_one before after text
     → IsTaken first other images images_other before after_other text
     → IsTypedAlike one other images_one images_other before after after_other
+
+-- what is answered of what waits, where nothing follows it
+abbrev pub waiting_answer : DebugTyping → List Entry → DebugAnswered
+waiting_answer t images =
+    debug_lines_answer t.session.setting t.number (debug_state t.session images) (lines t.pending.items)
 
 -- the lines at which blocks begin that lack their END, as far as a piece that comes next shows it, and
 -- nothing before it has

@@ -26,12 +26,22 @@ pub struct AnsweredLine<'a> {
 
 /// A debugging script under way: what its lines work on, and those that are left, as lines and as they
 /// stand.
-#[derive(Drop)]
 pub struct ScriptAnswering<'a> {
     session: DebugSession,
     images: Images,
     place: Lines<'a>,
     rest: &'a [u8],
+}
+
+impl Drop for ScriptAnswering<'_> {
+    fn drop(self) {
+        let ScriptAnswering {
+            session: _session,
+            images: _images,
+            place: _place,
+            rest: _rest,
+        } = self;
+    }
 }
 
 impl<'a> ScriptAnswering<'a> {

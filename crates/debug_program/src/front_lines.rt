@@ -1,9 +1,10 @@
 //! The first lines of a text as they stand there, with their ends.
 
-ghost use Rattle.std.specs.Prelude.{◌≡◌, ◌≤◌, ◌==◌, ◌++◌, ◌⊎◌, [], length, take, drop, IfSome, IfNone};
-ghost use Rattle.std.specs.List.{position};
+ghost use Rattle.std.specs.Prelude.{◌≡◌, ◌++◌, ◌⊎◌, [], take, drop};
 ghost use Rattle.std.specs.Str.Lines.{lines};
-ghost use Rattle.debug_program.specs.FrontLines.{EndsItsLines, IsBehindLine};
+ghost use Rattle.debug_program.specs.FrontLines.{EndsItsLines};
+
+use profile::text_lines::cut_line;
 
 /// The first so many lines of a text, with their ends, and what follows them.
 pub fn cut_lines(text: &[u8], count: usize) -> (&[u8], &[u8])
@@ -15,29 +16,11 @@ pub fn cut_lines(text: &[u8], count: usize) -> (&[u8], &[u8])
     let mut rest = text;
     let mut left = count;
     while left > 0 {
-        match place_behind_line(rest) {
-            Some(place) => rest = &rest[place..],
+        match cut_line(rest) {
+            Some((_, after)) => rest = after,
             None => return (text, &[]),
         }
         left -= 1;
     }
     text.split_at(text.len() - rest.len())
-}
-
-// The place behind the first line; `None` where that has no end.
-fn place_behind_line(text: &[u8]) -> Option<usize>
-    ensures some { IfSome result (IsBehindLine text.now) }
-    ensures none { IfNone result (length (lines text.now) ≤ 1) }
-{
-    match end_of_line(text) {
-        Some(place) => Some(place + 1),
-        None => None,
-    }
-}
-
-// The place of the end of the first line.
-fn end_of_line(text: &[u8]) -> Option<usize>
-    ensures { result ≡ position (λ b. b == 10) text.now }
-{
-    text.iter().position(|byte| *byte == b'\n')
 }

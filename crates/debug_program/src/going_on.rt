@@ -20,7 +20,7 @@ use std::io::Write;
 ///
 /// As [`talk`].
 pub fn talk_behind_script<F: SavingSource, R: SavingSource, W: Write, E: Sink>(
-    typing: DebugTyping,
+    mut typing: DebugTyping,
     images: &mut Images,
     script: &mut F,
     reader: &mut R,
@@ -34,12 +34,12 @@ pub fn talk_behind_script<F: SavingSource, R: SavingSource, W: Write, E: Sink>(
     ensures status { IfOk result (IsStatusOfBoth typing images.old (F.remaining script.old)
         (R.remaining reader.old)) }
 {
-    let mut typing = typing;
     let mut script = WholeLines {
         inner: script,
         is_line_open: false,
     };
-    answer_pieces(&mut typing, images, &mut script, writer, errors, false)?;
-    let status = talk(typing, images, reader, writer, errors, is_terminal)?;
-    Ok(status)
+    match answer_pieces(&mut typing, images, &mut script, writer, errors, false) {
+        Ok(()) => talk(typing, images, reader, writer, errors, is_terminal),
+        Err(error) => Err(error),
+    }
 }

@@ -9,7 +9,6 @@ use crate::typing::joined;
 use command_shell_lines::debug_words::text_behind;
 use command_shell_lines::is_block_end;
 use debug_lines::{opens_block, tidied};
-use itoa::Buffer;
 use std::alloc::{AllocError, Global};
 use std::path::Path;
 
@@ -135,17 +134,8 @@ pub(crate) fn note_text(
 ) -> Result<Vec<u8>, AllocError>
     ensures { IfOk result (λ note. note.items ≡ note_text path.now first last) }
 {
-    let mut note = Vec::from_slice(alloc, b"; INCLUDE ")?;
-    note.extend_from_slice(path.as_bytes())?;
     if last < first {
-        note.extend_from_slice(b": no lines\n")?;
-        return Ok(note);
+        return Ok(format!(in alloc; "; INCLUDE {path}: no lines\n")?.into_bytes());
     }
-    let mut digits = Buffer::new();
-    note.extend_from_slice(b": lines ")?;
-    note.extend_from_slice(digits.format(first).as_bytes())?;
-    note.extend_from_slice(b" to ")?;
-    note.extend_from_slice(digits.format(last).as_bytes())?;
-    note.extend_from_slice(b" here\n")?;
-    Ok(note)
+    Ok(format!(in alloc; "; INCLUDE {path}: lines {first} to {last} here\n")?.into_bytes())
 }

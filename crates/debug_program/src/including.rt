@@ -5,7 +5,6 @@ ghost use Rattle.std.specs.Prelude.{◌≡◌, ℕ, true, List, Option, option_m
 use crate::include_words::{
     is_block_open_after, is_path, note_text, path_beside, saved_line, without_return, words_of_line,
 };
-use crate::typing::joined;
 use debug_session::DebugSession;
 use profile::images::Images;
 use profile::memory_map::MOST_BYTES;
@@ -28,6 +27,9 @@ pub enum FileFault {
     /// It can't be read or written, for this reason.
     Reason(String),
 }
+
+/// What a line names, where it names something.
+pub(crate) type Words = Option<Vec<u8>>;
 
 /// The files that scripts include and save.
 pub trait ScriptFiles {
@@ -105,8 +107,8 @@ pub(crate) struct GivenText {
 }
 
 impl GivenText {
-    ghost use Rattle.std.specs.Prelude.{◌∷◌, [], length};
-    ghost use Rattle.debug_program.specs.Including.{GivenSoFar, Included, file_given, given_file, given_line, given_none, given_byte, given_ended, given_last, given_wanted};
+    ghost use Rattle.std.specs.Prelude.{◌∷◌, Some, [], length};
+    ghost use Rattle.debug_program.specs.Including.{GivenSoFar, Included, StaysKnown, file_given, given_all, given_file, given_line, given_none, given_byte, given_ended, given_last, given_wanted};
     ghost use Rattle.debug_program.specs.GivenText.{given_of};
 
     /// Before the first line of a script, where so many lines were given before it.
@@ -129,11 +131,7 @@ impl GivenText {
     /// # Errors
     ///
     /// Memory ran out, and nothing is taken.
-    pub(crate) fn take_byte(
-        &mut self,
-        alloc: Global,
-        byte: u8,
-    ) -> Result<Option<Vec<u8>>, AllocError>
+    pub(crate) fn take_byte(&mut self, alloc: Global, byte: u8) -> Result<Words, AllocError>
         ensures taken { IfOk result (λ wanted. (files : Included) (script : List ℕ)
             → given_byte files script (given_of self.old) byte
             ≡ given_wanted files script (given_of self.new) (option_map (λ path. path.items) wanted)) }
@@ -152,11 +150,7 @@ impl GivenText {
     /// # Errors
     ///
     /// Memory ran out, and nothing is taken.
-    pub(crate) fn take_last(
-        &mut self,
-        alloc: Global,
-        end: &[u8],
-    ) -> Result<Option<Vec<u8>>, AllocError>
+    pub(crate) fn take_last(&mut self, alloc: Global, end: &[u8]) -> Result<Words, AllocError>
         ensures taken { IfOk result (λ wanted. (files : Included) (script : List ℕ)
             → given_last files script end.now (given_of self.old)
             ≡ given_wanted files script (given_of self.new) (option_map (λ path. path.items) wanted)) }
@@ -171,7 +165,7 @@ impl GivenText {
     }
 
     // Takes a line that ends here.
-    fn take_line(&mut self, alloc: Global, end: &[u8]) -> Result<Option<Vec<u8>>, AllocError>
+    fn take_line(&mut self, alloc: Global, end: &[u8]) -> Result<Words, AllocError>
         ensures taken { IfOk result (λ wanted. (files : Included) (script : List ℕ)
             → given_ended files script end.now (given_of self.old)
             ≡ given_wanted files script (given_of self.new) (option_map (λ path. path.items) wanted)) }
@@ -204,6 +198,7 @@ impl GivenText {
     ///
     /// `Line` where it names no one file, the file can't be read, or files include one another more deeply
     /// than this; `Memory`. Nothing is taken then.
+    #[cycle(include)]
     pub(crate) fn include<D: ScriptFiles>(
         &mut self,
         alloc: Global,
@@ -222,29 +217,44 @@ impl GivenText {
         let Some(wanted) = wanted else {
             return Ok(());
         };
-        let place = IncludingLine {
-            script,
-            number: self.own_number.saturating_add(1),
-        };
+        let number = self.own_number.saturating_add(1);
+        let place = IncludingLine { script, number };
         let path = place.path_of(alloc, depth, wanted.as_slice())?;
         let bytes = place.text_at(alloc, files, path.as_str())?;
         let mut file = GivenText::new(alloc, self.number.saturating_add(1));
-        for byte in &bytes {
-            let inner = file.take_byte(alloc, *byte)?;
-            file.include(alloc, files, path.as_str(), depth - 1, inner)?;
-            if file.text.len() > MOST_BYTES {
-                return Err(place.refused(alloc, path.as_str(), TOO_MUCH));
+        file.take_text(alloc, files, place, depth - 1, &path, &bytes)?;
+        self.take_file(alloc, path.as_str(), &file)
+    }
+
+    // Takes all bytes of a file.
+    #[cycle(include)]
+    fn take_text<D: ScriptFiles>(
+        &mut self,
+        alloc: Global,
+        files: &D,
+        place: IncludingLine<'_>,
+        depth: usize,
+        path: &str,
+        bytes: &[u8],
+    ) -> Result<(), IncludeRefusal>
+        ensures { OnOk result (StaysKnown (given_all (file_given (D.text_of files.now) depth) path.now
+            (10 ∷ []) (given_of self.old) bytes.now) (Some (given_of self.new))) }
+    {
+        for byte in bytes {
+            let inner = self.take_byte(alloc, *byte)?;
+            self.include(alloc, files, path, depth, inner)?;
+            if self.text.len() > MOST_BYTES {
+                return Err(place.refused(alloc, path, TOO_MUCH));
             }
         }
-        let inner = file.take_last(alloc, b"\n")?;
-        file.include(alloc, files, path.as_str(), depth - 1, inner)?;
-        if file.text.len() > MOST_BYTES {
-            return Err(place.refused(alloc, path.as_str(), TOO_MUCH));
+        let inner = self.take_last(alloc, b"\n")?;
+        self.include(alloc, files, path, depth, inner)?;
+        if self.text.len() > MOST_BYTES {
+            return Err(place.refused(alloc, path, TOO_MUCH));
         }
-        if file.save.is_some() {
-            return Err(place.refused(alloc, path.as_str(), "it has a line SAVE"));
+        if self.save.is_some() {
+            return Err(place.refused(alloc, path, "it has a line SAVE"));
         }
-        self.take_file(alloc, path.as_str(), file)?;
         Ok(())
     }
 
@@ -269,14 +279,19 @@ impl GivenText {
     }
 
     // Takes in what a file gives in place of a line.
-    fn take_file(&mut self, alloc: Global, path: &str, file: GivenText) -> Result<(), AllocError>
+    fn take_file(
+        &mut self,
+        alloc: Global,
+        path: &str,
+        file: &GivenText,
+    ) -> Result<(), IncludeRefusal>
         ensures taken { OnOk result
-            (given_of self.new ≡ given_file (given_of self.old) path.now (given_of file)) }
+            (given_of self.new ≡ given_file (given_of self.old) path.now (given_of file.now)) }
         ensures kept { OnErr result (given_of self.new ≡ given_of self.old) }
     {
         let first = self.number.saturating_add(1).saturating_add(1);
-        let note = note_text(alloc, path, first, file.number)?;
-        let whole = joined(alloc, note.as_slice(), file.text.as_slice())?;
+        let mut whole = note_text(alloc, path, first, file.number)?;
+        whole.extend_from_slice(file.text.as_slice())?;
         self.text.extend_from_slice(&whole)?;
         self.line.clear();
         self.is_in_block = file.is_in_block;

@@ -38,10 +38,10 @@ pub struct IncludingScript<'a, D, S> {
 
 impl<'a, D: ScriptFiles, S: Source> IncludingScript<'a, D, S> {
     ghost use Rattle.std.specs.Prelude.{◌≤◌, ◌<◌, ◌+◌, take, length, true, is_some, vec_len, [], IfOk, OnOk, OnErr};
-    ghost use Rattle.std.specs.Io.KnownBytes.{Keeps, IsAtEnd, Consumes};
+    ghost use Rattle.std.specs.Io.KnownBytes.{Consumes};
     ghost use Rattle.debug_program.specs.Including.{PlainTextStays, file_given, given_none, script_left};
     ghost use Rattle.debug_program.specs.GoingOn.{known_unless};
-    ghost use Rattle.debug_program.specs.IncludingScript.{given_left};
+    ghost use Rattle.debug_program.specs.IncludingScript.{IsAllGiven, IsStillLeft, given_left};
 
     /// What a source gives from here on: the script of that path, or of none, which a person may type.
     pub fn new(
@@ -101,10 +101,8 @@ impl<'a, D: ScriptFiles, S: Source> IncludingScript<'a, D, S> {
     // Reads on: gives lines, if any, or keeps why not; and whether it is at the end.
     fn read_on(&mut self) -> Result<bool, ReadFault>
         requires { vec_len self.old.given.text ≤ self.old.pulled }
-        ensures kept { Keeps (given_left D.text_of S.remaining self.old)
-            (given_left D.text_of S.remaining self.new) }
-        ensures end { IfOk result (λ is_end. is_end ≡ true
-            → IsAtEnd (given_left D.text_of S.remaining self.new)) }
+        ensures kept { IsStillLeft D.text_of S.remaining self.old self.new }
+        ensures end { IfOk result (λ is_end. is_end ≡ true → IsAllGiven D.text_of S.remaining self.new) }
         ensures refusal { OnOk result (self.new.refusal ≡ self.old.refusal) }
         ensures refused { OnErr result (is_some self.new.refusal ≡ true) }
     {
@@ -129,10 +127,8 @@ impl<'a, D: ScriptFiles, S: Source> IncludingScript<'a, D, S> {
     // end.
     fn take_lines(&mut self) -> Result<bool, IncludeRefusal>
         requires { self.old.pulled ≡ 0 }
-        ensures kept { Keeps (given_left D.text_of S.remaining self.old)
-            (given_left D.text_of S.remaining self.new) }
-        ensures end { IfOk result (λ is_end. is_end ≡ true
-            → IsAtEnd (given_left D.text_of S.remaining self.new)) }
+        ensures kept { IsStillLeft D.text_of S.remaining self.old self.new }
+        ensures end { IfOk result (λ is_end. is_end ≡ true → IsAllGiven D.text_of S.remaining self.new) }
         ensures same { (self.new.refusal ≡ self.old.refusal) × (self.new.is_terminal ≡ self.old.is_terminal) }
     {
         if self.taken >= self.length {
@@ -151,8 +147,7 @@ impl<'a, D: ScriptFiles, S: Source> IncludingScript<'a, D, S> {
     fn take_next(&mut self) -> Result<(), IncludeRefusal>
         requires none { self.old.pulled ≡ 0 }
         requires some { self.old.taken < self.old.length }
-        ensures kept { Keeps (given_left D.text_of S.remaining self.old)
-            (given_left D.text_of S.remaining self.new) }
+        ensures kept { IsStillLeft D.text_of S.remaining self.old self.new }
         ensures none { self.new.pulled ≡ 0 }
         ensures same { (self.new.refusal ≡ self.old.refusal) × (self.new.is_terminal ≡ self.old.is_terminal) }
         ensures next { OnOk result
@@ -172,10 +167,8 @@ impl<'a, D: ScriptFiles, S: Source> IncludingScript<'a, D, S> {
     fn read_piece(&mut self) -> Result<bool, IncludeRefusal>
         requires read { self.old.length ≤ self.old.taken }
         requires none { self.old.pulled ≡ 0 }
-        ensures kept { Keeps (given_left D.text_of S.remaining self.old)
-            (given_left D.text_of S.remaining self.new) }
-        ensures end { IfOk result (λ is_end. is_end ≡ true
-            → IsAtEnd (given_left D.text_of S.remaining self.new)) }
+        ensures kept { IsStillLeft D.text_of S.remaining self.old self.new }
+        ensures end { IfOk result (λ is_end. is_end ≡ true → IsAllGiven D.text_of S.remaining self.new) }
         ensures same { (self.new.refusal ≡ self.old.refusal) × (self.new.is_terminal ≡ self.old.is_terminal) }
     {
         if self.given.line.len() > MOST_BYTES {

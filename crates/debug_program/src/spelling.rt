@@ -4,7 +4,7 @@
 ghost use Rattle.std.specs.Prelude.{◌≡◌, ◌<◌, true};
 ghost use Rattle.profile.specs.Digits.{hex_digit};
 ghost use Rattle.profile.specs.Output.{Writes};
-ghost use Rattle.debug_program.specs.Spelling.{end_text, sign_of, spelt, spelt_byte, spelt_from, spelt_in};
+ghost use Rattle.debug_program.specs.Spelling.{end_text, sign_of, spelt_byte, spelt_from, spelt_in};
 
 use profile::{Sink, WriteFault, push_all};
 
@@ -34,7 +34,7 @@ fn push_byte<W: Sink>(sink: &mut W, side: Side, is_first: bool, byte: u8) -> Res
     ensures { Writes W.contents W.has_failed sink.old sink.new result (spelt_in side is_first byte) }
 {
     push_all(sink, sign_of(side, is_first, byte))?;
-    push_spelt(sink, &[byte])
+    push_spelt_byte(sink, byte)
 }
 
 // What stands before a byte: where it is the first of its line, `> ` or `>` of what is typed, and
@@ -61,17 +61,8 @@ fn push_end<W: Sink>(sink: &mut W, is_first: bool) -> Result<(), WriteFault>
     }
 }
 
-// Writes bytes as a transcript spells them: `\\`, `\r`, `\t`, and `\x1B` for an unprintable byte.
-// Line feeds stay.
-fn push_spelt<W: Sink>(sink: &mut W, bytes: &[u8]) -> Result<(), WriteFault>
-    ensures { Writes W.contents W.has_failed sink.old sink.new result (spelt bytes.now) }
-{
-    for byte in bytes {
-        push_spelt_byte(sink, *byte)?;
-    }
-    Ok(())
-}
-
+// Writes a byte as a transcript spells it: `\\`, `\r`, `\t`, and `\x1B` for an unprintable byte.
+// A line feed stays.
 fn push_spelt_byte<W: Sink>(sink: &mut W, byte: u8) -> Result<(), WriteFault>
     ensures { Writes W.contents W.has_failed sink.old sink.new result (spelt_byte byte) }
 {

@@ -7,7 +7,7 @@ ghost use Rattle.debug_session.specs.Error.{IsLineError};
 ghost use Rattle.debug_session.specs.DebugState.{IsDebugTypingError};
 ghost use Rattle.debug_session.specs.Failing.{ReportsReadFault, ReportsWriteFault};
 ghost use Rattle.debug_session.specs.DebugChecksReportForm.TheVariants.{Answers};
-ghost use Rattle.debug_program.specs.Talking.{BeginsInput, DebugsInput, HasTalked, IsStatusOfInput, TakesPiece, TakesPieceInPart};
+ghost use Rattle.debug_program.specs.Talking.{BeginsInput, BeginsWhereFailed, DebugsInput, HasTalked, IsStatusOfInput, TakesPiece, TakesPieceInPart};
 
 use crate::including_script::SavingSource;
 use crate::typing::DebugTyping;
@@ -29,7 +29,7 @@ const PIECE: usize = 4096;
 /// `ReadFault`, `WriteFault`, `ScriptTooLong` and `Memory`, when a part of the answers may stand
 /// written.
 pub fn talk<R: SavingSource, W: Write, E: Sink>(
-    typing: DebugTyping,
+    mut typing: DebugTyping,
     images: &mut Images,
     reader: &mut R,
     writer: &mut Device<W>,
@@ -51,13 +51,32 @@ pub fn talk<R: SavingSource, W: Write, E: Sink>(
         (W.contents (device_inner writer.new)) }
     ensures write_fault { ReportsWriteFault device_failed writer.old writer.new result }
 {
-    let mut typing = typing;
-    answer_pieces(&mut typing, images, reader, writer, errors, is_terminal)?;
-    print_missing_at_end(&typing, writer, errors)?;
-    let session = typing.end(images, writer)?;
-    session.print_summary(writer)?;
+    talk_to_end(&mut typing, images, reader, writer, errors, is_terminal)
+}
+
+// The same, with a session that is lent.
+fn talk_to_end<R: SavingSource, W: Write, E: Sink>(
+    typing: &mut DebugTyping,
+    images: &mut Images,
+    reader: &mut R,
+    writer: &mut Device<W>,
+    errors: &mut E,
+    is_terminal: bool,
+) -> Result<u8, RunError>
+    ensures text { OnOk result (DebugsInput typing.old images.old is_terminal (R.remaining reader.old)
+        (W.contents (device_inner writer.old)) (W.contents (device_inner writer.new))) }
+    ensures status { IfOk result (IsStatusOfInput typing.old images.old (R.remaining reader.old)) }
+    ensures read_fault { ReportsReadFault R.has_failed reader.old reader.new result }
+    ensures front { BeginsWhereFailed typing.old images.old is_terminal (R.remaining reader.old)
+        (W.contents (device_inner writer.old)) (W.contents (device_inner writer.new)) result }
+    ensures write_fault { ReportsWriteFault device_failed writer.old writer.new result }
+{
+    answer_pieces(typing, images, reader, writer, errors, is_terminal)?;
+    print_missing_at_end(typing, writer, errors)?;
+    typing.answer_waiting(images, writer)?;
+    typing.session().print_summary(writer)?;
     hand_on(writer)?;
-    Ok(session.status())
+    Ok(typing.session().status())
 }
 
 // Answers all lines that are whole.
@@ -74,15 +93,8 @@ pub(crate) fn answer_pieces<R: SavingSource, W: Write, E: Sink>(
         (W.contents (device_inner writer.old)) (W.contents (device_inner writer.new)) is_terminal) }
     ensures ends { OnOk result ((IsAtEnd (R.remaining reader.new)) ⊎ (typing.new.session.has_quit ≡ true)) }
     ensures read_fault { ReportsReadFault R.has_failed reader.old reader.new result }
-    ensures read_front { result ≡ Err RunError.ReadFault → BeginsInput typing.old images.old is_terminal
-        (R.remaining reader.old) (W.contents (device_inner writer.old))
-        (W.contents (device_inner writer.new)) }
-    ensures memory { result ≡ Err RunError.Memory → BeginsInput typing.old images.old is_terminal
-        (R.remaining reader.old) (W.contents (device_inner writer.old))
-        (W.contents (device_inner writer.new)) }
-    ensures long_front { result ≡ Err RunError.ScriptTooLong → BeginsInput typing.old images.old is_terminal
-        (R.remaining reader.old) (W.contents (device_inner writer.old))
-        (W.contents (device_inner writer.new)) }
+    ensures front { BeginsWhereFailed typing.old images.old is_terminal (R.remaining reader.old)
+        (W.contents (device_inner writer.old)) (W.contents (device_inner writer.new)) result }
     ensures write_fault { ReportsWriteFault device_failed writer.old writer.new result }
     ensures read_flag { OnOk result (R.has_failed reader.old ≡ false → R.has_failed reader.new ≡ false) }
     ensures same_flag { OnOk result (device_failed writer.new ≡ device_failed writer.old) }
@@ -93,7 +105,6 @@ pub(crate) fn answer_pieces<R: SavingSource, W: Write, E: Sink>(
             return Ok(());
         }
         push_prompt(writer, is_terminal, typing.is_in_block())?;
-        hand_on(writer)?;
         let Ok(count) = reader.pull(&mut piece) else {
             return Err(RunError::ReadFault);
         };
@@ -135,18 +146,16 @@ fn answer_piece<W: Sink, E: Sink>(
     ensures taken { OnOk result (TakesPiece typing.old typing.new images.old images.new
         (W.contents sink.old) (W.contents sink.new) piece.now) }
     ensures setting { typing.new.session.setting ≡ typing.old.session.setting }
-    ensures memory { result ≡ Err RunError.Memory → TakesPieceInPart typing.old images.old
-        (W.contents sink.old) (W.contents sink.new) piece.now }
-    ensures long_front { result ≡ Err RunError.ScriptTooLong → TakesPieceInPart typing.old images.old
-        (W.contents sink.old) (W.contents sink.new) piece.now }
+    ensures front { IfErr result (λ error. (error ≡ RunError.WriteFault)
+        ⊎ TakesPieceInPart typing.old images.old (W.contents sink.old) (W.contents sink.new) piece.now) }
     ensures errors { IfErr result IsDebugTypingError }
     ensures write_fault { ReportsWriteFault W.has_failed sink.old sink.new result }
     ensures same_flag { OnOk result (W.has_failed sink.new ≡ W.has_failed sink.old) }
 {
     let read = typing.read(piece)?;
     let form = typing.session().setting.form;
-    print_missing_ends(sink, errors, form, read.missing_ends())?;
-    typing.answer(images, sink, read)
+    print_missing_ends(sink, errors, form, read.missing_ends.as_slice())?;
+    typing.answer(images, sink, &read)
 }
 
 fn print_missing_at_end<W: Sink, E: Sink>(
@@ -166,7 +175,10 @@ fn print_missing_at_end<W: Sink, E: Sink>(
     }
     let begins = typing.missing_ends_at_end()?;
     let form = typing.session().setting.form;
-    Ok(print_missing_ends(sink, errors, form, begins.as_slice())?)
+    match print_missing_ends(sink, errors, form, begins.as_slice()) {
+        Ok(()) => Ok(()),
+        Err(WriteFault) => Err(RunError::WriteFault),
+    }
 }
 
 // Standard error may be closed: what it is told is no answer.
@@ -189,32 +201,30 @@ fn print_missing_ends<W: Sink, E: Sink>(
     }
 }
 
-fn push_missing_ends<W: Sink>(
-    sink: &mut W,
-    front: &[u8],
-    begins: &[usize],
-) -> Result<(), WriteFault>
+fn push_missing_ends<W: Sink>(sink: &mut W, front: &[u8], lines: &[usize]) -> Result<(), WriteFault>
     ensures flag { OnErr result (W.has_failed sink.new ≡ true) }
     ensures same_flag { OnOk result (W.has_failed sink.new ≡ W.has_failed sink.old) }
 {
-    for begin in begins {
-        push_missing_end(sink, front, *begin)?;
+    for line in lines {
+        push_missing_end(sink, front, *line)?;
     }
     Ok(())
 }
 
-// `> ` before a line, `| ` within a block.
-fn push_prompt<W: Sink>(
-    sink: &mut W,
+// At a terminal `> ` before a line, `| ` within a block; what the writer holds back is handed on.
+fn push_prompt<W: Write>(
+    writer: &mut Device<W>,
     is_terminal: bool,
     is_in_block: bool,
-) -> Result<(), WriteFault>
-    ensures plain { OnOk result (is_terminal ≡ false → W.contents sink.new ≡ W.contents sink.old) }
-    ensures flag { OnErr result (W.has_failed sink.new ≡ true) }
-    ensures same_flag { OnOk result (W.has_failed sink.new ≡ W.has_failed sink.old) }
+) -> Result<(), RunError>
+    ensures plain { is_terminal ≡ false → Keeps (W.contents (device_inner writer.old))
+        (W.contents (device_inner writer.new)) }
+    ensures errors { IfErr result (λ error. error ≡ RunError.WriteFault) }
+    ensures flag { OnErr result (device_failed writer.new ≡ true) }
+    ensures same_flag { OnOk result (device_failed writer.new ≡ device_failed writer.old) }
 {
-    if !is_terminal {
-        return Ok(());
+    if is_terminal {
+        push_all(writer, if is_in_block { b"| " } else { b"> " })?;
     }
-    push_all(sink, if is_in_block { b"| " } else { b"> " })
+    hand_on(writer)
 }

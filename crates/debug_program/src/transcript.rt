@@ -48,8 +48,7 @@ pub fn show_transcript<R: Source, W: Sink>(
     ensures few_pulls { PullsAtMost (R.pulls reader.old) (R.pulls reader.new) 1048577 }
 {
     let script = read_script(alloc, reader)?;
-    let status = push_transcript(alloc, sink, script.as_slice(), images, setting)?;
-    Ok(status)
+    push_transcript(alloc, sink, script.as_slice(), images, setting)
 }
 
 /// Answers the lines of a debugging script one after another, each once, up to its end or a line

@@ -1,9 +1,7 @@
 //! A debugging script as it is typed: bytes that come in pieces, and each line answered as soon as it
 //! is whole.
 
-ghost use Rattle.std.specs.Prelude.{◌≡◌, ◌++◌, ◌+◌, ◌<◌, ◌≤◌, ◌^◌, ◌⊎◌, List, [], Err, IfOk, IfErr, OnOk, OnErr, length};
-ghost use Rattle.std.specs.Str.Lines.{lines};
-ghost use Rattle.debug_lines.specs.BlockEnds.{shown_beyond};
+ghost use Rattle.std.specs.Prelude.{◌≡◌, ◌++◌, ◌+◌, ◌<◌, ◌≤◌, ◌^◌, ◌⊎◌, List, [], Err, IfOk, IfErr, OnOk, drop, length, min};
 ghost use Rattle.debug_lines.specs.WholeDebugRequests.{AreWholeDebugRequests};
 ghost use Rattle.debug_session.specs.DebugState.{IsDebugTypingError};
 ghost use Rattle.debug_session.specs.Error.{IsLineError};
@@ -37,26 +35,17 @@ pub struct TypedPiece {
     text: Vec<u8>,
     // How many of its bytes are requests that are whole.
     whole: usize,
-    missing_ends: Vec<usize>,
-    ghost requests: { AreWholeDebugRequests text.items whole },
-}
-
-impl TypedPiece {
     /// The lines at which blocks begin that turn out to lack their END in the piece.
-    pub fn missing_ends(&self) -> &[usize]
-        ensures { result.now ≡ self.now.missing_ends.items }
-    {
-        self.missing_ends.as_slice()
-    }
+    pub missing_ends: Vec<usize>,
+    ghost requests: { AreWholeDebugRequests text.items whole },
 }
 
 impl DebugTyping {
     ghost use Rattle.profile.specs.images.Entries.{Entry};
-    ghost use Rattle.debug_session.specs.DebugScript.{debug_lines_answer};
     ghost use Rattle.debug_session.specs.DebugState.{IsDebugged, debug_start_state};
     ghost use Rattle.debug_session.specs.Failing.{ReportsWriteFault};
     ghost use Rattle.debug_session.specs.Session.{debug_state};
-    ghost use Rattle.debug_program.specs.Typing.{HasTooLong, IsTaken, IsTakenInPart, missing_ends_at_end, missing_ends_typed, TypedPieceThenRest, TypedPiecesJoin, TypedTextTakenOneWay};
+    ghost use Rattle.debug_program.specs.Typing.{HasTooLong, IsTaken, IsTakenInPart, missing_ends_at_end, waiting_answer, missing_ends_typed, TypedPieceThenRest, TypedPiecesJoin, TypedTextTakenOneWay};
 
     /// A session on a fresh machine, before anything is typed.
     ///
@@ -101,13 +90,13 @@ impl DebugTyping {
             (λ read. read.missing_ends.items ≡ missing_ends_typed self.now piece.now) }
     {
         let waiting = self.pending.as_slice();
+        let known = missing_ends(self.alloc, waiting, self.number, false)?.len();
         let text = joined(self.alloc, waiting, piece)?;
-        let before = missing_ends(self.alloc, waiting, self.number, false)?;
         let reading = read_requests(self.alloc, text.as_slice(), self.number)?;
-        let shown = reading.missing_ends.as_slice();
+        let missing_ends = shown_beyond(self.alloc, known, reading.missing_ends.as_slice())?;
         Ok(TypedPiece {
             whole: reading.whole,
-            missing_ends: shown_beyond(self.alloc, before.as_slice(), shown)?,
+            missing_ends,
             text,
         })
     }
@@ -121,9 +110,9 @@ impl DebugTyping {
         ensures { IfOk result (λ begins. begins.items ≡ missing_ends_at_end self.now) }
     {
         let waiting = self.pending.as_slice();
-        let before = missing_ends(self.alloc, waiting, self.number, false)?;
+        let known = missing_ends(self.alloc, waiting, self.number, false)?.len();
         let all = missing_ends(self.alloc, waiting, self.number, true)?;
-        shown_beyond(self.alloc, before.as_slice(), all.as_slice())
+        shown_beyond(self.alloc, known, all.as_slice())
     }
 
     /// Takes a piece of what is typed, and answers each request that is whole then, one after
@@ -156,7 +145,7 @@ impl DebugTyping {
         ensures same_flag { OnOk result (W.has_failed sink.new ≡ W.has_failed sink.old) }
     {
         let read = self.read(piece)?;
-        self.answer(images, sink, read)
+        self.answer(images, sink, &read)
     }
 
     /// Answers each request that is whole in what was read. The rest waits for the next piece.
@@ -170,15 +159,16 @@ impl DebugTyping {
         &mut self,
         images: &mut Images,
         sink: &mut W,
-        read: TypedPiece,
+        read: &TypedPiece,
     ) -> Result<(), RunError>
         ensures taken { OnOk result (IsTaken self.old self.new images.old images.new
-            (W.contents sink.old) (W.contents sink.new) read.text.items) }
+            (W.contents sink.old) (W.contents sink.new) read.now.text.items) }
         ensures setting { self.new.session.setting ≡ self.old.session.setting }
         ensures waiting { OnOk result (length self.new.pending.items ≤ 1048576) }
         ensures memory { result ≡ Err RunError.Memory → (sink.new ≡ sink.old) ⊎ IsTakenInPart self.old
-            images.old (W.contents sink.old) (W.contents sink.new) read.text.items }
-        ensures too_long { result ≡ Err RunError.ScriptTooLong → HasTooLong self.old.number read.text.items }
+            images.old (W.contents sink.old) (W.contents sink.new) read.now.text.items }
+        ensures too_long { result ≡ Err RunError.ScriptTooLong
+            → HasTooLong self.old.number read.now.text.items }
         ensures nothing { result ≡ Err RunError.ScriptTooLong
             → (sink.new ≡ sink.old) × (self.new ≡ self.old) × (images.new ≡ images.old) }
         ensures write_fault { ReportsWriteFault W.has_failed sink.old sink.new result }
@@ -207,23 +197,43 @@ impl DebugTyping {
     /// # Errors
     ///
     /// `Memory` and `WriteFault`, when a part of the answer may stand written.
-    pub fn end<W: Sink>(self, images: &mut Images, sink: &mut W) -> Result<DebugSession, RunError>
+    pub fn end<W: Sink>(
+        mut self,
+        images: &mut Images,
+        sink: &mut W,
+    ) -> Result<DebugSession, RunError>
         ensures reported { IfOk result (λ session. IsDebugged (W.contents sink.old) (W.contents sink.new)
-            (debug_state session images.new)
-            (debug_lines_answer self.session.setting self.number (debug_state self.session images.old)
-            (lines self.pending.items))) }
+            (debug_state session images.new) (waiting_answer self images.old)) }
         ensures setting { IfOk result (λ session. session.setting ≡ self.session.setting) }
         ensures memory { result ≡ Err RunError.Memory → AddsFront (W.contents sink.old) (W.contents sink.new)
-            (debug_lines_answer self.session.setting self.number (debug_state self.session images.old)
-            (lines self.pending.items)).text }
+            (waiting_answer self images.old).text }
         ensures write_fault { ReportsWriteFault W.has_failed sink.old sink.new result }
         ensures errors { IfErr result IsLineError }
         ensures same_flag { OnOk result (W.has_failed sink.new ≡ W.has_failed sink.old) }
     {
-        let mut session = self.session;
+        match self.answer_waiting(images, sink) {
+            Ok(()) => Ok(self.session),
+            Err(error) => Err(error),
+        }
+    }
+
+    // Answers what waits, as `end` does, and keeps the session.
+    pub(crate) fn answer_waiting<W: Sink>(
+        &mut self,
+        images: &mut Images,
+        sink: &mut W,
+    ) -> Result<(), RunError>
+        ensures reported { OnOk result (IsDebugged (W.contents sink.old) (W.contents sink.new)
+            (debug_state self.new.session images.new) (waiting_answer self.old images.old)) }
+        ensures setting { self.new.session.setting ≡ self.old.session.setting }
+        ensures memory { result ≡ Err RunError.Memory → AddsFront (W.contents sink.old) (W.contents sink.new)
+            (waiting_answer self.old images.old).text }
+        ensures write_fault { ReportsWriteFault W.has_failed sink.old sink.new result }
+        ensures errors { IfErr result IsLineError }
+        ensures same_flag { OnOk result (W.has_failed sink.new ≡ W.has_failed sink.old) }
+    {
         let mut lines = Lines::after(self.pending.as_slice(), self.number);
-        session.answer_lines(images, sink, &mut lines)?;
-        Ok(session)
+        self.session.answer_lines(images, sink, &mut lines)
     }
 
     /// What is typed in two pieces is taken as the two in one are.
@@ -253,10 +263,9 @@ pub(crate) fn joined(alloc: Global, front: &[u8], rest: &[u8]) -> Result<Vec<u8>
     Ok(all)
 }
 
-// What a longer reading shows beyond a shorter one.
-fn shown_beyond(alloc: Global, before: &[usize], all: &[usize]) -> Result<Vec<usize>, AllocError>
-    ensures { IfOk result (λ beyond. beyond.items ≡ shown_beyond before.now all.now) }
+// What a longer reading shows beyond a shorter one, which shows so many.
+fn shown_beyond(alloc: Global, known: usize, all: &[usize]) -> Result<Vec<usize>, AllocError>
+    ensures { IfOk result (λ beyond. beyond.items ≡ drop (min known (length all.now)) all.now) }
 {
-    let known = before.len().min(all.len());
-    Vec::from_slice(alloc, &all[known..])
+    Vec::from_slice(alloc, &all[known.min(all.len())..])
 }

@@ -1,13 +1,19 @@
 -- By the lemmas of GoingOnLemmas.
+use Rattle.std.proofs.Common.{ℕ}
+use Rattle.debug_program.specs.GoingOn.{IsStatusOfBoth}
+use Rattle.debug_program.specs.Talking.{IsStatusOfInput}
 use Rattle.debug_program.proofs.GoingOnLemmas.{both_status, both_text}
+use Rattle.debug_program.proofs.ResultLemmas.{if_so_then, so_then}
 use Rattle.debug_program.proofs.going_on.talk_behind_script.Goals as goal
 
-pub returns-clause-text : goal.returns-clause-text
-returns-clause-text g c =
-    both_text _ _ _ _ (g.F.Source.remaining c.args.script.now) _ _ _ _ _ _ c.in_ok-answer_pieces.ensures.talked
-    c.in_ok-answer_pieces.ensures.ends c.in_ok-status.ensures.text
+pub returns-in-Ok-clause-text : goal.returns-in-Ok-clause-text
+returns-in-Ok-clause-text g c =
+    so_then c.talk.result _ _
+    (both_text _ _ _ _ (g.F.Source.remaining c.args.script.now) _ _ _ _ _ _ c.in-Ok.ensures.talked c.in-Ok.ensures.ends)
+    c.talk.ensures.text
 
-pub returns-clause-status : goal.returns-clause-status
-returns-clause-status g c =
-    both_status _ _ _ _ (g.F.Source.remaining c.args.script.now) _ _ _ _ _ c.in_ok-answer_pieces.ensures.talked
-    c.in_ok-answer_pieces.ensures.ends c.in_ok-status.ensures.status
+pub returns-in-Ok-clause-status : goal.returns-in-Ok-clause-status
+returns-in-Ok-clause-status g c =
+    if_so_then c.talk.result _ _
+    (λ (status : ℕ). both_status _ _ _ _ (g.F.Source.remaining c.args.script.now) _ _ _ _ status c.in-Ok.ensures.talked
+    c.in-Ok.ensures.ends) c.talk.ensures.status

@@ -1,4 +1,4 @@
-use Rattle.debug_program.proofs.TalkLemmas.{flag_kept}
+use Rattle.debug_program.proofs.ResultLemmas.{flag_kept}
 use Rattle.debug_program.proofs.talk.hand_on.Goals as goal
 
 pub returns-in-Ok-clause-same_flag : goal.returns-in-Ok-clause-same_flag

@@ -2,5 +2,5 @@ use Rattle.std.proofs.Common.{◌≡◌}
 use Rattle.debug_program.proofs.talk.push_missing_ends.Given as goal
 
 -- no line so far made the writer fail
-abbrev pub invariant-loop-begin : goal.invariant-loop-begin
-invariant-loop-begin g l = record { same_flag : g.W.Sink.has_failed l.sink ≡ g.W.Sink.has_failed l.fn.sink }
+abbrev pub invariant-loop-line : goal.invariant-loop-line
+invariant-loop-line g l = record { same_flag : g.W.Sink.has_failed l.sink ≡ g.W.Sink.has_failed l.fn.sink }

@@ -1,23 +1,27 @@
-use Rattle.std.proofs.Common.{◌≡◌, ℕ, List, inl, refl, rules}
+use Rattle.std.proofs.Common.{◌≡◌, ℕ, List, inl, refl}
 use Rattle.debug_session.specs.ExitStatus.{debug_status}
 use Rattle.debug_program.specs.Transcript.{BeginsTranscript, debug_shown_in, WritesTranscript}
 use Rattle.debug_program.proofs.ReadLemmas.{of_read, of_read_or}
+use Rattle.debug_program.proofs.ResultLemmas.{if_so_then, so_then}
 use Rattle.debug_program.proofs.transcript.show_transcript.Goals as goal
 
 pub returns-clause-text : goal.returns-clause-text
 returns-clause-text g c =
-    of_read (λ script. WritesTranscript c.args.setting c.args.images script _ _) _ c.in_ok-script.script.items
-    c.as_slice.result.now c.as_slice.ensures.value c.in_ok-script.ensures.bytes c.in_ok-status.ensures.text
+    so_then c.push_transcript.result _ _
+    (of_read (λ script. WritesTranscript c.args.setting c.args.images script _ _) _ c.in_ok-script.script.items
+    c.as_slice.result.now c.as_slice.ensures.value c.in_ok-script.ensures.bytes) c.push_transcript.ensures.text
 
 pub returns-clause-status : goal.returns-clause-status
 returns-clause-status g c =
-    of_read (λ script. c.in_ok-status.status ≡ debug_status (debug_shown_in c.args.setting c.args.images script).state) _
-    c.in_ok-script.script.items c.as_slice.result.now c.as_slice.ensures.value c.in_ok-script.ensures.bytes c.in_ok-status.ensures.status
+    if_so_then c.push_transcript.result _ _
+    (λ (status : ℕ). of_read (λ script. status ≡ debug_status (debug_shown_in c.args.setting c.args.images script).state) _
+    c.in_ok-script.script.items c.as_slice.result.now c.as_slice.ensures.value c.in_ok-script.ensures.bytes)
+    c.push_transcript.ensures.status
 
 pub returns-in_err-script-clause-memory : goal.returns-in_err-script-clause-memory
 returns-in_err-script-clause-memory g c = λ is. inl refl
 
-pub returns-in_err-status-clause-memory : goal.returns-in_err-status-clause-memory
-returns-in_err-status-clause-memory g c = λ is.
+pub returns-clause-memory : goal.returns-clause-memory
+returns-clause-memory g c = λ is.
     of_read_or (λ script. BeginsTranscript c.args.setting c.args.images script _ _) _ _ c.in_ok-script.script.items
-    c.as_slice.result.now c.as_slice.ensures.value c.in_ok-script.ensures.bytes (c.in_err-status.ensures.memory (search rules))
+    c.as_slice.result.now c.as_slice.ensures.value c.in_ok-script.ensures.bytes (c.push_transcript.ensures.memory is)

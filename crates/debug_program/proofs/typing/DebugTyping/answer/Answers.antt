@@ -13,7 +13,7 @@ overflow_add-self g c =
     let count = c.count.ensures in
     let front = c.split_at.ensures.front_len in
     let all = c.as_slice-all.ensures.len in
-    let within = c.args.read.requests.in_text in
+    let within = c.args.read.now.requests.in_text in
     let fewer = c.if-self-all.false in
     let room : c.args.self.now.number + length c.split_at.result.0.now < 2 ^ 64 = omega (arith, front, all, within, fewer) in
     omega (arith, most, number, left, counted, read, count, front, room)
@@ -30,7 +30,7 @@ invariant_of-self-2 g c =
     let front = c.split_at.ensures.front_len in
     let back = c.split_at.ensures.back_len in
     let all = c.as_slice-all.ensures.len in
-    let within = c.args.read.requests.in_text in
+    let within = c.args.read.now.requests.in_text in
     let fewer = c.if-self-all.false in
     let room : c.args.self.now.number + (length c.split_at.result.0.now + length c.split_at.result.1.now) < 2 ^ 64 =
     omega (arith, front, back, all, within, fewer) in
