@@ -1,4 +1,5 @@
--- How the twin takes the steps of a line, for their records.
+-- How the twin takes the steps of a line, for their records; and what is written of a step, of a line
+-- that was answered, and of all lines that are answered with one.
 use Rattle.std.specs.Prelude.{◌≡◌, ℕ, ◌==◌, Bool, true, false, List, [], ◌∷◌, ◌++◌, codes, Option, Some, is_some, IfSome}
 use Rattle.debug_session.specs.DebugState.{DebugState}
 use Rattle.trace_json.specs.MachineState.{MachineState}
@@ -95,7 +96,7 @@ pub record IsLineRecorded (line words : List ℕ) (time : Option ℕ) (at after 
   pub records : Adds (AreRecords (line_forms line words time at)) old new
   pub state : after ≡ state_behind line words at
 
--- So was such a line that is next, and all that are answered with it.
+-- So were the line that is next and all that are answered with it.
 abbrev pub IsFirstRecorded : RecordedLine → RecordingState → RecordingState → Option (List ℕ) → Option (List ℕ)
     → Type 0
 IsFirstRecorded first before after old new =
