@@ -1,7 +1,5 @@
 -- By the lemmas of GoingOnLemmas.
 use Rattle.std.proofs.Common.{ℕ}
-use Rattle.debug_program.specs.GoingOn.{IsStatusOfBoth}
-use Rattle.debug_program.specs.Talking.{IsStatusOfInput}
 use Rattle.debug_program.proofs.GoingOnLemmas.{both_status, both_text}
 use Rattle.debug_program.proofs.ResultLemmas.{if_so_then, so_then}
 use Rattle.debug_program.proofs.going_on.talk_behind_script.Goals as goal

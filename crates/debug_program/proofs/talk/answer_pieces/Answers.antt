@@ -1,5 +1,5 @@
 -- By the lemmas of TalkLemmas.
-use Rattle.std.proofs.Common.{◌≡◌, ℕ, true, inl, inr, refl, sym, ap, ◌∙◌}
+use Rattle.std.proofs.Common.{◌≡◌, true, inr, refl, sym, ap, ◌∙◌}
 use Rattle.debug_session.specs.Session.{debug_state}
 use Rattle.debug_session.specs.declared.session.DebugSession.{DebugSession}
 use Rattle.debug_program.proofs.ResultLemmas.{fails_in}

@@ -1,6 +1,5 @@
 -- By what a session that is lent keeps.
 use Rattle.std.proofs.Common.{◌≡◌}
-use Rattle.debug_session.specs.RunError.{RunError}
 use Rattle.debug_session.specs.RunError.TheVariants.{Memory, ReadFault, ScriptTooLong, WriteFault}
 use Rattle.debug_program.proofs.ResultLemmas.{failed_in}
 use Rattle.debug_program.proofs.talk.talk.Goals as goal

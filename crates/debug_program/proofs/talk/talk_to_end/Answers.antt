@@ -1,5 +1,5 @@
 -- By the lemmas of TalkLemmas.
-use Rattle.std.proofs.Common.{◌≡◌, ℕ, List, Option, Err, ap, rules, subst, ◌∙◌}
+use Rattle.std.proofs.Common.{◌≡◌, List, Err, ap, rules, subst, ◌∙◌}
 use Rattle.std.specs.Io.KnownBytes.{Appends}
 use Rattle.profile.specs.images.Entries.{Entry}
 use Rattle.debug_session.specs.ExitStatus.{debug_status}

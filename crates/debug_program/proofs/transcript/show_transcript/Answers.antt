@@ -1,4 +1,4 @@
-use Rattle.std.proofs.Common.{◌≡◌, ℕ, List, inl, refl}
+use Rattle.std.proofs.Common.{◌≡◌, ℕ, inl, refl}
 use Rattle.debug_session.specs.ExitStatus.{debug_status}
 use Rattle.debug_program.specs.Transcript.{BeginsTranscript, debug_shown_in, WritesTranscript}
 use Rattle.debug_program.proofs.ReadLemmas.{of_read, of_read_or}

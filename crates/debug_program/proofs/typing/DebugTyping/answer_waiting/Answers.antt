@@ -1,5 +1,5 @@
 -- By the answer to all lines of what waits.
-use Rattle.std.proofs.Common.{◌≡◌, List, ℕ, Err, ap, subst, ◌∙◌}
+use Rattle.std.proofs.Common.{◌≡◌, List, ℕ, ap, subst, ◌∙◌}
 use Rattle.std.specs.Prelude.{OnOk}
 use Rattle.std.specs.Str.Lines.{lines}
 use Rattle.profile.specs.Output.{AddsFront}
