@@ -64,20 +64,36 @@ pub fn part_words<'a>(
         lacks_path: false,
         goes_on: false,
     };
-    let mut are_files = false;
-    for word in words {
-        let kind = kind_at(are_files, parted.lacks_path, word);
-        are_files = are_files || (kind == WordKind::Other && is_dashes(word));
-        parted.lacks_path = kind == WordKind::Script;
-        match kind {
-            WordKind::Form(form) => parted.forms.push(form)?,
-            WordKind::Script => {}
-            WordKind::GoingOn => parted.goes_on = true,
-            WordKind::Path => parted.paths.push(*word)?,
-            WordKind::Other => parted.others.push(*word)?,
-        }
+    match parted.take_words(words) {
+        Ok(()) => Ok(parted),
+        Err(error) => Err(error),
     }
-    Ok(parted)
+}
+
+impl<'a> PartedDebugWords<'a> {
+    // Takes words, one after another.
+    fn take_words(&mut self, words: &[&'a str]) -> Result<(), AllocError> {
+        let mut are_files = false;
+        for word in words {
+            let kind = kind_at(are_files, self.lacks_path, word);
+            are_files = are_files || (kind == WordKind::Other && is_dashes(word));
+            self.take_word(kind, *word)?;
+        }
+        Ok(())
+    }
+
+    // Takes a word by what it is.
+    fn take_word(&mut self, kind: WordKind, word: &'a str) -> Result<(), AllocError> {
+        self.lacks_path = kind == WordKind::Script;
+        match kind {
+            WordKind::Form(form) => self.forms.push(form)?,
+            WordKind::Script => {}
+            WordKind::GoingOn => self.goes_on = true,
+            WordKind::Path => self.paths.push(word)?,
+            WordKind::Other => self.others.push(word)?,
+        }
+        Ok(())
+    }
 }
 
 // What a word is, by whether `--` came before it, and whether the word before it was `--script`.

@@ -3,7 +3,7 @@
 ghost use Rattle.std.specs.Prelude.{◌≡◌};
 ghost use Rattle.rosm_tools.specs.debug.Options.{form_of_all, may_go_on};
 
-use crate::debug::options::{WantedForm, part_words};
+use crate::debug::options::{PartedDebugWords, WantedForm, part_words};
 use crate::debug::refusal::DebugRefusal;
 use debug_records::ReportForm;
 use rosm_settings::command_line::{Settings, SettingsError, line_reason, settings, sizes_reason};
@@ -65,17 +65,18 @@ fn refused_line(alloc: Global, reason: &str) -> DebugRefusal<'static> {
 fn wanted_of(alloc: Global, words: &[String]) -> Result<WantedSession, DebugRefusal<'static>> {
     let texts = texts_of(alloc, words)?;
     let parted = part_words(alloc, texts.as_slice())?;
+    wanted_by(alloc, &parted)
+}
+
+// What the words ask for, by what they are.
+fn wanted_by(
+    alloc: Global,
+    parted: &PartedDebugWords<'_>,
+) -> Result<WantedSession, DebugRefusal<'static>> {
     let Some(form) = form_of(parted.forms.as_slice()) else {
         return Err(refused_line(alloc, FORM_REASON));
     };
-    if parted.lacks_path {
-        return Err(refused_line(alloc, "--script takes the path of a file"));
-    }
-    let script = match parted.paths.as_slice() {
-        [] => None,
-        [path] => Some(String::from_str(alloc, path)?),
-        _ => return Err(refused_line(alloc, "one script at most")),
-    };
+    let script = script_of(alloc, parted)?;
     if parted.goes_on && !may_go_on(form, script.is_some()) {
         return Err(refused_line(alloc, GOING_ON_REASON));
     }
@@ -86,6 +87,21 @@ fn wanted_of(alloc: Global, words: &[String]) -> Result<WantedSession, DebugRefu
         goes_on: parted.goes_on,
         settings,
     })
+}
+
+// The path of the script, if there is one.
+fn script_of(
+    alloc: Global,
+    parted: &PartedDebugWords<'_>,
+) -> Result<Option<String>, DebugRefusal<'static>> {
+    if parted.lacks_path {
+        return Err(refused_line(alloc, "--script takes the path of a file"));
+    }
+    match parted.paths.as_slice() {
+        [] => Ok(None),
+        [path] => Ok(Some(String::from_str(alloc, path)?)),
+        _ => Err(refused_line(alloc, "one script at most")),
+    }
 }
 
 // What is written; `None` where more than one form is asked for.
