@@ -4,6 +4,7 @@
 //! `rosm_debug [--script FILE [-i]] [--tap | --transcript | --json] [--pages N] [--app N] [--rma N]
 //! [--budget N] [FILE...] <SCRIPT`
 
+mod answering;
 mod options;
 mod process;
 mod refusal;

@@ -1,6 +1,6 @@
 -- By the lemmas of TalkLemmas.
 use Rattle.debug_program.proofs.TalkLemmas.{status_of_script}
-use Rattle.rosm_tools.proofs.debug.process.answer_lines.Goals as goal
+use Rattle.rosm_tools.proofs.debug.answering.answer_lines.Goals as goal
 
 pub returns : goal.returns
 returns g c =

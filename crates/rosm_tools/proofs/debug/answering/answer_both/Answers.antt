@@ -1,6 +1,6 @@
 -- By the lemmas of GoingOnLemmas.
 use Rattle.debug_program.proofs.GoingOnLemmas.{status_of_both_scripts}
-use Rattle.rosm_tools.proofs.debug.process.answer_both.Goals as goal
+use Rattle.rosm_tools.proofs.debug.answering.answer_both.Goals as goal
 
 pub returns : goal.returns
 returns g c =
