@@ -11,7 +11,7 @@ use Rattle.gdb_server.specs.session.Runs.{begin_shown, begun_anew}
 use Rattle.gdb_server.specs.session.State.{GdbState, gdb_start}
 use Rattle.gdb_server.specs.Serving.{ServerState}
 use Rattle.rosm_settings.specs.ImageFiles.{AddsFiles}
-use Rattle.rosm_tools.specs.gdb.Serving.{IsAllSent, ServesGdb, StopsWithGdb, gdb_shown, server_begun, settings_wanted, start_shown}
+use Rattle.rosm_tools.specs.gdb.Serving.{IsAllSent, ServesGdb, ServesStream, StopsWithGdb, gdb_shown, server_begun, settings_wanted, start_shown}
 use Rattle.rosm_settings.specs.gdb.Start.{AreFirstLines}
 use Rattle.rosm_tools.specs.gdb.Streams.{EndsWithInput}
 use Rattle.rosm_settings.specs.declared.gdb.words.WantedGdb.{WantedGdb}
@@ -52,17 +52,15 @@ pub start_text : (wanted : WantedGdb) (start : List ℕ) (images : List Entry) (
 start_text wanted start images old text of_old is = is ∙ ap (λ (g : GdbState). (begin_shown g).text) of_old
 
 pub serves_gdb : {F : Type 0} (of_file : F → Option (List ℕ)) (wanted : WantedGdb) (images : List Entry) (start : List ℕ)
-    (s now : ServerState) (input left begins before mid after shown_before shown_after : Option (List ℕ)) (untold : Bool)
+    (s now : ServerState) (input left before after shown_before shown_after : Option (List ℕ)) (untold : Bool)
     (last : Option Stop) → AddsFiles of_file [] wanted.settings.files images → AreFirstLines of_file wanted start
     → (untold ≡ false → Appends shown_before shown_after (start_shown wanted start images).text)
-    → s ≡ server_begun wanted start images → begins ≡ before → EndsWithInput of_file wanted input left begins mid s now
-    → Keeps mid after → last ≡ now.session.debug.script.last
+    → s ≡ server_begun wanted start images → ServesStream of_file wanted input left before after s now last
     → ServesGdb of_file wanted input before after shown_before shown_after untold last
-serves_gdb of_file wanted images start s now input left begins before mid after shown_before shown_after untold last
-    files lines reported of_state same ends kept is =
-    let all : EndsWithInput of_file wanted input left before mid (server_begun wanted start images) now =
-    subst (λ (x : Option (List ℕ)). EndsWithInput of_file wanted input left x mid (server_begun wanted start images) now) same
-    (subst (λ (u : ServerState). EndsWithInput of_file wanted input left begins mid u now) of_state ends) in
+serves_gdb of_file wanted images start s now input left before after shown_before shown_after untold last
+    files lines reported of_state served =
+    let all : EndsWithInput of_file wanted input left before served.buffered (server_begun wanted start images) now =
+    subst (λ (u : ServerState). EndsWithInput of_file wanted input left before served.buffered u now) of_state served.ends in
     let state : now ≡ (gdb_shown wanted start images all.answers.answers.sent).state = all.answers.answers.served.state in
     record {
       images = images;
@@ -78,9 +76,21 @@ serves_gdb of_file wanted images start s now input left begins before mid after 
         of_input = all.answers.of_input;
         ends = λ goes. all.ends (ap (λ (u : ServerState). u.session.has_ended) state ∙ goes);
       };
-      text = Appends-kept before mid after _ all.answers.answers.served.text kept;
-      stop = is ∙ ap (λ (u : ServerState). u.session.debug.script.last) state;
+      text = Appends-kept before served.buffered after _ all.answers.answers.served.text served.kept;
+      stop = served.stop ∙ ap (λ (u : ServerState). u.session.debug.script.last) state;
     }
+
+-- a stream whose answers went through a buffer
+pub serves_stream : {F : Type 0} (of_file : F → Option (List ℕ)) (wanted : WantedGdb)
+    (input left begins before mid after : Option (List ℕ)) (old now : ServerState) (last : Option Stop) → begins ≡ before
+    → EndsWithInput of_file wanted input left begins mid old now → Keeps mid after → last ≡ now.session.debug.script.last
+    → ServesStream of_file wanted input left before after old now last
+serves_stream of_file wanted input left begins before mid after old now last same ends kept is = record {
+  buffered = mid;
+  ends = subst (λ (x : Option (List ℕ)). EndsWithInput of_file wanted input left x mid old now) same ends;
+  kept = kept;
+  stop = is;
+}
 
 -- the last stop of what a reader shows
 pub stops_with_gdb : {F R : Type 0} (of_file : F → Option (List ℕ)) (of_reader : R → Option (List ℕ)) (wanted : WantedGdb)

@@ -1,7 +1,7 @@
 -- The whole run of the subcommand: files as images, the lines that a machine begins with, and then GDB's bytes, with
 -- the files read anew for each `run`.
 use Rattle.std.specs.Prelude.{◌≡◌, ℕ, false, Bool, List, [], Option}
-use Rattle.std.specs.Io.KnownBytes.{Appends, Consumes, IsAtEnd}
+use Rattle.std.specs.Io.KnownBytes.{Appends, Consumes, IsAtEnd, Keeps}
 use Rattle.profile.specs.declared.stop.Stop.{Stop}
 use Rattle.profile.specs.images.Entries.{Entry}
 use Rattle.gdb_server.specs.DebugState.{DebugAnswered}
@@ -11,7 +11,7 @@ use Rattle.gdb_server.specs.Serving.{ServerState, Served, server_before_bytes}
 use Rattle.gdb_server.specs.declared.session.session.GdbSettings.{GdbSettings}
 use Rattle.rosm_settings.specs.ImageFiles.{AddsFiles}
 use Rattle.rosm_settings.specs.gdb.Start.{AreFirstLines}
-use Rattle.rosm_tools.specs.gdb.Streams.{AreSent, Sent, sent_served}
+use Rattle.rosm_tools.specs.gdb.Streams.{AreSent, EndsWithInput, Sent, sent_served}
 use Rattle.rosm_settings.specs.declared.gdb.words.WantedGdb.{WantedGdb}
 
 -- a machine of the sizes, the budgets, and whether the program's end is stayed at, as they are asked for
@@ -61,6 +61,14 @@ pub record ServesGdb {F : Type 0} (of_file : F → Option (List ℕ)) (wanted : 
   pub all : IsAllSent of_file wanted input sent (gdb_shown wanted start images sent)
   pub text : Appends before after (gdb_shown wanted start images sent).text
   pub stop : last ≡ (gdb_shown wanted start images sent).state.session.debug.script.last
+
+-- What a reader gives is served, the answers stand in a stream, and the last stop is the machine's.
+pub record ServesStream {F : Type 0} (of_file : F → Option (List ℕ)) (wanted : WantedGdb)
+    (input left before after : Option (List ℕ)) (old now : ServerState) (last : Option Stop) : Type 0 where
+  pub buffered : Option (List ℕ)
+  pub ends : EndsWithInput of_file wanted input left before buffered old now
+  pub kept : Keeps buffered after
+  pub stop : last ≡ now.session.debug.script.last
 
 -- The last stop is that of a machine on which all that a reader shows was served.
 pub record StopsWithGdb {F R : Type 0} (of_file : F → Option (List ℕ)) (of_reader : R → Option (List ℕ))

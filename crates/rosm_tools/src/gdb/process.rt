@@ -1,12 +1,14 @@
 //! The subcommand's process: its standard streams and its exit status.
 
-ghost use Rattle.std.specs.Prelude.{◌≡◌, false, IfErr, IfOk};
+ghost use Rattle.std.specs.Prelude.{◌≡◌, false, IfErr, IfOk, OnOk};
 ghost use Rattle.std.specs.Io.KnownBytes.{Appends};
 ghost use Rattle.std.specs.Process.{exit_status};
 ghost use Rattle.profile.specs.Devices.{device_failed, device_inner};
 ghost use Rattle.rosm_settings.specs.gdb.Endings.{gdb_refusal_status, gdb_status_of};
-ghost use Rattle.rosm_tools.specs.gdb.Serving.{ServesGdb, StopsWithGdb};
+ghost use Rattle.gdb_server.specs.Server.{server_state};
+ghost use Rattle.rosm_tools.specs.gdb.Serving.{ServesGdb, ServesStream, StopsWithGdb, server_begun, start_shown};
 
+use crate::gdb::renewed::{ReadFiles, read_files};
 use crate::gdb::serve::serve;
 use gdb_server::GdbServer;
 use gdb_server::session::{GdbSession, GdbSettings};
@@ -15,8 +17,8 @@ use profile::stop::stop_status;
 use profile::{Device, Sink, Source, Stop, push_all};
 use rosm_settings::gdb::refusal::GdbRefusal;
 use rosm_settings::gdb::serve_error::ServeError;
-use rosm_settings::gdb::start::{start_lines, take_files};
 use rosm_settings::gdb::words::{WantedGdb, read_words};
+use std::alloc::Global;
 use std::env::Env;
 use std::io::{BufWriter, Write};
 use std::process::ExitCode;
@@ -84,25 +86,62 @@ where
     ensures well { IfOk result (λ ended. device_failed ended.1 ≡ false) }
     ensures refused { IfErr result (λ e. gdb_refusal_status e ≡ 4) }
 {
-    let alloc = files.alloc();
-    let mut images = Images::new();
-    take_files(files, wanted, &mut images)?;
-    let start = start_lines(files, wanted)?;
+    let mut read = read_files(files, wanted)?;
+    let mut server = begun(files.alloc(), wanted, &mut read, errors)?;
+    serve_buffered(files, wanted, &mut server, &mut read.images, reader, stream)
+}
+
+// A server on a machine whose first lines are answered; the answers are shown as far as they can be.
+fn begun<'a, E: Sink>(
+    alloc: Global,
+    wanted: &'a WantedGdb,
+    read: &mut ReadFiles,
+    errors: &mut E,
+) -> Result<GdbServer, GdbRefusal<'a>>
+    ensures state { IfOk result (λ server. server_state server read.new.images
+        ≡ server_begun wanted.entry.now read.old.start.items read.old.images) }
+    ensures told { OnOk result (E.has_failed errors.new ≡ false
+        → Appends (E.contents errors.old) (E.contents errors.new)
+        (start_shown wanted.entry.now read.old.start.items read.old.images).text) }
+    ensures refused { IfErr result (λ e. gdb_refusal_status e ≡ 4) }
+{
     let setting = GdbSettings {
         config: wanted.settings.config,
         budget: wanted.settings.budget,
         most: wanted.most,
         stays: wanted.stays,
     };
-    let mut session = GdbSession::new(alloc, setting, start.as_slice())?;
-    let reported = session.begin(&mut images)?;
+    let mut session = GdbSession::new(alloc, setting, read.start.as_slice())?;
+    let reported = session.begin(&mut read.images)?;
     print(errors, reported.as_slice());
-    let mut server = GdbServer::new(alloc, session);
-    let Ok(buffered) = BufWriter::new(alloc, stream) else {
+    Ok(GdbServer::new(alloc, session))
+}
+
+// Serves what the reader gives, and gives the last stop and the stream, in which all answers stand.
+fn serve_buffered<'a, F, R, W>(
+    files: &F,
+    wanted: &'a WantedGdb,
+    server: &mut GdbServer,
+    images: &mut Images,
+    reader: &mut R,
+    stream: W,
+) -> Result<(Option<Stop>, Device<W>), GdbRefusal<'a>>
+where
+    F: AllocGlobal + Eprint + fs::Files,
+    R: Source,
+    W: Write + Drop,
+    ensures serves { IfOk result (λ ended. ServesStream F.File.Read.remaining wanted.entry.now
+        (R.remaining reader.old) (R.remaining reader.new)
+        (W.contents stream) (W.contents (device_inner ended.1))
+        (server_state server.old images.old) (server_state server.new images.new) ended.0) }
+    ensures well { IfOk result (λ ended. device_failed ended.1 ≡ false) }
+    ensures refused { IfErr result (λ e. gdb_refusal_status e ≡ 4) }
+{
+    let Ok(buffered) = BufWriter::new(files.alloc(), stream) else {
         return Err(GdbRefusal::Memory);
     };
     let mut writer = Device::new(buffered);
-    serve(files, wanted, &mut server, &mut images, reader, &mut writer)?;
+    serve(files, wanted, server, images, reader, &mut writer)?;
     match writer.unbuffered() {
         Ok(stream) => Ok((server.session().last(), stream)),
         Err(_) => Err(GdbRefusal::Served(ServeError::WriteFault)),

@@ -1,8 +1,9 @@
 //! The files, read anew for a `run`.
 
-ghost use Rattle.std.specs.Prelude.{◌≡◌, IfOk, option_map};
+ghost use Rattle.std.specs.Prelude.{◌≡◌, IfErr, IfOk, option_map};
 ghost use Rattle.std.specs.Path.{path_file_name};
 ghost use Rattle.gdb_server.specs.Server.{server_state};
+ghost use Rattle.rosm_settings.specs.gdb.Endings.{gdb_refusal_status};
 ghost use Rattle.rosm_tools.specs.gdb.Renewed.{AreGiven, AreRead, FilesRead, IsRenewed, has_others, is_equal_image, is_other_image};
 
 use gdb_server::GdbServer;
@@ -16,9 +17,11 @@ use std::path::Path;
 
 /// What the files give: their images, and the lines that a machine begins with.
 #[derive(Drop)]
-struct ReadFiles {
-    images: Images,
-    start: Vec<u8>,
+pub struct ReadFiles {
+    /// The images.
+    pub images: Images,
+    /// The lines.
+    pub start: Vec<u8>,
 }
 
 /// Reads the files where a `run` has come, and gives them to the server. Where one can't be read standard
@@ -53,11 +56,17 @@ where
     }
 }
 
-fn read_files<'a, F>(files: &F, wanted: &'a WantedGdb) -> Result<ReadFiles, GdbRefusal<'a>>
+/// Reads the files.
+///
+/// # Errors
+///
+/// The first file that gives no image, or that is an ELF file; else the script's, where it can't be read.
+pub fn read_files<'a, F>(files: &F, wanted: &'a WantedGdb) -> Result<ReadFiles, GdbRefusal<'a>>
 where
     F: AllocGlobal + fs::Files,
-    ensures { IfOk result (λ r. AreRead F.File.Read.remaining wanted.entry.now
+    ensures read { IfOk result (λ r. AreRead F.File.Read.remaining wanted.entry.now
         (record { images = r.images; start = r.start.items })) }
+    ensures refused { IfErr result (λ e. gdb_refusal_status e ≡ 4) }
 {
     let mut images = Images::new();
     take_files(files, wanted, &mut images)?;

@@ -6,7 +6,7 @@ use Rattle.rosm_tools.proofs.gdb.renewed.give_files.Goals as goal
 pub returns-in-Ok : goal.returns-in-Ok
 returns-in-Ok g c =
     given_so g.F.File.Read.remaining c.args.wanted.now (server_state c.args.server.now c.args.images.now) _
-    (record { images = c.in-Ok.found.images; start = c.in-Ok.found.start.items }) _ c.in-Ok.ensures
+    (record { images = c.in-Ok.found.images; start = c.in-Ok.found.start.items }) _ c.in-Ok.ensures.read
     (c.take_files.ensures c.in-Ok.found.images) c.has_others-is_other_image.ensures
 
 pub returns-in-Err : goal.returns-in-Err
