@@ -7,6 +7,7 @@ pub use Rattle.instances.proofs.RmaKeeping as Keeping
 pub use Rattle.instances.proofs.SystemPages
 pub use Rattle.instances.proofs.SystemWrites
 pub use Rattle.instances.proofs.Writes
+pub mod AnswerLemmas
 pub mod Beginning
 pub mod ModuleCode
 pub mod Sparing

@@ -11,6 +11,7 @@
 //! module code is entered or comes back.
 #![tactic(auto)]
 
+mod answering;
 pub mod flex;
 pub mod flex_frame;
 pub mod image_plans;

@@ -1,7 +1,7 @@
 -- The calls on a flex store that there is: what each keeps, and that it leaves what its definition
 -- says.
-use Rattle.std.proofs.Common.{◌≡◌, Result, Ok, Err, refl, subst}
-use Rattle.profile.specs.Outcome.{Gives}
+use Rattle.std.proofs.Common.{◌≡◌, Bool, Result, Ok, Err, refl, subst}
+use Rattle.profile.specs.Outcome.{Gives, Leaves, bind}
 use Rattle.profile.specs.ErrorNumber.{ErrorNumber}
 use Rattle.os_heap.specs.AddressMap.{AddressMap}
 use Rattle.swi_dispatch_plans.proofs.FlexFrameLemmas.Calls.{flex_left, flex_stays_so, state_is}
@@ -16,7 +16,10 @@ use Rattle.instances.proofs.HeapCalls.{areas_written}
 use Rattle.os_heap.proofs.Frame.{layout-others}
 use Rattle.os_heap.specs.Store.{store_of}
 use Rattle.swi_dispatch_plans.specs.flex_frame.module_state.ModuleState.{module_state_of}
-use Rattle.swi_dispatch_plans.specs.flex.Calls.{memory_after_flex, memory_of, state_in, memory_with_flex}
+use Rattle.swi_dispatch_answers.specs.Refusals.{or_error}
+use Rattle.swi_dispatch_answers.specs.State.{State, with_register}
+use Rattle.swi_dispatch_answers.specs.declared.refusal.Refusal.{Refusal}
+use Rattle.swi_dispatch_plans.specs.flex.Calls.{FlexMemory, fit_shown, memory_after_flex, memory_of, room_word_of, state_in, memory_with_flex}
 use Rattle.swi_dispatch_plans.specs.flex.Leaving.{CanCallFlex, LeavesFlex}
 
 -- All that stands on the memory stays.
@@ -64,3 +67,15 @@ pub call_left : (A : Type 0) (m n : AddressMap) (f g : Flex) (call : FlexState �
 call_left A m n f g call x is made gives =
     left_so A m n f g (call (state_in (memory_of m f))) x is made
     (subst (λ (t : FlexState). Gives {U = A} (flex_state_of m f) (call t) x (flex_state_of n g)) (state_is m f) gives)
+
+-- Whether a block fits is in R0 then.
+pub fit_left : (cpu after : State) (s now : FlexMemory) (r : Result (FlexMemory × Bool) ErrorNumber) (x : Result Bool ErrorNumber)
+    (result : Result (Unit {0}) Refusal) → Gives {U = Bool} s r x now
+    → Leaves cpu (bind (or_error x) (λ b. Ok (with_register cpu 0 (room_word_of b)))) result after
+    → Leaves {S = State × FlexMemory} (cpu, s) (fit_shown cpu r) result (after, now)
+fit_left cpu after s now (Ok q) (Ok b) (Ok u) gives left = rw (left, gives.0, gives.1) refl
+fit_left cpu after s now (Err e) (Err d) (Err f) gives left = (rw (left.0, gives.0) refl, rw (left.1, gives.1) refl)
+fit_left cpu after s now (Ok q) (Ok b) (Err f) gives left = absurd left
+fit_left cpu after s now (Err e) (Err d) (Ok u) gives left = absurd left
+fit_left cpu after s now (Ok q) (Err d) result gives left = absurd gives
+fit_left cpu after s now (Err e) (Ok b) result gives left = absurd gives

@@ -1,11 +1,14 @@
 //! The flex calls (Acorn C manual, "flex").
 
-ghost use Rattle.std.specs.Prelude.{◌≡◌};
-ghost use Rattle.profile.specs.Outcome.{Gives, Leaves};
+ghost use Rattle.std.specs.Prelude.{◌≡◌, Ok};
+ghost use Rattle.profile.specs.Outcome.{Gives, Leaves, bind};
 ghost use Rattle.flex_store.specs.Calls.{flex_after_alloc, flex_after_extend, mid_extended, flex_after_release, flex_block_size};
 ghost use Rattle.swi_dispatch_plans.specs.flex.Calls.{flex_called, flex_in_range, memory_after_flex, memory_of, state_in, room_word_of};
 ghost use Rattle.swi_dispatch_plans.specs.flex.Leaving.{CanCallFlex, LeavesFlex};
+ghost use Rattle.swi_dispatch_answers.specs.Refusals.{or_error};
+ghost use Rattle.swi_dispatch_answers.specs.State.{with_register};
 
+use crate::answering::{done, in_register};
 use flex_store::Flex;
 use os_heap::AddressMap;
 use profile::{ErrorNumber, SwiName};
@@ -18,7 +21,7 @@ use swi_dispatch_answers::{Cpu, Refusal};
 ///
 /// As the call of `Flex` refuses it, or `SwiUnknown` where the name is no flex call's; nothing is
 /// changed then.
-#[tactic(auto, unfolding(crate::specs::flex::Calls::flex_called))]
+#[tactic(auto, using(crate::proofs::AnswerLemmas::done_left, crate::proofs::AnswerLemmas::read_left, crate::proofs::FlexLemmas::Called::fit_left), unfolding(crate::specs::flex::Calls::flex_called))]
 pub fn call_flex(
     cpu: &mut Cpu,
     memory: &mut AddressMap,
@@ -35,42 +38,41 @@ pub fn call_flex(
         Some(SwiName::FlexInit) => {
             let start = cpu.register(0);
             let end = cpu.register(1);
-            Ok(begin_flex(memory, flex, start, end)?)
+            done(begin_flex(memory, flex, start, end))
         }
         Some(SwiName::FlexAlloc) => {
             let anchor = cpu.register(0);
             let size = cpu.register(1);
-            let fits = alloc_block(memory, flex, anchor, size)?;
-            cpu.set_register(0, word_of(fits));
-            Ok(())
+            room_in_register(cpu, alloc_block(memory, flex, anchor, size))
         }
-        Some(SwiName::FlexFree) => {
-            let anchor = cpu.register(0);
-            Ok(release_block(memory, flex, anchor)?)
-        }
+        Some(SwiName::FlexFree) => done(release_block(memory, flex, cpu.register(0))),
         Some(SwiName::FlexSize) => {
             let anchor = cpu.register(0);
-            let size = block_size(memory, flex, anchor)?;
-            cpu.set_register(0, size);
-            Ok(())
+            in_register(cpu, 0, block_size(memory, flex, anchor))
         }
         Some(SwiName::FlexExtend) => {
             let anchor = cpu.register(0);
             let size = cpu.register(1);
-            let fits = extend_block(memory, flex, anchor, size)?;
-            cpu.set_register(0, word_of(fits));
-            Ok(())
+            room_in_register(cpu, extend_block(memory, flex, anchor, size))
         }
         Some(SwiName::FlexMidExtend) => {
             let anchor = cpu.register(0);
             let at = cpu.register(1);
             let by = cpu.register(2);
-            let fits = mid_extend_block(memory, flex, anchor, at, by)?;
-            cpu.set_register(0, word_of(fits));
-            Ok(())
+            room_in_register(cpu, mid_extend_block(memory, flex, anchor, at, by))
         }
         _ => Err(Refusal::System(ErrorNumber::SwiUnknown)),
     }
+}
+
+// R0 reports whether a block fits.
+fn room_in_register(cpu: &mut Cpu, fits: Result<bool, ErrorNumber>) -> Result<(), Refusal>
+    ensures { Leaves cpu.old (bind (or_error fits) (λ b. Ok (with_register cpu.old 0 (room_word_of b))))
+        result cpu.new }
+{
+    let word = word_of(fits?);
+    cpu.set_register(0, word);
+    Ok(())
 }
 
 fn begin_flex(

@@ -7,6 +7,7 @@ ghost use Rattle.instances.specs.module_state.ModuleState.{module_state_of};
 ghost use Rattle.swi_dispatch_plans.specs.modules.Calls.{result_of_module_call};
 ghost use Rattle.swi_dispatch_plans.specs.modules.Leaving.{LeavesModuleState};
 
+use crate::answering::{done, in_register};
 use crate::modules::area::describe_area;
 use crate::modules::naming::{find_instance, print_instance};
 use instances::{Areas, Instances, Rma};
@@ -22,7 +23,7 @@ use swi_dispatch_answers::{Cpu, Refusal};
 ///
 /// `ModuleBadReason` where it is none of these reasons, `BadString` where a string can't be read,
 /// else as the call of `rma` or of `instances` refuses it; nothing is changed then.
-#[tactic(auto, unfolding(crate::specs::modules::Calls::result_of_module_call, os_heap::specs::Store::store_of))]
+#[tactic(auto, using(crate::proofs::AnswerLemmas::area_done_left, crate::proofs::AnswerLemmas::area_register_left), unfolding(crate::specs::modules::Calls::result_of_module_call, os_heap::specs::Store::store_of))]
 pub fn call_module(
     cpu: &mut Cpu,
     memory: &mut AddressMap,
@@ -40,26 +41,18 @@ pub fn call_module(
     let size = cpu.register(3);
     match ModuleReason::of(cpu.register(0)) {
         Some(ModuleReason::DescribeArea) => describe_area(cpu, memory),
-        Some(ModuleReason::Claim) => {
-            let claimed = rma.claim(memory, areas, size)?;
-            cpu.set_register(2, claimed);
-            Ok(())
-        }
-        Some(ModuleReason::Free) => Ok(rma.free(memory, block)?),
+        Some(ModuleReason::Claim) => in_register(cpu, 2, rma.claim(memory, areas, size)),
+        Some(ModuleReason::Free) => done(rma.free(memory, block)),
         Some(ModuleReason::Info) => print_instance(cpu, memory, instances),
-        Some(ModuleReason::Extend) => {
-            let place = rma.extend(memory, areas, block, size)?;
-            cpu.set_register(2, place);
-            Ok(())
-        }
+        Some(ModuleReason::Extend) => in_register(cpu, 2, rma.extend(memory, areas, block, size)),
         Some(ModuleReason::Rename) => {
             let full = string_in(cpu, memory, 1)?;
             let new = string_in(cpu, memory, 2)?;
-            Ok(instances.rename(full.as_slice(), new.as_slice())?)
+            done(instances.rename(full.as_slice(), new.as_slice()))
         }
         Some(ModuleReason::Prefer) => {
             let full = string_in(cpu, memory, 1)?;
-            Ok(instances.prefer(full.as_slice())?)
+            done(instances.prefer(full.as_slice()))
         }
         Some(ModuleReason::Lookup) => find_instance(cpu, memory, instances),
         _ => Err(Refusal::System(ErrorNumber::ModuleBadReason)),

@@ -6,6 +6,7 @@ ghost use Rattle.os_heap.specs.Store.{store_of};
 ghost use Rattle.swi_dispatch_plans.specs.store.Heaps.{heap_called};
 ghost use Rattle.swi_dispatch_plans.specs.store.Leaving.{LeavesAreas};
 
+use crate::answering::{done, in_register, in_two_registers};
 use os_heap::{AddressMap, Heaps};
 use profile::{ErrorNumber, HeapReason};
 use swi_dispatch_answers::{Cpu, Refusal};
@@ -17,7 +18,7 @@ use swi_dispatch_answers::{Cpu, Refusal};
 ///
 /// `HeapBadReason` where there is no such reason, else as the call of `os_heap` refuses it; nothing
 /// is changed then.
-#[tactic(auto, unfolding(crate::specs::store::Heaps::heap_called))]
+#[tactic(auto, using(crate::proofs::AnswerLemmas::done_left, crate::proofs::AnswerLemmas::read_left, crate::proofs::AnswerLemmas::register_left), unfolding(crate::specs::store::Heaps::heap_called))]
 pub fn call_heap(cpu: &mut Cpu, memory: &mut AddressMap) -> Result<(), Refusal>
     requires state { IsSoundMap memory.old }
     ensures state { Leaves (cpu.old, store_of memory.old)
@@ -29,29 +30,16 @@ pub fn call_heap(cpu: &mut Cpu, memory: &mut AddressMap) -> Result<(), Refusal>
     let block = cpu.register(2);
     let size = cpu.register(3);
     match HeapReason::of(cpu.register(0)) {
-        Some(HeapReason::Initialise) => Ok(heaps.init(memory, heap, size).answer?),
-        Some(HeapReason::Describe) => {
-            let (largest, free) = heaps.describe(memory, heap).answer?;
-            cpu.set_register(2, largest);
-            cpu.set_register(3, free);
-            Ok(())
-        }
-        Some(HeapReason::Get) => {
-            let got = heaps.get(memory, heap, size).answer?;
-            cpu.set_register(2, got);
-            Ok(())
-        }
-        Some(HeapReason::Free) => Ok(heaps.free(memory, heap, block).answer?),
+        Some(HeapReason::Initialise) => done(heaps.init(memory, heap, size).answer),
+        Some(HeapReason::Describe) => in_two_registers(cpu, heaps.describe(memory, heap).answer),
+        Some(HeapReason::Get) => in_register(cpu, 2, heaps.get(memory, heap, size).answer),
+        Some(HeapReason::Free) => done(heaps.free(memory, heap, block).answer),
         Some(HeapReason::Resize) => {
-            let place = heaps.resize(memory, heap, block, size).answer?;
-            cpu.set_register(2, place);
-            Ok(())
+            in_register(cpu, 2, heaps.resize(memory, heap, block, size).answer)
         }
-        Some(HeapReason::ChangeSize) => Ok(heaps.change_size(memory, heap, size).answer?),
+        Some(HeapReason::ChangeSize) => done(heaps.change_size(memory, heap, size).answer),
         Some(HeapReason::BlockSize) => {
-            let measured = heaps.block_size(memory, heap, block).answer?;
-            cpu.set_register(3, measured);
-            Ok(())
+            in_register(cpu, 3, heaps.block_size(memory, heap, block).answer)
         }
         None => Err(Refusal::System(ErrorNumber::HeapBadReason)),
     }

@@ -1,8 +1,5 @@
 use Rattle.swi_dispatch_plans.proofs.FlexLemmas.Called.{leaves_same}
 use Rattle.swi_dispatch_plans.proofs.flex.calls.call_flex.Goals as goal
 
-pub returns-in_err-size-in-Some-FlexSize-clause-leaves : goal.returns-in_err-size-in-Some-FlexSize-clause-leaves
-returns-in_err-size-in-Some-FlexSize-clause-leaves c = leaves_same _ _ c.requires
-
-pub returns-in_ok-size-in-Some-FlexSize-clause-leaves : goal.returns-in_ok-size-in-Some-FlexSize-clause-leaves
-returns-in_ok-size-in-Some-FlexSize-clause-leaves c = leaves_same _ _ c.requires
+pub returns-in-Some-FlexSize-clause-leaves : goal.returns-in-Some-FlexSize-clause-leaves
+returns-in-Some-FlexSize-clause-leaves c = leaves_same _ _ c.requires

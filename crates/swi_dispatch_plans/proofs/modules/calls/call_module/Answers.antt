@@ -11,44 +11,20 @@ pub find_instance-requires : goal.find_instance-requires
 unfolding store_of
 find_instance-requires c = private_room _ _ c.requires.state.area_store
 
-pub returns-in_err-claimed-in-Some-Claim-clause-leaves : goal.returns-in_err-claimed-in-Some-Claim-clause-leaves
-returns-in_err-claimed-in-Some-Claim-clause-leaves c =
+pub returns-in-Some-Claim-clause-leaves : goal.returns-in-Some-Claim-clause-leaves
+returns-in-Some-Claim-clause-leaves c =
     let did = c.claim.ensures.kept in
     module_state_left _ _ _ _ _
     (record { area_store = did.area_store; classes = did.classes; others = did.others; flex = did.flex; sizes = did.sizes })
 
-pub returns-in_ok-claimed-in-Some-Claim-clause-leaves : goal.returns-in_ok-claimed-in-Some-Claim-clause-leaves
-returns-in_ok-claimed-in-Some-Claim-clause-leaves c =
-    let did = c.claim.ensures.kept in
-    module_state_left _ _ _ _ _
-    (record { area_store = did.area_store; classes = did.classes; others = did.others; flex = did.flex; sizes = did.sizes })
-
-pub returns-in_err-place-in-Some-Extend-clause-leaves : goal.returns-in_err-place-in-Some-Extend-clause-leaves
-returns-in_err-place-in-Some-Extend-clause-leaves c =
+pub returns-in-Some-Extend-clause-leaves : goal.returns-in-Some-Extend-clause-leaves
+returns-in-Some-Extend-clause-leaves c =
     let did = c.extend.ensures.kept in
     module_state_left _ _ _ _ _
     (record { area_store = did.area_store; classes = did.classes; others = did.others; flex = did.flex; sizes = did.sizes })
 
-pub returns-in_ok-place-in-Some-Extend-clause-leaves : goal.returns-in_ok-place-in-Some-Extend-clause-leaves
-returns-in_ok-place-in-Some-Extend-clause-leaves c =
-    let did = c.extend.ensures.kept in
-    module_state_left _ _ _ _ _
-    (record { area_store = did.area_store; classes = did.classes; others = did.others; flex = did.flex; sizes = did.sizes })
-
-pub returns-in_err-free-in-Some-Free-clause-leaves : goal.returns-in_err-free-in-Some-Free-clause-leaves
-returns-in_err-free-in-Some-Free-clause-leaves c =
-    let did = c.free.ensures.kept in
-    module_state_left _ _ _ _ _
-    (record {
-      area_store = did.area_store c.args.areas.now c.requires.state.area_store;
-      classes = did.classes;
-      others = did.others;
-      flex = did.flex;
-      sizes = refl;
-    })
-
-pub returns-in_ok-free-in-Some-Free-clause-leaves : goal.returns-in_ok-free-in-Some-Free-clause-leaves
-returns-in_ok-free-in-Some-Free-clause-leaves c =
+pub returns-in-Some-Free-clause-leaves : goal.returns-in-Some-Free-clause-leaves
+returns-in-Some-Free-clause-leaves c =
     let did = c.free.ensures.kept in
     module_state_left _ _ _ _ _
     (record {
@@ -65,23 +41,15 @@ returns-in_err-full-in-Some-Rename-clause-leaves c = nothing_left _ _ _ c.requir
 pub returns-in_err-new-in-Some-Rename-clause-leaves : goal.returns-in_err-new-in-Some-Rename-clause-leaves
 returns-in_err-new-in-Some-Rename-clause-leaves c = nothing_left _ _ _ c.requires.state
 
-pub returns-in_err-rename-in-Some-Rename-clause-leaves : goal.returns-in_err-rename-in-Some-Rename-clause-leaves
-returns-in_err-rename-in-Some-Rename-clause-leaves c =
-    named_left _ _ _ _ c.requires.state c.rename.ensures.slots (c.rename.ensures.going _)
-
-pub returns-in_ok-rename-in-Some-Rename-clause-leaves : goal.returns-in_ok-rename-in-Some-Rename-clause-leaves
-returns-in_ok-rename-in-Some-Rename-clause-leaves c =
+pub returns-in_ok-new-in-Some-Rename-clause-leaves : goal.returns-in_ok-new-in-Some-Rename-clause-leaves
+returns-in_ok-new-in-Some-Rename-clause-leaves c =
     named_left _ _ _ _ c.requires.state c.rename.ensures.slots (c.rename.ensures.going _)
 
 pub returns-in_err-full-in-Some-Prefer-clause-leaves : goal.returns-in_err-full-in-Some-Prefer-clause-leaves
 returns-in_err-full-in-Some-Prefer-clause-leaves c = nothing_left _ _ _ c.requires.state
 
-pub returns-in_err-prefer-in-Some-Prefer-clause-leaves : goal.returns-in_err-prefer-in-Some-Prefer-clause-leaves
-returns-in_err-prefer-in-Some-Prefer-clause-leaves c =
-    named_left _ _ _ _ c.requires.state c.prefer.ensures.slots (c.prefer.ensures.going _)
-
-pub returns-in_ok-prefer-in-Some-Prefer-clause-leaves : goal.returns-in_ok-prefer-in-Some-Prefer-clause-leaves
-returns-in_ok-prefer-in-Some-Prefer-clause-leaves c =
+pub returns-in_ok-full-in-Some-Prefer-clause-leaves : goal.returns-in_ok-full-in-Some-Prefer-clause-leaves
+returns-in_ok-full-in-Some-Prefer-clause-leaves c =
     named_left _ _ _ _ c.requires.state c.prefer.ensures.slots (c.prefer.ensures.going _)
 
 pub returns-in-Some-DescribeArea-clause-leaves : goal.returns-in-Some-DescribeArea-clause-leaves
