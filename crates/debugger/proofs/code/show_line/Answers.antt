@@ -1,0 +1,7 @@
+-- As the definition says.
+use Rattle.std.proofs.Common.{arith}
+use Rattle.std.proofs.lemmas.Grind.{common_steps}
+use Rattle.debugger.proofs.code.show_line.Goals as goal
+
+pub returns-in-Ok : goal.returns-in-Ok
+returns-in-Ok g c = grind (arith, common_steps)

@@ -1,0 +1,7 @@
+-- As the definition says.
+use Rattle.std.proofs.Common.{arith}
+use Rattle.std.proofs.lemmas.Grind.{common_steps}
+use Rattle.debugger.proofs.views.quoted.push_quoted.Goals as goal
+
+pub returns : goal.returns
+returns g c = grind (arith, common_steps)
