@@ -78,14 +78,14 @@ impl Guest {
         let Some(frame) = self.frames.innermost() else {
             return self.halt_with(Halt::Fault(Fault::FetchUnmapped));
         };
+        let frame = *frame;
         if !frame.has_its_stack(&self.cpu) {
             return self.halt_with(Halt::Fault(Fault::StackChanged));
         }
         if let FrameKind::Entry(_) = frame.kind {
-            let frame = *frame;
             return self.leave_entry(frame);
         }
-        match leave_swi(&mut self.cpu, &self.memory, frame) {
+        match leave_swi(&mut self.cpu, &self.memory, &frame) {
             Ok(()) => self.frames.close(),
             Err(number) => self.halt_with(Halt::Fault(Fault::ErrorStop(number))),
         }
@@ -137,7 +137,9 @@ impl Guest {
         if call.is_x {
             return None;
         }
-        let plan = self.plan.as_ref()?;
+        let Some(plan) = &self.plan else {
+            return None;
+        };
         self.scratch
             .error_after(&self.memory, &self.areas, &self.instances, plan, outcome)
     }
