@@ -17,6 +17,7 @@ use Rattle.command_shell.specs.Calls.{call_done, call_end, call_end_by, call_mad
 use Rattle.command_shell.specs.State.{ScriptState, Answered, IsAnswered}
 use Rattle.command_shell.specs.declared.calls.CallEnd.{CallEnd}
 use Rattle.command_shell.specs.declared.calls.CallEnd.TheVariants as end
+pub use Rattle.command_shell.proofs.FaultLemmas.{at_ok}
 
 pub can_step : (o : Option Halt) (left : ℕ) → stop_before_step_by o left ≡ None → 0 < left
 can_step (Some halt) left none = absurd (cc)

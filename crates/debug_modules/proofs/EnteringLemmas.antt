@@ -1,6 +1,6 @@
 -- Code is entered, and has gone back or not.
 use Rattle.std.proofs.Common.{◌≡◌, ℕ, Bool, true, false, List, ◌++◌, Result, Ok, Err, ap, sym, subst, ◌∙◌}
-use Rattle.std.specs.Prelude.{OnOk, if◌then◌else◌}
+use Rattle.std.specs.Prelude.{if◌then◌else◌}
 use Rattle.arm_core.specs.declared.psr.Psr.{Psr}
 use Rattle.debug_modes.specs.Memory.{script_with_budget, script_with_register, script_with_status}
 use Rattle.debug_modes.specs.State.{ScriptState}
@@ -20,11 +20,8 @@ use Rattle.debug_modules.specs.Taking.{HasLineSteps, LineSteps, line_steps}
 use Rattle.debug_modules.specs.declared.entering.ModuleEntry.{ModuleEntry}
 use Rattle.profile.specs.Outcome.{Leaves}
 use Rattle.profile.specs.Fault.{Fault}
-
 -- what holds anyhow holds where a call was well
-pub anyhow : {A E : Type 0} (result : Result A E) (P : Type 0) → P → OnOk result P
-anyhow (Ok a) P holds = holds
-anyhow (Err e) P holds = record {}
+pub use Rattle.debug_history.proofs.ShellCallLemmas.{at_ok as anyhow}
 
 pub note_same : (p : PastState) (number : ℕ) (stubs : List Stub) (request : SteppingRequest) (b b' : StepsBefore) (n n' : ℕ)
     (f f' r r' : Bool) → b ≡ b' → n ≡ n' → f ≡ f' → r ≡ r'

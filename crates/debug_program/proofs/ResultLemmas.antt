@@ -1,6 +1,6 @@
 -- Calls that may fail: what is known of their writers, and of what stands written.
 use Rattle.std.proofs.Common.{◌≡◌, ◌⊎◌, inl, inr, Bool, true, false, sym, refl, Result, Ok, Err, ◌∙◌}
-use Rattle.std.specs.Prelude.{IfErr, IfOk, OnOk}
+use Rattle.std.specs.Prelude.{IfErr}
 use Rattle.std.specs.Result.{IsErrAnd}
 use Rattle.debug_session.specs.RunError.{RunError}
 use Rattle.debug_session.specs.RunError.TheVariants.{Memory, ReadFault, ScriptTooLong, WriteFault}
@@ -59,12 +59,3 @@ pub failed_in : {A : Type 0} (result : Result A RunError) (error : RunError) (P 
 failed_in (Ok a) error P why other is = absurd (cc)
 failed_in (Err e) error P (inl fault) other is = absurd (other (let same : e ≡ error = cc in sym same ∙ fault))
 failed_in (Err e) error P (inr there) other is = there
-
--- what follows where a call succeeds
-pub so_then : {A E : Type 0} (result : Result A E) (P Q : Type 0) → (P → Q) → OnOk result P → OnOk result Q
-so_then (Ok a) P Q f h = f h
-so_then (Err e) P Q f h = tt
-
-pub if_so_then : {A E : Type 0} (result : Result A E) (P Q : A → Type 0) → ((a : A) → P a → Q a) → IfOk result P → IfOk result Q
-if_so_then (Ok a) P Q f h = f a h
-if_so_then (Err e) P Q f h = tt

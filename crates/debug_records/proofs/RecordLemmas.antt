@@ -15,10 +15,6 @@ use Rattle.debug_records.specs.Recording.{recording_start}
 use Rattle.debug_records.specs.Records.{HasAllRecords, IsLastRecord, first_head}
 
 -- What holds of a result.
-pub in_any_case : {T E : Type 0} (r : Result T E) (P : Type 0) → P → OnOk r P
-in_any_case (Ok x) P is = is
-in_any_case (Err e) P is = record {}
-
 pub on_ok_both : {T E : Type 0} (r : Result T E) (P Q R : Type 0) → (P → Q → R) → OnOk r P → OnOk r Q → OnOk r R
 on_ok_both (Ok x) P Q R both h k = both h k
 on_ok_both (Err e) P Q R both h k = record {}

@@ -7,6 +7,7 @@ use Rattle.profile.specs.Output.{AddsAllBut, AddsFront}
 use Rattle.profile.proofs.OutputLemmas.{AddsAllBut-more}
 use Rattle.debug_tables.proofs.RunMeterLemmas.FrontLemmas.{AddsFront-from_all_but}
 pub use Rattle.debug_tables.proofs.RunMeterLemmas.FrontLemmas.{AddsFront-start as front_start}
+pub use Rattle.debug_modules.proofs.EnteringLemmas.{anyhow}
 
 -- a writer that is as it was
 pub unwritten : {S : Type 0} (contents : S → Option (List ℕ)) (old new : S) (all : List ℕ) → new ≡ old

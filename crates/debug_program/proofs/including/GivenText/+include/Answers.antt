@@ -3,10 +3,10 @@ use Rattle.std.proofs.Common.{◌≡◌, ◌-◌, ◌+◌, ℕ, true, List, [], 
 use Rattle.std.specs.Prelude.{option_map}
 use Rattle.std.proofs.Math.ListN.{drop_of_length-le}
 use Rattle.std.proofs.lemmas.List.{drop_more}
+use Rattle.std.proofs.lemmas.Result.{on_ok_weaker}
 use Rattle.debug_program.specs.Including.{GivenSoFar, StaysKnown, file_given, given_all, given_bytes, given_file, given_none, given_wanted, is_path, path_beside}
 use Rattle.debug_program.specs.GivenText.{given_of}
 use Rattle.debug_program.proofs.IncludingLemmas.{all_stays, file_taken, stays_self, stays_trans, step_stays, wanted_taken}
-use Rattle.debug_program.proofs.ResultLemmas.{so_then}
 use Rattle.debug_program.proofs.including.GivenText.+include.Goals as goal
 
 pub include-returns-clause-taken : goal.include-returns-clause-taken
@@ -25,7 +25,7 @@ include-returns-clause-taken g t c =
     (subst (λ (p : List ℕ). StaysKnown (given_all files p (10 ∷ []) (given_of c.new-file.result) bytes) (Some file)) c.deref.ensures
     (subst (λ (bs : List ℕ). StaysKnown (given_all files c.deref.result.now (10 ∷ []) (given_of c.new-file.result) bs) (Some file))
     c.deref-2.ensures.value c.in_ok-take_text.ensures)) in
-    so_then c.take_file.result _ _ (λ taken.
+    on_ok_weaker c.take_file.result (λ taken.
     subst (λ (w : Option (Vec ℕ Global)). IfSome (given_wanted (file_given text_of c.args.depth) script was (option_map (λ v. v.items) w)) (λ k. now ≡ k))
     (sym c.in-Some.is)
     (wanted_taken text_of c.args.depth script c.in-Some.wanted.items path was now

@@ -5,14 +5,14 @@ use Rattle.debug_records.specs.AnswerHeads.{answer_fields, answer_head, is_remar
 use Rattle.debug_records.specs.LineRecords.{step_forms}
 use Rattle.debug_records.specs.Recording.{session_machine, twin_machine}
 use Rattle.debug_records.proofs.HeadLemmas.{answer_written}
-use Rattle.debug_records.proofs.RecordLemmas.{in_any_case}
+use Rattle.debug_session.proofs.FailLemmas.{anyhow}
 use Rattle.debug_records.proofs.recorder.Twin.record_answer.Goals as goal
 
 pub returns : goal.returns
 returns g c = λ m held alike.
     let l = c.args.line.now in
     let last = session_machine l.session.now in
-    in_any_case c.follow.result _
+    anyhow c.follow.result _
     (answer_written (is_remark_use l.used) (l.taken == 0) (is_reset_use l.used) c.in_ok-head.head.bytes.items
     (answer_head l.block.now.number (answer_fields (is_remark_use l.used) (is_stepping_use l.used) l.taken l.counts
     (debug_state l.session.now held) l.answer.now))
