@@ -1,6 +1,6 @@
 //! Why the program stands, and how GDB is told.
 
-ghost use Rattle.std.specs.Prelude.{◌≡◌, ◌∷◌, [], IfOk};
+ghost use Rattle.std.specs.Prelude.{◌≡◌, ◌∷◌, [], ◌++◌, IfOk, OnOk};
 ghost use Rattle.hex.specs.Hex.{encode_lower};
 ghost use Rattle.gdb_machine.specs.Stops.{gone_text, first_registers_text, is_gone, reached_text, signal_number, signal_number_of as number_shown, signal_of, signal_of_fault as fault_shown, stop_packet as packet_shown, shown_value, watch_reached, watch_word};
 
@@ -131,7 +131,7 @@ pub fn stop_packet(alloc: Global, cpu: &Cpu, why: GdbStop) -> Result<Vec<u8>, Al
     let mut packet = Vec::from_slice(alloc, b"T")?;
     packet.extend_from_slice(encode(alloc, [signal.number()])?.as_bytes())?;
     packet.extend_from_slice(reached(alloc, why)?.as_slice())?;
-    packet.extend_from_slice(first_registers(alloc, cpu)?.as_slice())?;
+    push_first_registers(alloc, cpu, &mut packet)?;
     Ok(packet)
 }
 
@@ -183,25 +183,28 @@ fn watch_word(kind: WatchKind) -> &'static [u8]
 }
 
 // The registers that GDB asks for first.
-fn first_registers(alloc: Global, cpu: &Cpu) -> Result<Vec<u8>, AllocError>
-    ensures { IfOk result (λ text. text.items ≡ first_registers_text cpu.now) }
+fn push_first_registers(alloc: Global, cpu: &Cpu, text: &mut Vec<u8>) -> Result<(), AllocError>
+    ensures { OnOk result (text.new.items ≡ text.old.items ++ first_registers_text cpu.now) }
 {
-    let mut text = Vec::from_slice(alloc, b"0b:")?;
-    text.extend_from_slice(value_text(alloc, cpu, 11)?.as_slice())?;
-    text.extend_from_slice(b";0d:")?;
-    text.extend_from_slice(value_text(alloc, cpu, 13)?.as_slice())?;
-    text.extend_from_slice(b";0e:")?;
-    text.extend_from_slice(value_text(alloc, cpu, 14)?.as_slice())?;
-    text.extend_from_slice(b";0f:")?;
-    text.extend_from_slice(value_text(alloc, cpu, 15)?.as_slice())?;
-    text.extend_from_slice(b";10:")?;
-    text.extend_from_slice(value_text(alloc, cpu, 16)?.as_slice())?;
-    text.extend_from_slice(b";")?;
-    Ok(text)
+    push_value(alloc, cpu, text, b"0b:", 11)?;
+    push_value(alloc, cpu, text, b";0d:", 13)?;
+    push_value(alloc, cpu, text, b";0e:", 14)?;
+    push_value(alloc, cpu, text, b";0f:", 15)?;
+    push_value(alloc, cpu, text, b";10:", 16)?;
+    text.extend_from_slice(b";")
 }
 
-fn value_text(alloc: Global, cpu: &Cpu, number: u32) -> Result<Vec<u8>, AllocError>
-    ensures { IfOk result (λ text. text.items ≡ shown_value cpu.now number) }
+// A register behind its name.
+fn push_value(
+    alloc: Global,
+    cpu: &Cpu,
+    text: &mut Vec<u8>,
+    name: &[u8],
+    number: u32,
+) -> Result<(), AllocError>
+    ensures { OnOk result (text.new.items ≡ text.old.items ++ name.now ++ shown_value cpu.now number) }
 {
-    word_digits(alloc, register_shown(cpu, number).unwrap_or(0))
+    let digits = word_digits(alloc, register_shown(cpu, number).unwrap_or(0))?;
+    text.extend_from_slice(name)?;
+    text.extend_from_slice(digits.as_slice())
 }
