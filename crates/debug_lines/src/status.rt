@@ -1,6 +1,6 @@
 //! Flags and modes by their letters, as PSR shows them.
 
-ghost use Rattle.std.specs.Prelude.{◌≡◌};
+ghost use Rattle.std.specs.Prelude.{◌≡◌, None, Some, if◌then◌else◌};
 ghost use Rattle.debug_lines.specs.Status.{any_status, flag_shown_once, with_letter, with_letters, status_of_letters, mode_named, status_of_two, status_of_word};
 
 use crate::few_words::has_letters;
@@ -57,37 +57,20 @@ impl StatusPattern {
     }
 
     // The pattern that shows one flag more.
-    fn with_letter(self, letter: u8) -> Option<StatusPattern>
+    fn with_letter(mut self, letter: u8) -> Option<StatusPattern>
         ensures { result ≡ with_letter self letter }
     {
         let is_set = letter.is_ascii_uppercase();
-        match letter {
-            b'N' | b'n' => Some(StatusPattern {
-                negative: shown_once(self.negative, is_set)?,
-                ..self
-            }),
-            b'Z' | b'z' => Some(StatusPattern {
-                zero: shown_once(self.zero, is_set)?,
-                ..self
-            }),
-            b'C' | b'c' => Some(StatusPattern {
-                carry: shown_once(self.carry, is_set)?,
-                ..self
-            }),
-            b'V' | b'v' => Some(StatusPattern {
-                overflow: shown_once(self.overflow, is_set)?,
-                ..self
-            }),
-            b'I' | b'i' => Some(StatusPattern {
-                interrupts_off: shown_once(self.interrupts_off, is_set)?,
-                ..self
-            }),
-            b'F' | b'f' => Some(StatusPattern {
-                fast_interrupts_off: shown_once(self.fast_interrupts_off, is_set)?,
-                ..self
-            }),
-            _ => None,
-        }
+        let shown = match letter {
+            b'N' | b'n' => show_once(&mut self.negative, is_set),
+            b'Z' | b'z' => show_once(&mut self.zero, is_set),
+            b'C' | b'c' => show_once(&mut self.carry, is_set),
+            b'V' | b'v' => show_once(&mut self.overflow, is_set),
+            b'I' | b'i' => show_once(&mut self.interrupts_off, is_set),
+            b'F' | b'f' => show_once(&mut self.fast_interrupts_off, is_set),
+            _ => false,
+        };
+        if shown { Some(self) } else { None }
     }
 
     // The pattern of letters and a mode.
@@ -116,14 +99,15 @@ impl StatusPattern {
     }
 }
 
-// A flag that a letter shows, where no letter before it has.
-fn shown_once(reported: Option<bool>, is_set: bool) -> Option<Option<bool>>
-    ensures { result ≡ flag_shown_once reported is_set }
+// Shows a flag, where no letter before has, and says whether it does.
+fn show_once(flag: &mut Option<bool>, is_set: bool) -> bool
+    ensures { (if result then Some flag.new else None) ≡ flag_shown_once flag.old is_set }
 {
-    match reported {
-        None => Some(Some(is_set)),
-        Some(_) => None,
+    if flag.is_some() {
+        return false;
     }
+    *flag = Some(is_set);
+    true
 }
 
 /// The mode of that name, in either case.
