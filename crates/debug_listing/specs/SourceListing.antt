@@ -12,7 +12,7 @@ use Rattle.debug_tables.specs.AsmError.{AsmError}
 use Rattle.assembler_text.specs.naming.Labels.{Entries}
 use Rattle.assembler_text.specs.naming.Words.{after_spaces, after_word, is_end_of_line, is_same_name, word}
 use Rattle.command_shell_lines.specs.Requests.{Request, Asm}
-use Rattle.debug_tables.specs.BlockErrors.{source_without}
+use Rattle.debug_listing.specs.BlockErrors.{source_without}
 use Rattle.debug_tables.specs.counts.Counts.{CountTable, times_at}
 
 -- THE TEXTS OF BLOCKS

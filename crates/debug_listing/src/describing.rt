@@ -13,7 +13,7 @@ use crate::tables::{commands_of, header_word};
 use address_map::AddressMap;
 use command_shell_lines::debug_words::text_behind;
 use debug_labels::{Instances, ModuleInfo};
-use debug_tables::run_meter::Machine;
+use debug_tables::Machine;
 use profile::HexText;
 use std::alloc::{AllocError, Global};
 

@@ -1,19 +1,24 @@
-//! Lists for debugging scripts. They are of modules, with their commands and places, of the lines of an
-//! assembled block, and of words of images that differ.
+//! Lists for debugging scripts: modules, with their commands and places, the lines of an assembled block
+//! and their errors, and words of images that differ; and how far a long run is, for a terminal.
 //!
-//! Promise: a list shows what is there.
+//! Promise: a list shows what is there, the errors of a block are those of its lines, and a run that reports
+//! how far it is comes to what it comes to at once.
 #![tactic(auto)]
 
+mod block_error_texts;
+pub mod block_errors;
 mod commands;
 mod comparing;
 mod describing;
 mod image_parts;
 mod listing;
 mod requests;
+pub mod run_meter;
 mod source_listing;
 mod tables;
 mod tails;
 
+pub use block_error_texts::with_errors;
 pub use command_shell_lines::Origin;
 pub use commands::{CommandSearch, FoundCommand, command_found};
 pub use comparing::push_comparison;

@@ -11,7 +11,7 @@ use crate::image_parts::push_shown;
 use crate::tables::{CommandEntry, commands_of};
 use address_map::AddressMap;
 use debug_labels::{Instances, MAX_TEXT, ModuleInfo, TextEnd, text_at};
-use debug_tables::run_meter::Machine;
+use debug_tables::Machine;
 use itoa::Buffer;
 use std::alloc::{AllocError, Global};
 

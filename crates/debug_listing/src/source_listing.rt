@@ -1,6 +1,6 @@
 //! The listing of an image that an ASM block has made, and the texts of such blocks.
 
-ghost use Rattle.debug_tables.specs.BlockErrors.{source_without};
+ghost use Rattle.debug_listing.specs.BlockErrors.{source_without};
 ghost use Rattle.std.specs.Prelude.{[], ◌≡◌, ◌≤◌, ◌++◌, length, slice_get, slice_index_or, option_map, IfOk, OnOk};
 ghost use Rattle.std.specs.Str.Lines.{lines};
 ghost use Rattle.command_shell_lines.specs.Blocks.{block_lines};

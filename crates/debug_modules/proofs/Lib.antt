@@ -4,6 +4,8 @@ pub use Rattle.debug_history.proofs.LineNotedLemmas
 pub use Rattle.debug_history.proofs.NotedLemmas
 pub use Rattle.debug_history.proofs.PieceLemmas
 pub use Rattle.debug_history.proofs.StepLemmas
+pub use Rattle.debug_listing.proofs.BlockErrorLemmas
+pub use Rattle.debug_listing.proofs.RunMeterLemmas.SliceLemmas
 pub use Rattle.debug_runs.proofs.PlainLemmas
 pub use Rattle.debug_runs.proofs.TracedLemmas
 pub mod EnteringLemmas

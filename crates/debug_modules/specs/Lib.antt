@@ -16,9 +16,12 @@ pub use Rattle.debug_history.specs.declared.lines.PastCommand
 pub use Rattle.debug_history.specs.declared.noting.SteppingNote
 pub use Rattle.debug_history.specs.declared.search.PastFound
 pub use Rattle.debug_history.specs.declared.search.Sought
+pub use Rattle.debug_listing.specs.BlockErrorTexts
+pub use Rattle.debug_listing.specs.BlockErrors
 pub use Rattle.debug_listing.specs.Places
 pub use Rattle.debug_listing.specs.Requests
 pub use Rattle.debug_listing.specs.SourceListing
+pub use Rattle.debug_listing.specs.run_meter.Meters
 pub use Rattle.debug_modes.specs.Changes
 pub use Rattle.debug_modes.specs.Counting
 pub use Rattle.debug_modes.specs.Modes

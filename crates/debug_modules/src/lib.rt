@@ -17,7 +17,9 @@ pub use debug_history::{
     KeptStubs, Past, PastDeed, PastFound, PastSetting, Sought, deed_again, is_faulted,
     last_steps_asked,
 };
-pub use debug_listing::{keep_source, line_on, names_on};
+pub use debug_listing::block_errors::errors_of_block;
+pub use debug_listing::run_meter::{RunMeter, answer_metered};
+pub use debug_listing::{keep_source, line_on, names_on, with_errors};
 pub use debug_modes::expectations::reports::{
     CheckTally, ReportForm, push_answer, push_fail, push_missing_end, push_pass, push_refusal,
     push_summary,

@@ -5,13 +5,13 @@ use Rattle.std.proofs.lemmas.Bool.{cases_Bool}
 use Rattle.std.proofs.lemmas.List.{append-nil}
 use Rattle.debug_tables.specs.AsmError.{AsmError}
 use Rattle.profile.specs.images.Entries.{Entry}
-use Rattle.debug_tables.specs.BlockErrors.{block_errors, further_errors, is_assembled, next_error, with_others}
-use Rattle.debug_tables.specs.BlockErrorTexts.{text_with_errors}
-use Rattle.debug_tables.proofs.BlockErrorLemmas.{nothing_behind}
-use Rattle.debug_tables.specs.run_meter.Memory.{script_with_budget}
-use Rattle.debug_tables.specs.run_meter.Script.{lines_answer, request_answer}
-use Rattle.debug_tables.specs.run_meter.State.{Answered, ScriptState}
-use Rattle.debug_tables.proofs.RunMeterLemmas.ScriptLemmas.{lines_after-shorter, text_end, text_step}
+use Rattle.debug_modules.specs.BlockErrors.{block_errors, further_errors, is_assembled, next_error, with_others}
+use Rattle.debug_modules.specs.BlockErrorTexts.{text_with_errors}
+use Rattle.debug_modules.proofs.BlockErrorLemmas.{nothing_behind}
+use Rattle.debug_tables.specs.Memory.{script_with_budget}
+use Rattle.debug_tables.specs.Script.{lines_answer, request_answer}
+use Rattle.debug_tables.specs.State.{Answered, ScriptState}
+use Rattle.debug_tables.proofs.ScriptLemmas.{lines_after-shorter, text_end, text_step}
 use Rattle.command_shell_lines.specs.Blocks.{block_lines, lines_after, lines_taken}
 use Rattle.command_shell_lines.specs.Requests.{Request, Nothing, Hex, Asm, Boot, Run, Regs, Set, Poke, Call, Load, Step, Break, Unbreak, Mem, Code, Heap, Areas, Modules, Flex, Unknown, opens_block, request_of}
 use Rattle.debug_lines.specs.DebugRequests.{is_script_request}

@@ -2,8 +2,8 @@
 use Rattle.std.proofs.Common.{◌≡◌, Bool, true, Result, Ok, Err, refl, subst, sym}
 use Rattle.std.specs.Prelude.{IfErr}
 use Rattle.std.specs.Result.{IsErrAnd}
-use Rattle.debug_tables.specs.run_meter.RunError.{RunError}
-use Rattle.debug_tables.specs.run_meter.RunError.TheVariants.{Memory, ReadFault, WriteFault, ScriptTooLong}
+use Rattle.debug_tables.specs.RunError.{RunError}
+use Rattle.debug_tables.specs.RunError.TheVariants.{Memory, ReadFault, WriteFault, ScriptTooLong}
 use Rattle.debug_session.specs.Failing.{EndsAtOnce}
 
 -- with all of it

@@ -5,8 +5,8 @@ use Rattle.std.specs.Io.KnownBytes.{Appends}
 use Rattle.std.specs.Prelude.{OnOk}
 use Rattle.profile.specs.Output.{AddsAllBut, AddsFront}
 use Rattle.profile.proofs.OutputLemmas.{AddsAllBut-more}
-use Rattle.debug_tables.proofs.RunMeterLemmas.FrontLemmas.{AddsFront-from_all_but}
-pub use Rattle.debug_tables.proofs.RunMeterLemmas.FrontLemmas.{AddsFront-start as front_start}
+use Rattle.debug_tables.proofs.FrontLemmas.{AddsFront-from_all_but}
+pub use Rattle.debug_tables.proofs.FrontLemmas.{AddsFront-start as front_start}
 pub use Rattle.debug_modules.proofs.EnteringLemmas.{anyhow}
 
 -- a writer that is as it was

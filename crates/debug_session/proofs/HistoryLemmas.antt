@@ -4,10 +4,10 @@ use Rattle.std.specs.Option.{option_map}
 use Rattle.profile.specs.images.Entries.{bytes_of_image}
 use Rattle.profile.specs.Fault.{Fault}
 use Rattle.command_shell_lines.specs.Requests.{Request, Areas, Asm, Boot, Break, Call, Code, Flex, Heap, Hex, Load, Mem, Modules, Nothing, Poke, Regs, Run, Set, Step, Unbreak, Unknown}
-use Rattle.debug_tables.specs.run_meter.Memory.{script_at, script_started_anew, script_with_budget, script_with_status}
-use Rattle.debug_tables.specs.run_meter.Script.{request_answer}
-use Rattle.debug_tables.specs.run_meter.MachineState.{machine_start, stop_of}
-use Rattle.debug_tables.specs.run_meter.State.{Answered, ScriptState, script_start_state}
+use Rattle.debug_tables.specs.Memory.{script_at, script_started_anew, script_with_budget, script_with_status}
+use Rattle.debug_tables.specs.Script.{request_answer}
+use Rattle.debug_tables.specs.MachineState.{machine_start, stop_of}
+use Rattle.debug_tables.specs.State.{Answered, ScriptState, script_start_state}
 use Rattle.command_shell_lines.specs.debug_words.NamedBytes.{bytes_written, named_bytes, or_no_bytes}
 use Rattle.debug_modules.specs.Labels.{ImageLabels}
 use Rattle.debug_lines.specs.DebugRequests as own

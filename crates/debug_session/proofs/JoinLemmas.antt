@@ -2,7 +2,7 @@
 use Rattle.std.proofs.Common.{◌≡◌, ◌≤◌, ℕ, zero, suc, ◌+◌, Bool, true, false, not, List, [], ◌∷◌, ◌++◌, length, append_assoc, inl, inr, ap, sym, refl, ◌∙◌, arith}
 use Rattle.std.specs.Prelude.{if◌then◌else◌}
 use Rattle.std.proofs.lemmas.Bool.{cases_Bool}
-use Rattle.debug_tables.proofs.RunMeterLemmas.ScriptLemmas.{lines_after-shorter, number_step}
+use Rattle.debug_tables.proofs.ScriptLemmas.{lines_after-shorter, number_step}
 use Rattle.command_shell_lines.specs.Blocks.{after_block, block_lines, lines_after, lines_in_block, lines_taken}
 use Rattle.command_shell_lines.specs.Requests.{Hex, Nothing, is_end_of_block}
 use Rattle.debug_lines.specs.WholeDebugRequests.{is_debug_block_open_after_lines}

@@ -7,15 +7,15 @@ use Rattle.profile.specs.declared.stop.Stop.{Stop}
 use Rattle.profile.specs.declared.stop.Stop.TheVariants as stop
 use Rattle.debug_modules.specs.Labels.{ImageLabels}
 use Rattle.debug_tables.specs.Halt.{Halt}
-use Rattle.debug_tables.specs.run_meter.MachineState.{MachineState, StepOutcome, stop_of}
+use Rattle.debug_tables.specs.MachineState.{MachineState, StepOutcome, stop_of}
 use Rattle.debug_tables.specs.Run.{count_after}
 use Rattle.debug_tables.specs.Step.{machine_step, module_loaded, store_called}
 use Rattle.debug_tables.specs.Calls.{answer_after_steps, call_end, call_made, finished_by, step_made, stop_answer, stop_before_step, stop_before_step_by}
 use Rattle.debug_tables.specs.CallEnd.{CallEnd}
 use Rattle.debug_tables.specs.CallEnd.TheVariants as cend
 use Rattle.debug_tables.proofs.CallLemmas.{call_allowed, finished_ends, halted_ends}
-use Rattle.debug_tables.specs.run_meter.Memory.{script_with_budget, script_with_last}
-use Rattle.debug_tables.specs.run_meter.State.{ScriptState}
+use Rattle.debug_tables.specs.Memory.{script_with_budget, script_with_last}
+use Rattle.debug_tables.specs.State.{ScriptState}
 use Rattle.debug_lines.specs.SteppingRequests.{SteppingRequest}
 use Rattle.debug_lines.specs.SteppingRequests as asked
 use Rattle.debug_modules.specs.Acts.{PastMoment, changed_moment, moment_after_deed, moment_after_steps, moment_of_script, steps_behind, stubs_of_deed}

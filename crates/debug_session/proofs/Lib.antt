@@ -1,7 +1,7 @@
 pub use Rattle.debug_modules.proofs.PieceLemmas as PastPieceLemmas
 pub use Rattle.debug_tables.proofs.FrontLemmas
 pub use Rattle.debug_tables.proofs.ImageLemmas
-pub use Rattle.debug_tables.proofs.RunMeterLemmas.SliceLemmas
+pub use Rattle.debug_modules.proofs.SliceLemmas
 pub use Rattle.debug_tables.proofs.StubLemmas
 pub mod AloneLemmas
 pub mod AsBeforeLemmas

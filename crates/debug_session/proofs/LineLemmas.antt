@@ -1,6 +1,6 @@
 -- The lines of a debugging script, one after another.
 use Rattle.std.proofs.Common.{◌≡◌, ◌≤◌, ◌<◌, ℕ, zero, suc, ◌+◌, Bool, true, false, List, [], ◌∷◌, ◌++◌, length, Option, Result, ap, sym, refl, subst, ◌∙◌, arith}
-use Rattle.debug_tables.proofs.RunMeterLemmas.ScriptLemmas.{lines_after-shorter, number_step}
+use Rattle.debug_tables.proofs.ScriptLemmas.{lines_after-shorter, number_step}
 use Rattle.std.specs.Prelude.{OnOk, if◌then◌else◌}
 use Rattle.command_shell_lines.specs.Blocks.{block_lines, lines_after, lines_taken}
 use Rattle.command_shell_lines.specs.Requests.{Request, Hex, Nothing, opens_block, request_of}

@@ -25,9 +25,9 @@ use Rattle.debug_modules.specs.Taking.{LineSteps, line_steps}
 use Rattle.debug_modules.specs.declared.services.ServiceCode.{ServiceCode}
 use Rattle.debug_modules.specs.declared.entering.ModuleEntry.{ModuleEntry}
 use Rattle.debug_tables.specs.byte_writes.Put.{script_after_put}
-use Rattle.debug_tables.specs.run_meter.Answers.{refused_text}
-use Rattle.debug_tables.specs.run_meter.Memory.{script_with_budget, script_with_register, script_with_status}
-use Rattle.debug_tables.specs.run_meter.State.{ScriptState}
+use Rattle.debug_tables.specs.Answers.{refused_text}
+use Rattle.debug_tables.specs.Memory.{script_with_budget, script_with_register, script_with_status}
+use Rattle.debug_tables.specs.State.{ScriptState}
 use Rattle.debug_session.specs.DebugScript.{module_line_by, module_line_shown, stepping_answer_by, unknown_answer, view_answer}
 use Rattle.debug_session.specs.DebugState.{DebugAnswered, DebugState, IsDebugged}
 use Rattle.debug_session.specs.History.{IsSameButPast}

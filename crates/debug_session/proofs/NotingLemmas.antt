@@ -16,8 +16,8 @@ use Rattle.debug_session.specs.Noting.{state_noted}
 use Rattle.debug_session.specs.Session.{debug_state}
 use Rattle.debug_session.specs.declared.session.DebugSession.{DebugSession}
 use Rattle.debug_session.specs.declared.session.DebugSettings.{DebugSettings}
-use Rattle.debug_tables.specs.run_meter.Session.{script_state}
-use Rattle.debug_tables.specs.run_meter.State.{Answered}
+use Rattle.debug_tables.specs.Session.{script_state}
+use Rattle.debug_tables.specs.State.{Answered}
 
 -- what is kept of the answer alone
 abbrev answer_kept : DebugSettings → DebugState → Bool → List ℕ → DebugState

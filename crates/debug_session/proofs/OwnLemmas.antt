@@ -7,10 +7,10 @@ use Rattle.profile.proofs.OutputLemmas.{Appends-join, Appends-nothing}
 use Rattle.debug_lines.specs.DebugRequests.{DebugRequest}
 use Rattle.profile.specs.declared.stop.Stop.{Stop}
 use Rattle.profile.specs.Status.{status_after}
-use Rattle.debug_tables.specs.BlockErrorTexts.{text_with_errors}
-use Rattle.debug_tables.specs.run_meter.Script.{request_answer}
-use Rattle.debug_tables.specs.run_meter.State.{Answered, IsAnswered, ScriptState}
-use Rattle.debug_tables.specs.run_meter.Memory.{script_started_anew, script_with_budget}
+use Rattle.debug_modules.specs.BlockErrorTexts.{text_with_errors}
+use Rattle.debug_tables.specs.Script.{request_answer}
+use Rattle.debug_tables.specs.State.{Answered, IsAnswered, ScriptState}
+use Rattle.debug_tables.specs.Memory.{script_started_anew, script_with_budget}
 use Rattle.command_shell_lines.specs.Requests.{Request, Nothing, Hex, Asm, Boot, Run, Regs, Set, Poke, Call, Load, Step, Break, Unbreak, Mem, Code, Heap, Areas, Modules, Flex, Unknown, opens_block}
 use Rattle.command_shell_lines.specs.Blocks.{lines_after, lines_taken}
 use Rattle.command_shell_lines.specs.FailedBlocks.{block_reason}
@@ -24,7 +24,7 @@ use Rattle.debug_modules.specs.Past.{PastState, past_from_start}
 use Rattle.debug_modules.specs.PastDeed.{PastDeed}
 use Rattle.debug_modules.specs.PastDeed.TheVariants.{Anew}
 use Rattle.profile.specs.images.Entries.{Entry}
-use Rattle.debug_tables.specs.run_meter.Session.{script_state}
+use Rattle.debug_tables.specs.Session.{script_state}
 use Rattle.debug_session.specs.DebugState.{DebugAnswered, DebugState, IsDebugged, debug_answer}
 use Rattle.debug_session.specs.Session.{debug_state}
 use Rattle.debug_session.specs.declared.session.DebugSession.{DebugSession}

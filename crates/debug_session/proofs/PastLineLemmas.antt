@@ -2,7 +2,7 @@
 use Rattle.std.proofs.Common.{◌≡◌, ℕ, List, [], Option, Some, None, Result, ap, subst, sym, ◌∙◌}
 use Rattle.std.specs.Prelude.{OnOk, unwrap_or}
 use Rattle.std.specs.Option.{option_map}
-use Rattle.debug_tables.specs.run_meter.State.{ScriptState}
+use Rattle.debug_tables.specs.State.{ScriptState}
 use Rattle.debug_modules.specs.DebugHistoryAnswers.{PastAnswered, past_after_past, past_line_answered, script_after_past}
 use Rattle.debug_modules.specs.Past.{PastState}
 use Rattle.debug_session.specs.DebugScript.{module_line_answer, past_line_by, past_line_or_steps, view_answer}

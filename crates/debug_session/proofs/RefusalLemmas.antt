@@ -15,7 +15,7 @@ use Rattle.debug_modules.specs.OwnAnswers.{reasoned_text}
 use Rattle.debug_session.specs.Refusals.{GoesOnBehind}
 use Rattle.debug_session.specs.declared.session.DebugSettings.{DebugSettings}
 use Rattle.debug_modules.specs.Reasons.{refusal_reason}
-use Rattle.debug_tables.specs.BlockErrorTexts.{block_errors_text, text_with_errors}
+use Rattle.debug_modules.specs.BlockErrorTexts.{block_errors_text, text_with_errors}
 use Rattle.command_shell_lines.specs.Requests.{Request}
 
 line_refused : LineRefusedAsBefore

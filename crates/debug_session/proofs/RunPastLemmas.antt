@@ -9,13 +9,13 @@ use Rattle.profile.specs.declared.stop.Stop.TheVariants as stop
 use Rattle.debug_modules.specs.Labels.{ImageLabels}
 use Rattle.debug_tables.specs.Halt.{Halt}
 use Rattle.debug_tables.specs.Halt.TheVariants as halt
-use Rattle.debug_tables.specs.run_meter.MachineState.{StepOutcome, stop_of}
+use Rattle.debug_tables.specs.MachineState.{StepOutcome, stop_of}
 use Rattle.debug_tables.specs.Run.{count_after}
 use Rattle.debug_tables.specs.Calls.{step_made, stop_before_step_by}
-use Rattle.debug_tables.specs.run_meter.Memory.{script_with_last}
+use Rattle.debug_tables.specs.Memory.{script_with_last}
 use Rattle.debug_tables.specs.CallEnd.TheVariants as cend
 use Rattle.debug_tables.proofs.CallLemmas.{can_step}
-use Rattle.debug_tables.specs.run_meter.State.{ScriptState}
+use Rattle.debug_tables.specs.State.{ScriptState}
 use Rattle.debug_tables.specs.declared.modes.StepModes.{StepModes}
 use Rattle.command_shell_lines.specs.declared.debug_words.stubs.Stub.{Stub}
 use Rattle.debug_modules.specs.Endings.{line_end_answer, line_stop_answer}

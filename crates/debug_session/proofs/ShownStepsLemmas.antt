@@ -9,8 +9,8 @@ use Rattle.profile.specs.declared.stop.Stop.{Stop}
 use Rattle.command_shell_lines.specs.declared.debug_words.stubs.Stub.{Stub}
 use Rattle.debug_modules.specs.Labels.{ImageLabels}
 use Rattle.debug_tables.specs.Halt.{Halt}
-use Rattle.debug_tables.specs.run_meter.MachineState.{stop_of}
-use Rattle.debug_tables.specs.run_meter.State.{ScriptState}
+use Rattle.debug_tables.specs.MachineState.{stop_of}
+use Rattle.debug_tables.specs.State.{ScriptState}
 use Rattle.debug_lines.specs.SteppingRequests.{SteppingRequest}
 use Rattle.debug_modules.specs.Acts.{PastMoment, count_if, is_anew, moment_after_deed, moment_after_steps, moment_of_script, steps_behind, steps_of_acts, steps_of_deed, stubs_of_deed}
 use Rattle.debug_modules.specs.Again.{IsAtMoment}
@@ -18,7 +18,7 @@ use Rattle.debug_modules.specs.Act.{Act}
 use Rattle.debug_modules.specs.PastDeed.{PastDeed}
 use Rattle.debug_modules.proofs.AgainLemmas.{IsBeside, moment_at}
 use Rattle.debug_modules.proofs.StepLemmas.{never_none}
-use Rattle.debug_tables.specs.run_meter.Answers.{refused_text}
+use Rattle.debug_tables.specs.Answers.{refused_text}
 use Rattle.debug_session.specs.LastSteps.{modes_with_stubs, script_at_past, steps_shown, text_of_acts, text_of_deed, text_of_steps, text_or_refused, text_with_deed}
 use Rattle.debug_tables.specs.declared.modes.StepModes.{StepModes}
 

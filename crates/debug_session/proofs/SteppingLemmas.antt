@@ -6,8 +6,8 @@ use Rattle.profile.proofs.OutputLemmas.{Appends-join}
 use Rattle.profile.specs.FaultNames.{fault_name}
 use Rattle.profile.specs.Outcome.{Leaves}
 use Rattle.profile.specs.Fault.{Fault}
-use Rattle.debug_tables.specs.run_meter.Answers.{refused_text}
-use Rattle.debug_tables.specs.run_meter.State.{ScriptState}
+use Rattle.debug_tables.specs.Answers.{refused_text}
+use Rattle.debug_tables.specs.State.{ScriptState}
 use Rattle.command_shell_lines.specs.Requests.{Request, Nothing, Hex, Asm, Boot, Run, Regs, Set, Poke, Call, Load, Step, Break, Unbreak, Mem, Code, Heap, Areas, Modules, Flex, Unknown, opens_block}
 use Rattle.debug_modules.specs.Noted.{past_with_deed}
 use Rattle.debug_modules.specs.Past.{PastState}

@@ -9,14 +9,14 @@ use Rattle.profile.specs.declared.stop.Stop.TheVariants as stop
 use Rattle.command_shell_lines.specs.declared.debug_words.stubs.Stub.{Stub}
 use Rattle.debug_modules.specs.Labels.{ImageLabels}
 use Rattle.debug_tables.specs.Halt.{Halt}
-use Rattle.debug_tables.specs.run_meter.MachineState.{StepOutcome}
+use Rattle.debug_tables.specs.MachineState.{StepOutcome}
 use Rattle.debug_tables.specs.Step.{module_loaded, store_called}
 use Rattle.debug_tables.specs.Calls.{step_made, stop_before_step_by}
-use Rattle.debug_tables.specs.run_meter.Memory.{script_with_bank_register, script_with_last}
-use Rattle.debug_tables.specs.run_meter.Writes.{machine_with_register}
+use Rattle.debug_tables.specs.Memory.{script_with_bank_register, script_with_last}
+use Rattle.debug_tables.specs.Writes.{machine_with_register}
 use Rattle.debug_tables.proofs.CallLemmas.{can_step}
 use Rattle.debug_lines.specs.SteppingRequests as stepping
-use Rattle.debug_tables.specs.run_meter.State.{ScriptState}
+use Rattle.debug_tables.specs.State.{ScriptState}
 use Rattle.debug_tables.specs.Routines.{caller_in, routine_end, script_at_routine, script_back}
 use Rattle.debug_modules.specs.Endings.{line_end_answer}
 use Rattle.debug_modules.specs.Lines.{SteppingAnswer, answer_unless, finish_answer, stepping_answer}

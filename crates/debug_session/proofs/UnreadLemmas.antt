@@ -5,22 +5,22 @@ use Rattle.debug_tables.specs.Passes.{means_lines}
 use Rattle.debug_tables.specs.AsmError.{AsmError}
 use Rattle.debug_modules.specs.Flex.{flex_text}
 use Rattle.debug_modules.specs.Heap.{heap_blocks_text}
-use Rattle.debug_tables.specs.run_meter.Boot.{machine_after_boot}
-use Rattle.debug_tables.specs.run_meter.BootError.{BootError}
+use Rattle.debug_tables.specs.Boot.{machine_after_boot}
+use Rattle.debug_tables.specs.BootError.{BootError}
 use Rattle.arm_core.specs.breaks.Breaks.{with_break, without_break}
 use Rattle.arm_core.specs.declared.breaks.breaks.BreakError.{BreakError}
 use Rattle.profile.specs.images.Entries.{bytes_of_image, refusal_for}
 use Rattle.profile.specs.declared.images.error.ImageError.{ImageError}
 use Rattle.profile.specs.Fault.{Fault}
-use Rattle.debug_tables.specs.run_meter.MachineState.{MachineState}
-use Rattle.debug_tables.specs.run_meter.Writes.{machine_after_poke}
-use Rattle.debug_tables.specs.run_meter.Answers.{break_text, unbreak_text}
-use Rattle.debug_tables.specs.run_meter.Images.{asm_block, boot_done, boot_found, hex_block, image_added, image_opened}
-use Rattle.debug_tables.specs.run_meter.Memory.{poke_done, script_with_budget}
-use Rattle.debug_tables.specs.run_meter.Script.{request_answer}
-use Rattle.debug_tables.specs.run_meter.State.{Answered, ScriptState}
-use Rattle.debug_tables.specs.run_meter.Stepping.{breaks_changed}
-use Rattle.debug_tables.specs.run_meter.Views.{flex_answer, heap_answer, shown_or}
+use Rattle.debug_tables.specs.MachineState.{MachineState}
+use Rattle.debug_tables.specs.Writes.{machine_after_poke}
+use Rattle.debug_tables.specs.Answers.{break_text, unbreak_text}
+use Rattle.debug_tables.specs.Images.{asm_block, boot_done, boot_found, hex_block, image_added, image_opened}
+use Rattle.debug_tables.specs.Memory.{poke_done, script_with_budget}
+use Rattle.debug_tables.specs.Script.{request_answer}
+use Rattle.debug_tables.specs.State.{Answered, ScriptState}
+use Rattle.debug_tables.specs.Stepping.{breaks_changed}
+use Rattle.debug_tables.specs.Views.{flex_answer, heap_answer, shown_or}
 use Rattle.command_shell_lines.specs.Blocks.{block_bytes}
 use Rattle.command_shell_lines.specs.Requests.{Request, Nothing, Hex, Asm, Boot, Run, Regs, Set, Poke, Call, Load, Step, Break, Unbreak, Mem, Code, Heap, Areas, Modules, Flex, Unknown}
 use Rattle.debug_lines.specs.LineKinds.{takes_steps}

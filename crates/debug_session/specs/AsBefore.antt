@@ -1,9 +1,9 @@
 -- A script is answered by a debugging session as a script is, byte for byte; and looking and
 -- expecting change nothing.
 use Rattle.std.specs.Prelude.{◌≡◌, ◌≤◌, ℕ, zero, suc, ◌+◌, ◌&&◌, Bool, true, false, List, [], ◌∷◌, length, None, if◌then◌else◌}
-use Rattle.debug_tables.specs.BlockErrors.{is_assembled}
-use Rattle.debug_tables.specs.run_meter.Script.{lines_answer}
-use Rattle.debug_tables.specs.run_meter.State.{Answered}
+use Rattle.debug_modules.specs.BlockErrors.{is_assembled}
+use Rattle.debug_tables.specs.Script.{lines_answer}
+use Rattle.debug_tables.specs.State.{Answered}
 use Rattle.command_shell_lines.specs.Blocks.{block_lines, lines_after}
 use Rattle.command_shell_lines.specs.Requests.{Request, opens_block, request_of}
 use Rattle.debug_lines.specs.LineKinds.{takes_steps}

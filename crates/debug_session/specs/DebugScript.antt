@@ -7,12 +7,12 @@ use Rattle.debug_tables.specs.byte_writes.Put.{script_after_put}
 use Rattle.command_shell_lines.specs.debug_words.NamedBytes.{bytes_written, named_bytes, or_no_bytes}
 use Rattle.profile.specs.FaultNames.{fault_name}
 use Rattle.profile.specs.Fault.{Fault}
-use Rattle.debug_tables.specs.BlockErrorTexts.{text_with_errors}
-use Rattle.debug_tables.specs.BlockErrors.{block_errors}
-use Rattle.debug_tables.specs.run_meter.Answers.{refused_text, unknown_text}
-use Rattle.debug_tables.specs.run_meter.Memory.{script_at, script_started_anew, script_with_budget, script_with_status}
-use Rattle.debug_tables.specs.run_meter.Script.{request_answer}
-use Rattle.debug_tables.specs.run_meter.State.{Answered, ScriptState}
+use Rattle.debug_modules.specs.BlockErrorTexts.{text_with_errors}
+use Rattle.debug_modules.specs.BlockErrors.{block_errors}
+use Rattle.debug_tables.specs.Answers.{refused_text, unknown_text}
+use Rattle.debug_tables.specs.Memory.{script_at, script_started_anew, script_with_budget, script_with_status}
+use Rattle.debug_tables.specs.Script.{request_answer}
+use Rattle.debug_tables.specs.State.{Answered, ScriptState}
 use Rattle.command_shell_lines.specs.Blocks.{block_lines, lines_after, lines_taken}
 use Rattle.command_shell_lines.specs.Requests.{Request, Asm, Hex, request_of}
 use Rattle.debug_modules.specs.Checks.{Seen, check_answer, status_after_pattern}
@@ -20,7 +20,7 @@ use Rattle.debug_modules.specs.Halted.{halted_at_text, halting_fault}
 use Rattle.debug_modules.specs.DebugModesEndings.{ending_of, output_of}
 use Rattle.debug_modules.specs.Why.{why_below}
 use Rattle.debug_lines.specs.DebugRequests.{DebugRequest, Script, Stepping, Mode, Remark, SetPc, SetPsr, Put, Write, Forget, Counts, Reset, Quit, Expect, Repeat, NotKnown, debug_opens_block, debug_request, is_script_request, View}
-use Rattle.debug_tables.specs.run_meter.MachineState.{stop_of}
+use Rattle.debug_tables.specs.MachineState.{stop_of}
 use Rattle.debug_lines.specs.ModeRequests.{ModeRequest}
 use Rattle.debug_lines.specs.SteppingRequests.{SteppingRequest, stepping_in}
 use Rattle.debug_modules.specs.Changes.{ModeAnswer, mode_answer}

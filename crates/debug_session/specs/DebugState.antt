@@ -2,9 +2,9 @@
 use Rattle.std.specs.Prelude.{◌≡◌, ℕ, Bool, false, List, [], ◌++◌, Option}
 use Rattle.std.specs.Io.KnownBytes.{Appends}
 use Rattle.profile.specs.images.Entries.{Entry}
-use Rattle.debug_tables.specs.run_meter.State.{ScriptState, script_start_state}
-use Rattle.debug_tables.specs.run_meter.RunError.{RunError}
-use Rattle.debug_tables.specs.run_meter.RunError.TheVariants.{Memory, ReadFault, WriteFault, ScriptTooLong}
+use Rattle.debug_tables.specs.State.{ScriptState, script_start_state}
+use Rattle.debug_tables.specs.RunError.{RunError}
+use Rattle.debug_tables.specs.RunError.TheVariants.{Memory, ReadFault, WriteFault, ScriptTooLong}
 use Rattle.debug_modules.specs.Past.{PastState, past_from_start}
 use Rattle.debug_modules.specs.Labels.{ImageLabels}
 use Rattle.command_shell_lines.specs.FailedBlocks.{FailedBlockPlace}

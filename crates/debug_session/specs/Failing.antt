@@ -1,8 +1,8 @@
 -- What a call that answers leaves where it fails: why it may, and what stands written then.
 use Rattle.std.specs.Prelude.{◌≡◌, Bool, true, false, Result, Err, IfErr, OnOk}
-use Rattle.debug_tables.specs.run_meter.Error.{IsLineError}
-use Rattle.debug_tables.specs.run_meter.RunError.{RunError}
-use Rattle.debug_tables.specs.run_meter.RunError.TheVariants.{Memory, ReadFault, WriteFault}
+use Rattle.debug_tables.specs.Error.{IsLineError}
+use Rattle.debug_tables.specs.RunError.{RunError}
+use Rattle.debug_tables.specs.RunError.TheVariants.{Memory, ReadFault, WriteFault}
 
 -- How a call ends that has its whole answer before it writes any of it. Where memory ran out, the writer
 -- is as it was; where the writer failed, its flag is up; else the flag is as it was.

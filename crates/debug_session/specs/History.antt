@@ -1,7 +1,7 @@
 -- The past of a debugging session is that of its machine, line by line; and what is kept of it changes no
 -- answer but that of lines which go back or look into it.
 use Rattle.std.specs.Prelude.{◌≡◌, ℕ, true, List, None}
-use Rattle.debug_tables.specs.run_meter.State.{ScriptState}
+use Rattle.debug_tables.specs.State.{ScriptState}
 use Rattle.debug_modules.specs.DebugHistoryAnswers.{past_command}
 use Rattle.debug_modules.specs.DebugHistoryLaws.{IsPastOf}
 use Rattle.debug_modules.specs.DebugHistoryLines.{last_steps_asked}

@@ -2,8 +2,8 @@
 -- is done again on another one, and of the last steps there is what TRACE RUN, CALL and LOAD show of them.
 use Rattle.std.specs.Prelude.{ℕ, ◌-◌, ◌++◌, is_some, List, [], ◌∷◌, codes, Option, Some, None, if◌then◌else◌}
 use Rattle.profile.specs.declared.stop.Stop.TheVariants.{Budget}
-use Rattle.debug_tables.specs.run_meter.Answers.{refused_text}
-use Rattle.debug_tables.specs.run_meter.State.{ScriptState, script_start_state}
+use Rattle.debug_tables.specs.Answers.{refused_text}
+use Rattle.debug_tables.specs.State.{ScriptState, script_start_state}
 use Rattle.debug_modules.specs.Labels.{ImageLabels}
 use Rattle.command_shell_lines.specs.declared.debug_words.stubs.Stub.{Stub}
 use Rattle.debug_lines.specs.SteppingRequests.{SteppingRequest}

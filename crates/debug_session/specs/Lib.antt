@@ -25,9 +25,9 @@ pub use Rattle.debug_tables.specs.Stepping
 pub use Rattle.debug_tables.specs.Stubs
 pub use Rattle.debug_tables.specs.Writes
 pub use Rattle.debug_tables.specs.byte_writes.Put
-pub use Rattle.debug_tables.specs.run_meter.Error
-pub use Rattle.debug_tables.specs.run_meter.Meters
-pub use Rattle.debug_tables.specs.run_meter.RunError
+pub use Rattle.debug_tables.specs.Error
+pub use Rattle.debug_modules.specs.Meters
+pub use Rattle.debug_tables.specs.RunError
 pub mod AsBefore
 pub mod DebugScript
 pub mod DebugState

@@ -1,7 +1,7 @@
 -- What a line that is none of the language is answered: what a script answers, and behind it the reason.
 use Rattle.std.specs.Prelude.{◌≡◌, ℕ, List, ◌++◌, codes}
 use Rattle.std.specs.Fmt.{decimal}
-use Rattle.debug_tables.specs.run_meter.Answers.{unknown_text}
+use Rattle.debug_tables.specs.Answers.{unknown_text}
 
 -- an answer, and what stands behind it
 pub record GoesOnBehind (answer reported : List ℕ) : Type 0 where

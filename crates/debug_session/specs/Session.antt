@@ -1,7 +1,7 @@
 -- The state of a debugging script, as the code holds it: the session and the images.
 use Rattle.std.specs.Prelude.{List}
 use Rattle.profile.specs.images.Entries.{Entry}
-use Rattle.debug_tables.specs.run_meter.Session.{script_state}
+use Rattle.debug_tables.specs.Session.{script_state}
 use Rattle.debug_session.specs.DebugState.{DebugState}
 use Rattle.debug_session.specs.declared.session.DebugSession.{DebugSession}
 

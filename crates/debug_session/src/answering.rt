@@ -1,7 +1,7 @@
 //! One line of a debugging script, answered.
 
 ghost use Rattle.std.specs.Prelude.{◌≡◌, ◌+◌, true, false, List, Some, Err, option_map, IfErr, IfOk, IfNone, IfSome, OnOk};
-ghost use Rattle.debug_tables.specs.run_meter.Error.{IsLineError};
+ghost use Rattle.debug_tables.specs.Error.{IsLineError};
 ghost use Rattle.debug_session.specs.Failing.{EndsAtOnce, ReportsWriteFault};
 ghost use Rattle.profile.specs.Output.{AddsFront};
 ghost use Rattle.command_shell_lines.specs.Blocks.{block_lines, lines_after, lines_taken};
@@ -15,7 +15,7 @@ use debug_lines::{
 };
 use debug_modules::{form_line, line_on, view_text};
 use debug_tables::byte_writes::find_text;
-use debug_tables::run_meter::RunError;
+use debug_tables::RunError;
 use profile::Sink;
 use profile::images::Images;
 use profile::text_lines::Lines;

@@ -17,11 +17,10 @@ mod stepping_lines;
 
 pub use command_shell_lines::KeptText;
 pub use debug_modules::{
-    CheckTally, PastDeed, PastFound, ReportForm, Sought, begins_ending, is_faulted,
+    CheckTally, PastDeed, PastFound, ReportForm, RunMeter, Sought, begins_ending, is_faulted,
     push_missing_end,
 };
 pub use debug_tables::byte_writes::put_bytes;
 pub use debug_tables::routines::enter;
-pub use debug_tables::run_meter::{RunError, RunMeter};
-pub use debug_tables::{OutsideCall, Session, StubDeed, print_stop};
+pub use debug_tables::{OutsideCall, RunError, Session, StubDeed, print_stop};
 pub use session::{DebugSession, DebugSettings};

@@ -2,12 +2,12 @@
 //! tally; and how it reads and answers a line.
 
 ghost use Rattle.std.specs.Prelude.{◌≡◌, List, IfOk};
-ghost use Rattle.debug_tables.specs.run_meter.GuestState.{state_of};
+ghost use Rattle.debug_tables.specs.GuestState.{state_of};
 
 use crate::session::DebugSession;
 use debug_lines::is_known_line;
 use debug_modules::CheckTally;
-use debug_tables::run_meter::Machine;
+use debug_tables::Machine;
 use std::alloc::{AllocError, Global};
 
 impl DebugSession {

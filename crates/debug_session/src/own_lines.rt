@@ -13,7 +13,7 @@ use debug_modules::{
     push_pass, put_text, refused_line, status_with, text_of,
 };
 use debug_tables::byte_writes::put_bytes;
-use debug_tables::run_meter::RunError;
+use debug_tables::RunError;
 use profile::Sink;
 use profile::images::Images;
 use profile::text_sink::TextSink;
@@ -23,13 +23,13 @@ impl DebugSession {
     ghost use Rattle.profile.specs.images.Entries.{Entry};
     ghost use Rattle.debug_modules.specs.Past.{past_from_start};
     ghost use Rattle.debug_modules.specs.PastDeed.TheVariants.{Place};
-    ghost use Rattle.debug_tables.specs.run_meter.Memory.{script_at, script_started_anew};
+    ghost use Rattle.debug_tables.specs.Memory.{script_at, script_started_anew};
     ghost use Rattle.debug_modules.specs.Checks.{check_answer};
     ghost use Rattle.debug_lines.specs.Expectations.{expect_request_of};
     ghost use Rattle.debug_session.specs.DebugScript.{bytes_answer, checked_answer, forget_answer, machine_change_answer, put_answer, reset_answer, seen_of, set_pc_answer, set_psr_answer, view_answer, write_answer};
     ghost use Rattle.debug_session.specs.DebugState.{IsDebugged};
     ghost use Rattle.debug_session.specs.Session.{debug_state};
-    ghost use Rattle.debug_tables.specs.run_meter.MachineState.{stop_of};
+    ghost use Rattle.debug_tables.specs.MachineState.{stop_of};
 
     /// Takes the image of that name out, its labels, and the text of its block.
     pub(crate) fn forget<W: Sink>(

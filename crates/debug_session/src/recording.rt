@@ -14,7 +14,7 @@ impl DebugSession {
     ghost use Rattle.debug_lines.specs.Repeats.{count_and_line};
     ghost use Rattle.debug_session.specs.Naming.{naming_of, repeated_now};
     ghost use Rattle.debug_session.specs.Session.{debug_state};
-    ghost use Rattle.debug_tables.specs.run_meter.Session.{script_state};
+    ghost use Rattle.debug_tables.specs.Session.{script_state};
     ghost use Rattle.profile.specs.images.Entries.{Entry};
 
     /// Where the image of a name stands now, of those that were assembled.

@@ -9,7 +9,7 @@ use debug_modules::{
     ModuleAnswer, PastSetting, answer_module_line, last_steps_asked, line_on, names_on,
     refusal_line, unknown_line,
 };
-use debug_tables::run_meter::RunError;
+use debug_tables::RunError;
 use profile::Sink;
 use profile::images::Images;
 use profile::text_sink::TextSink;

@@ -4,7 +4,7 @@
 ghost use Rattle.std.specs.Prelude.{◌≡◌, ◌+◌, ◌-◌, true, List, Some, [], IfOk, IfErr, OnOk, if◌then◌else◌};
 ghost use Rattle.debug_session.specs.Failing.{EndsAtOnce};
 ghost use Rattle.debug_session.specs.Noting.{state_noted};
-ghost use Rattle.debug_tables.specs.run_meter.Script.{request_answer};
+ghost use Rattle.debug_tables.specs.Script.{request_answer};
 ghost use Rattle.command_shell_lines.specs.Blocks.{block_lines, lines_after, lines_taken};
 ghost use Rattle.debug_modules.specs.DebugModesEndings.{ending_of, output_of};
 ghost use Rattle.command_shell_lines.specs.Requests.{opens_block, request_of_command};
@@ -16,10 +16,10 @@ use crate::session::DebugSession;
 use command_shell_lines::{Origin, ScriptCommand, skip_block};
 use debug_lines::{asks_nothing, is_named_image, is_refused_block, takes_steps};
 use debug_modules::{
-    LabelTable, answer_parts, is_faulted, keep_source, push_line_answer, push_refusal,
+    LabelTable, answer_metered, answer_parts, is_faulted, keep_source, push_line_answer,
+    push_refusal, with_errors,
 };
-use debug_tables::run_meter::{RunError, answer_metered};
-use debug_tables::{labels_of_lines, with_errors};
+use debug_tables::{RunError, labels_of_lines};
 use profile::Sink;
 use profile::images::Images;
 use profile::text_lines::Lines;
@@ -28,9 +28,9 @@ use std::alloc::{AllocError, Global};
 use std::mem::replace;
 
 impl DebugSession {
-    ghost use Rattle.debug_tables.specs.run_meter.Memory.{script_with_budget};
-    ghost use Rattle.debug_tables.specs.run_meter.Session.{script_state};
-    ghost use Rattle.debug_tables.specs.run_meter.State.{IsAnswered};
+    ghost use Rattle.debug_tables.specs.Memory.{script_with_budget};
+    ghost use Rattle.debug_tables.specs.Session.{script_state};
+    ghost use Rattle.debug_tables.specs.State.{IsAnswered};
     ghost use Rattle.profile.specs.images.Entries.{Entry};
     ghost use Rattle.debug_session.specs.DebugScript.{plain_line_answer, answer_or_refused};
     ghost use Rattle.debug_session.specs.DebugState.{IsDebugged};

@@ -1,12 +1,14 @@
 //! What a debugging script works on, and how its lines are answered, one after another.
 
 ghost use Rattle.std.specs.Prelude.{◌≡◌, ◌+◌, false, List, [], Err, IfOk, IfErr, OnOk, length};
-ghost use Rattle.debug_tables.specs.run_meter.Error.{IsLineError};
+ghost use Rattle.debug_tables.specs.Error.{IsLineError};
 ghost use Rattle.profile.specs.Output.{AddsFront, Writes};
 
 use command_shell_lines::FailedBlocks;
-use debug_modules::{CheckTally, DebugModes, LabelTable, Past, ReportForm, push_summary};
-use debug_tables::run_meter::{RunError, RunMeter, Session};
+use debug_modules::{
+    CheckTally, DebugModes, LabelTable, Past, ReportForm, RunMeter, push_summary,
+};
+use debug_tables::{RunError, Session};
 use profile::images::Images;
 use profile::stop::stop_status;
 use profile::text_lines::Lines;
@@ -73,7 +75,7 @@ impl Drop for DebugSession {
 }
 
 impl DebugSession {
-    ghost use Rattle.debug_tables.specs.run_meter.Memory.{script_with_budget};
+    ghost use Rattle.debug_tables.specs.Memory.{script_with_budget};
     ghost use Rattle.profile.specs.images.Entries.{Entry};
     ghost use Rattle.debug_session.specs.DebugScript.{debug_lines_answer};
     ghost use Rattle.debug_session.specs.DebugState.{IsDebugged, debug_start_state};

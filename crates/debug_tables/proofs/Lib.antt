@@ -2,10 +2,10 @@ pub use Rattle.command_shell.proofs.AnswerLemmas
 pub use Rattle.command_shell.proofs.CallLemmas
 pub use Rattle.command_shell.proofs.FrontLemmas
 pub use Rattle.command_shell.proofs.ImageLemmas
+pub use Rattle.command_shell.proofs.Runs
+pub use Rattle.command_shell.proofs.ScriptLemmas
 pub mod AheadLemmas
-pub mod BlockErrorLemmas
 pub mod StubLemmas
 pub mod FlowLemmas
 pub mod CountsLemmas
 pub mod ByteWritesLemmas
-pub mod RunMeterLemmas

@@ -1,8 +1,11 @@
 -- What a debugger keeps beside the machine while steps are taken. Begin with Stubs and WordWatches.
 pub use Rattle.command_shell.specs.Answers
 pub use Rattle.command_shell.specs.AsmError
+pub use Rattle.command_shell.specs.Boot
+pub use Rattle.command_shell.specs.BootError
 pub use Rattle.command_shell.specs.Calls
 pub use Rattle.command_shell.specs.Error
+pub use Rattle.command_shell.specs.Fronts
 pub use Rattle.command_shell.specs.GuestState
 pub use Rattle.command_shell.specs.Halt
 pub use Rattle.command_shell.specs.Images
@@ -16,6 +19,7 @@ pub use Rattle.command_shell.specs.State
 pub use Rattle.command_shell.specs.Step
 pub use Rattle.command_shell.specs.Stepping
 pub use Rattle.command_shell.specs.Store
+pub use Rattle.command_shell.specs.Value
 pub use Rattle.command_shell.specs.Views
 pub use Rattle.command_shell.specs.WordWatches
 pub use Rattle.command_shell.specs.Writes
@@ -24,8 +28,6 @@ pub use Rattle.command_shell.specs.declared.calls.OutsideCall
 pub use Rattle.command_shell.specs.declared.error.RunError
 pub use Rattle.command_shell.specs.declared.watches.WatchHit
 pub use Rattle.command_shell.specs.declared.watches.WordWatchError
-pub mod BlockErrors
-pub mod BlockErrorTexts
 pub mod Modes
 pub mod Routines
 pub mod StubNames
@@ -33,4 +35,3 @@ pub mod Stubs
 pub mod WordFlows
 pub mod counts
 pub mod byte_writes
-pub mod run_meter

@@ -5,8 +5,7 @@ ghost use Rattle.rosm_c.specs.Answers.{ShowsRecordsUnlessNone};
 
 use crate::answers::{NOT_RUN, put, refuse};
 use debug_modes::expectations::reports::ReportForm;
-use debug_records::{DebugSettings, record_script};
-use debug_tables::run_meter::RunMeter;
+use debug_records::{DebugSettings, RunMeter, record_script};
 use profile::Config;
 use profile::images::Images;
 use profile::memory_map::MOST_BYTES;

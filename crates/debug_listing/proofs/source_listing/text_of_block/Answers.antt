@@ -1,6 +1,6 @@
 -- The lemmas of the lines of a block, at each way out and at the next line.
 use Rattle.std.proofs.Common.{[], arith, refl}
-use Rattle.debug_tables.proofs.BlockErrorLemmas.{source_ends, source_goes_on, source_stops}
+use Rattle.debug_listing.proofs.BlockErrorLemmas.{source_ends, source_goes_on, source_stops}
 use Rattle.debug_listing.proofs.source_listing.text_of_block.Goals as goal
 
 pub returns-then-is_block_end : goal.returns-then-is_block_end

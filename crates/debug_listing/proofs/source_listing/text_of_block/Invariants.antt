@@ -1,6 +1,6 @@
 use Rattle.std.proofs.Common.{◌≡◌, ◌+◌, ◌-◌, ◌≤◌, [], ◌++◌, length}
 use Rattle.command_shell_lines.specs.Blocks.{block_lines}
-use Rattle.debug_tables.specs.BlockErrors.{source_without}
+use Rattle.debug_listing.specs.BlockErrors.{source_without}
 use Rattle.debug_listing.proofs.source_listing.text_of_block.Given as goal
 
 -- what stands written, and the lines that are left, is all

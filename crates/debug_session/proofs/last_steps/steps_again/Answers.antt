@@ -4,7 +4,7 @@ use Rattle.std.specs.Prelude.{OnOk}
 use Rattle.command_shell_lines.specs.declared.debug_words.stubs.Stub.{Stub}
 use Rattle.debug_modules.specs.Acts.{moment_after_steps, moment_of_script}
 use Rattle.debug_modules.specs.Again.{IsAtMoment}
-use Rattle.debug_tables.specs.run_meter.Session.{script_state}
+use Rattle.debug_tables.specs.Session.{script_state}
 use Rattle.debug_session.proofs.last_steps.steps_again.Goals as goal
 
 pub returns-clause-moment : goal.returns-clause-moment

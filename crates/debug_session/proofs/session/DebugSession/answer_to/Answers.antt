@@ -1,6 +1,6 @@
 use Rattle.std.proofs.Common.{refl}
-use Rattle.debug_tables.specs.run_meter.Memory.{script_with_budget}
-use Rattle.debug_tables.specs.run_meter.Session.{script_state}
+use Rattle.debug_tables.specs.Memory.{script_with_budget}
+use Rattle.debug_tables.specs.Session.{script_state}
 use Rattle.command_shell_lines.specs.Blocks.{block_lines}
 use Rattle.command_shell_lines.specs.Requests.{request_of_command}
 use Rattle.debug_session.proofs.OwnLemmas.{gathered}

@@ -4,8 +4,8 @@ use Rattle.profile.specs.images.Entries.{Entry}
 use Rattle.debug_modules.specs.Noted.{past_with_deed}
 use Rattle.debug_modules.specs.Past.{past_from_start}
 use Rattle.debug_modules.specs.PastDeed.TheVariants.{Anew}
-use Rattle.debug_tables.specs.run_meter.Memory.{script_started_anew}
-use Rattle.debug_tables.specs.run_meter.Session.{script_state}
+use Rattle.debug_tables.specs.Memory.{script_started_anew}
+use Rattle.debug_tables.specs.Session.{script_state}
 use Rattle.debug_session.specs.DebugScript.{past_after_reset}
 use Rattle.debug_session.specs.Session.{debug_state}
 use Rattle.debug_session.proofs.FailLemmas.{and_so}

@@ -7,7 +7,7 @@ use Rattle.debug_session.specs.Session.{debug_state}
 use Rattle.debug_session.specs.declared.session.DebugSession.{DebugSession}
 use Rattle.debug_session.proofs.OwnLemmas.{mapped_some, view_after, without_image}
 use Rattle.debug_session.proofs.EndLemmas.{ends_unwritten}
-use Rattle.debug_tables.specs.run_meter.RunError.TheVariants.{Memory}
+use Rattle.debug_tables.specs.RunError.TheVariants.{Memory}
 use Rattle.debug_session.proofs.session.DebugSession.forget.Goals as goal
 
 pub returns-clause-reported : goal.returns-clause-reported

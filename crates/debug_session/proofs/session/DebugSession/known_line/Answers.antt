@@ -10,12 +10,12 @@ use Rattle.debug_modules.specs.Counting.{counts_text}
 use Rattle.debug_modules.specs.Places.{naming_on}
 use Rattle.debug_modules.specs.ViewTexts.{view_text}
 use Rattle.debug_tables.specs.byte_writes.Find.{find_text}
-use Rattle.debug_tables.specs.run_meter.GuestState.{state_of}
-use Rattle.debug_tables.specs.run_meter.Value.{MachineValue}
+use Rattle.debug_tables.specs.GuestState.{state_of}
+use Rattle.debug_tables.specs.Value.{MachineValue}
 use Rattle.debug_lines.specs.SteppingRequests.{stepping_request_of}
 use Rattle.debug_modules.specs.PastDeed.TheVariants.{Status}
 use Rattle.debug_modules.specs.Checks.{status_after_pattern}
-use Rattle.debug_tables.specs.run_meter.Memory.{script_with_status}
+use Rattle.debug_tables.specs.Memory.{script_with_status}
 use Rattle.debug_session.specs.DebugScript.{past_line_answer, put_answer, reset_answer, set_pc_answer, set_psr_answer, stepping_line_answer, view_answer, write_answer}
 use Rattle.debug_session.specs.DebugState.{IsDebugged}
 use Rattle.debug_session.specs.Session.{debug_state}

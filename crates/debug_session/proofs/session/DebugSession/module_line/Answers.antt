@@ -6,7 +6,7 @@ use Rattle.debug_modules.specs.declared.answering.ModuleAnswer.{ModuleAnswer}
 use Rattle.debug_session.specs.DebugState.{DebugAnswered, IsDebugged}
 use Rattle.debug_session.specs.Session.{debug_state}
 use Rattle.debug_session.proofs.EndLemmas.{ends_unwritten}
-use Rattle.debug_tables.specs.run_meter.RunError.TheVariants.{Memory}
+use Rattle.debug_tables.specs.RunError.TheVariants.{Memory}
 use Rattle.debug_session.proofs.ModuleLineLemmas.{module_refused, module_stepped, module_viewed, modules_moved}
 use Rattle.debug_session.proofs.session.DebugSession.module_line.Goals as goal
 

@@ -4,11 +4,11 @@ use Rattle.std.specs.Option.{option_map}
 use Rattle.std.specs.Prelude.{OnOk}
 use Rattle.arm_core.specs.State.{State}
 use Rattle.debug_modules.specs.Halted.{halted_at_text, halting_fault}
-use Rattle.debug_tables.specs.run_meter.GuestState.{state_of}
-use Rattle.debug_tables.specs.run_meter.MachineState.{stop_of}
-use Rattle.debug_tables.specs.run_meter.Value.{MachineValue}
+use Rattle.debug_tables.specs.GuestState.{state_of}
+use Rattle.debug_tables.specs.MachineState.{stop_of}
+use Rattle.debug_tables.specs.Value.{MachineValue}
 use Rattle.profile.specs.Fault.{Fault}
-use Rattle.debug_tables.specs.run_meter.Memory.{script_at}
+use Rattle.debug_tables.specs.Memory.{script_at}
 use Rattle.debug_modules.specs.PastDeed.TheVariants.{Place}
 use Rattle.debug_session.specs.DebugScript.{set_pc_by}
 use Rattle.debug_session.specs.DebugState.{IsDebugged}

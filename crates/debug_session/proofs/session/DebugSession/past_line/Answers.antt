@@ -8,7 +8,7 @@ use Rattle.debug_session.specs.DebugScript.{past_line_or_steps}
 use Rattle.debug_session.specs.DebugState.{DebugAnswered, IsDebugged}
 use Rattle.debug_session.specs.Session.{debug_state}
 use Rattle.debug_session.proofs.EndLemmas.{ends_unwritten}
-use Rattle.debug_tables.specs.run_meter.RunError.TheVariants.{Memory}
+use Rattle.debug_tables.specs.RunError.TheVariants.{Memory}
 use Rattle.debug_session.proofs.PastLineLemmas.{past_moved, past_refused, past_shown, steps_not_asked, steps_viewed}
 use Rattle.debug_session.proofs.session.DebugSession.past_line.Goals as goal
 

@@ -1,10 +1,10 @@
 -- By whether the line asks for anything, and whether its block is refused.
 use Rattle.std.proofs.Common.{◌∙◌, ap, false, refl, sym, true}
 use Rattle.profile.specs.text_lines.Lines.{ReadingPlace}
-use Rattle.debug_tables.specs.BlockErrorTexts.{text_with_errors}
-use Rattle.debug_tables.specs.run_meter.Memory.{script_with_budget}
-use Rattle.debug_tables.specs.run_meter.Script.{request_answer}
-use Rattle.debug_tables.specs.run_meter.State.{ScriptState}
+use Rattle.debug_modules.specs.BlockErrorTexts.{text_with_errors}
+use Rattle.debug_tables.specs.Memory.{script_with_budget}
+use Rattle.debug_tables.specs.Script.{request_answer}
+use Rattle.debug_tables.specs.State.{ScriptState}
 use Rattle.command_shell_lines.specs.Blocks.{block_lines}
 use Rattle.command_shell_lines.specs.Requests.{request_of_command}
 use Rattle.debug_session.specs.DebugScript.{answer_or_refused}
@@ -16,7 +16,7 @@ use Rattle.debug_session.proofs.OwnLemmas.{answer_with, line_answer, no_answer, 
 use Rattle.debug_session.proofs.NotingLemmas.{noted_as_answer}
 use Rattle.debug_session.specs.declared.session.DebugSession.{DebugSession}
 use Rattle.debug_session.proofs.EndLemmas.{ends_failed, ends_unwritten, ends_written}
-use Rattle.debug_tables.specs.run_meter.RunError.TheVariants.{Memory}
+use Rattle.debug_tables.specs.RunError.TheVariants.{Memory}
 use Rattle.debug_session.proofs.session.DebugSession.plain_line.Goals as goal
 
 pub returns-then-asks_nothing-clause-reported : goal.returns-then-asks_nothing-clause-reported

@@ -10,7 +10,7 @@ use Rattle.debug_session.specs.DebugState.{DebugState, IsDebugged}
 use Rattle.debug_session.specs.Session.{debug_state}
 use Rattle.debug_session.specs.declared.session.DebugSettings.{DebugSettings}
 use Rattle.debug_session.proofs.EndLemmas.{ends_failed, ends_unwritten, ends_written}
-use Rattle.debug_tables.specs.run_meter.RunError.TheVariants.{Memory}
+use Rattle.debug_tables.specs.RunError.TheVariants.{Memory}
 use Rattle.debug_session.proofs.session.DebugSession.print_check.Goals as goal
 
 passed : (before after : Option (List ℕ)) (c : DebugSettings) (d : DebugState) (number : ℕ) (words : List ℕ) (tally : CheckTally)

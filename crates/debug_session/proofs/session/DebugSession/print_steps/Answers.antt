@@ -4,8 +4,8 @@ use Rattle.std.specs.Io.KnownBytes.{Appends}
 use Rattle.debug_session.specs.DebugState.{DebugState}
 use Rattle.debug_modules.specs.Why.{why_below}
 use Rattle.debug_modules.specs.Reports.{answer_in}
-use Rattle.debug_tables.specs.run_meter.GuestState.{state_of}
-use Rattle.debug_tables.specs.run_meter.Value.{MachineValue}
+use Rattle.debug_tables.specs.GuestState.{state_of}
+use Rattle.debug_tables.specs.Value.{MachineValue}
 use Rattle.debug_session.specs.Session.{debug_state}
 use Rattle.debug_session.proofs.EndLemmas.{ends_failed, ends_written}
 use Rattle.debug_session.proofs.SteppingLemmas.{written_both}

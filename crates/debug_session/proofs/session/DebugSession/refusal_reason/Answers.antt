@@ -8,8 +8,8 @@ use Rattle.debug_modules.specs.DebugLabelsLines.{line_with_numbers, unnumbered_w
 use Rattle.debug_modules.specs.Reasons.{form_text, reason_by_word}
 use Rattle.debug_modules.specs.Words.{Naming}
 use Rattle.debug_modules.specs.Places.{line_naming_on}
-use Rattle.debug_tables.specs.run_meter.Value.{MachineValue}
-use Rattle.debug_tables.specs.run_meter.GuestState.{state_of}
+use Rattle.debug_tables.specs.Value.{MachineValue}
+use Rattle.debug_tables.specs.GuestState.{state_of}
 use Rattle.debug_session.specs.Session.{debug_state}
 use Rattle.debug_session.proofs.session.DebugSession.refusal_reason.Goals as goal
 

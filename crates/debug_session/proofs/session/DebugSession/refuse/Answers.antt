@@ -1,6 +1,6 @@
 -- What is written is the reason, and what is kept is a script's answer.
 use Rattle.std.proofs.Common.{◌≡◌, ℕ, List, true, ap, refl, ◌∙◌}
-use Rattle.debug_tables.specs.run_meter.Answers.{unknown_text}
+use Rattle.debug_tables.specs.Answers.{unknown_text}
 use Rattle.debug_modules.specs.OwnAnswers.{reasoned_text}
 use Rattle.debug_modules.specs.Reasons.{refusal_reason}
 use Rattle.debug_session.specs.DebugScript.{answer_or_refused, unknown_answer}
@@ -10,7 +10,7 @@ use Rattle.debug_session.specs.Session.{debug_state}
 use Rattle.debug_session.specs.declared.session.DebugSettings.{DebugSettings}
 use Rattle.debug_session.proofs.OwnLemmas.{written_as}
 use Rattle.debug_session.proofs.EndLemmas.{ends_unwritten}
-use Rattle.debug_tables.specs.run_meter.RunError.TheVariants.{Memory}
+use Rattle.debug_tables.specs.RunError.TheVariants.{Memory}
 use Rattle.debug_session.proofs.session.DebugSession.refuse.Goals as goal
 
 refused_by : (c : DebugSettings) (d : DebugState) (number : ℕ) (line answer said : List ℕ) → answer ≡ unknown_text number

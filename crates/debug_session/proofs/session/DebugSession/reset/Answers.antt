@@ -2,7 +2,7 @@ use Rattle.std.proofs.Common.{◌∙◌, refl}
 use Rattle.debug_session.specs.Session.{debug_state}
 use Rattle.debug_session.proofs.OwnLemmas.{view_after}
 use Rattle.debug_session.proofs.EndLemmas.{ends_unwritten}
-use Rattle.debug_tables.specs.run_meter.RunError.TheVariants.{Memory}
+use Rattle.debug_tables.specs.RunError.TheVariants.{Memory}
 use Rattle.debug_session.proofs.session.DebugSession.reset.Goals as goal
 
 pub returns-clause-reported : goal.returns-clause-reported

@@ -3,7 +3,7 @@ use Rattle.command_shell_lines.specs.Blocks.{block_lines}
 use Rattle.command_shell_lines.specs.Requests.{request_of_command}
 use Rattle.debug_session.specs.Session.{debug_state}
 use Rattle.debug_session.proofs.EndLemmas.{ends_failed, ends_handed, ends_unwritten, ends_written}
-use Rattle.debug_tables.specs.run_meter.RunError.TheVariants.{Memory}
+use Rattle.debug_tables.specs.RunError.TheVariants.{Memory}
 use Rattle.debug_session.proofs.OwnLemmas.{line_below}
 use Rattle.debug_session.proofs.session.DebugSession.script_line.Goals as goal
 

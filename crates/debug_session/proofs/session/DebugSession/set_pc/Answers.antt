@@ -1,6 +1,6 @@
 use Rattle.std.proofs.Common.{◌∙◌, ap}
-use Rattle.debug_tables.specs.run_meter.Memory.{script_at}
-use Rattle.debug_tables.specs.run_meter.Session.{script_state}
+use Rattle.debug_tables.specs.Memory.{script_at}
+use Rattle.debug_tables.specs.Session.{script_state}
 use Rattle.debug_session.specs.Session.{debug_state}
 use Rattle.debug_session.proofs.OwnLemmas.{changed_script}
 use Rattle.debug_session.proofs.session.DebugSession.set_pc.Goals as goal

@@ -1,13 +1,13 @@
 use Rattle.std.proofs.Common.{◌∙◌, ap}
-use Rattle.debug_tables.specs.run_meter.Memory.{script_with_status}
-use Rattle.debug_tables.specs.run_meter.Session.{script_state}
+use Rattle.debug_tables.specs.Memory.{script_with_status}
+use Rattle.debug_tables.specs.Session.{script_state}
 use Rattle.debug_modules.specs.Checks.{status_after_pattern}
-use Rattle.debug_tables.specs.run_meter.Value.{MachineValue}
+use Rattle.debug_tables.specs.Value.{MachineValue}
 use Rattle.arm_core.specs.State.{State}
 use Rattle.arm_core.specs.declared.psr.Psr.{Psr}
 use Rattle.debug_modules.specs.Noted.{past_with_deed}
 use Rattle.debug_modules.specs.PastDeed.TheVariants.{Status}
-use Rattle.debug_tables.specs.run_meter.GuestState.{state_of}
+use Rattle.debug_tables.specs.GuestState.{state_of}
 use Rattle.debug_session.specs.Session.{debug_state}
 use Rattle.debug_session.proofs.OwnLemmas.{changed_script}
 use Rattle.debug_session.proofs.session.DebugSession.set_psr.Goals as goal

@@ -5,8 +5,8 @@ use Rattle.debug_modules.specs.Acts.{moment_of_script}
 use Rattle.debug_modules.specs.Noted.{is_faulted}
 use Rattle.debug_modules.specs.Act.{Act}
 use Rattle.debug_modules.proofs.AgainLemmas.{beside_at, beside_both, beside_itself, beside_same}
-use Rattle.debug_tables.specs.run_meter.Session.{script_state}
-use Rattle.debug_tables.specs.run_meter.State.{script_start_state}
+use Rattle.debug_tables.specs.Session.{script_state}
+use Rattle.debug_tables.specs.State.{script_start_state}
 use Rattle.debug_session.specs.Session.{debug_state}
 use Rattle.debug_session.proofs.ShownStepsLemmas.{byte_if, none_to_show, some_to_show, text_begins, text_behind, text_whole}
 use Rattle.debug_session.proofs.session.DebugSession.show_acts.Goals as goal

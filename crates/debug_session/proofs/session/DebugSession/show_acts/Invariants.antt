@@ -1,7 +1,7 @@
 use Rattle.std.proofs.Common.{◌≡◌, drop}
 use Rattle.debug_modules.specs.Acts.{moment_of_script}
-use Rattle.debug_tables.specs.run_meter.Session.{script_state}
-use Rattle.debug_tables.specs.run_meter.State.{script_start_state}
+use Rattle.debug_tables.specs.Session.{script_state}
+use Rattle.debug_tables.specs.State.{script_start_state}
 use Rattle.debug_modules.proofs.AgainLemmas.{IsBeside}
 use Rattle.debug_session.specs.LastSteps.{last_steps_text, text_of_acts}
 use Rattle.debug_session.specs.Session.{debug_state}

@@ -8,9 +8,9 @@ use Rattle.debug_modules.specs.Again.{IsAtMoment}
 use Rattle.command_shell_lines.specs.declared.debug_words.stubs.Stub.{Stub}
 use Rattle.debug_lines.specs.SteppingRequests.{stepping_request_of}
 use Rattle.debug_tables.specs.declared.modes.StepModes.{StepModes}
-use Rattle.debug_tables.specs.run_meter.MachineState.{stop_of}
-use Rattle.debug_tables.specs.run_meter.Session.{script_state}
-use Rattle.debug_tables.specs.run_meter.Value.{MachineValue}
+use Rattle.debug_tables.specs.MachineState.{stop_of}
+use Rattle.debug_tables.specs.Session.{script_state}
+use Rattle.debug_tables.specs.Value.{MachineValue}
 use Rattle.profile.specs.declared.stop.Stop.{Stop}
 use Rattle.debug_session.specs.LastSteps.{modes_with_stubs, steps_shown_behind, text_with_deed}
 use Rattle.debug_session.proofs.FailLemmas.{and_so}

@@ -5,8 +5,8 @@ use Rattle.debug_modules.specs.Acts.{moment_after_steps, moment_of_script}
 use Rattle.debug_modules.specs.Again.{IsAtMoment}
 use Rattle.debug_lines.specs.SteppingRequests.{stepping_request_of}
 use Rattle.debug_modules.specs.Lines.{stepping_answer}
-use Rattle.debug_tables.specs.run_meter.Session.{script_state}
-use Rattle.debug_tables.specs.run_meter.State.{ScriptState}
+use Rattle.debug_tables.specs.Session.{script_state}
+use Rattle.debug_tables.specs.State.{ScriptState}
 use Rattle.debug_modules.proofs.EnteringLemmas.{anyhow}
 use Rattle.debug_session.proofs.LastStepsLemmas.{traced_at}
 use Rattle.debug_session.proofs.session.DebugSession.show_steps.Goals as goal

@@ -10,7 +10,7 @@ use Rattle.debug_session.specs.Session.{debug_state}
 use Rattle.debug_session.proofs.NamingLemmas.{meant_known, meant_nothing, meant_numbered, repeatable_alone, unknown_alone}
 use Rattle.debug_session.proofs.OwnLemmas.{asked_if}
 use Rattle.debug_session.proofs.EndLemmas.{ends_unwritten}
-use Rattle.debug_tables.specs.run_meter.RunError.TheVariants.{Memory}
+use Rattle.debug_tables.specs.RunError.TheVariants.{Memory}
 use Rattle.debug_session.proofs.session.DebugSession.simple_line.Goals as goal
 
 pub returns-then-is_known-clause-reported : goal.returns-then-is_known-clause-reported

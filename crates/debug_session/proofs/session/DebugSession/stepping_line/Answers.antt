@@ -1,10 +1,10 @@
 use Rattle.std.proofs.Common.{◌∙◌, ap, refl}
-use Rattle.debug_tables.specs.run_meter.State.{ScriptState}
+use Rattle.debug_tables.specs.State.{ScriptState}
 use Rattle.debug_lines.specs.SteppingRequests.{stepping_request_of}
 use Rattle.debug_modules.specs.Taking.{line_steps}
 use Rattle.debug_session.specs.Session.{debug_state}
 use Rattle.debug_session.proofs.EndLemmas.{ends_unwritten}
-use Rattle.debug_tables.specs.run_meter.RunError.TheVariants.{Memory}
+use Rattle.debug_tables.specs.RunError.TheVariants.{Memory}
 use Rattle.debug_session.proofs.SteppingLemmas.{answer_of_steps}
 use Rattle.debug_session.proofs.session.DebugSession.stepping_line.Goals as goal
 

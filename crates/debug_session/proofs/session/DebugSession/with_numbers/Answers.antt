@@ -2,8 +2,8 @@ use Rattle.std.proofs.Common.{ℕ, List, ap, ◌∙◌, ◌++◌}
 use Rattle.command_shell_lines.specs.debug_words.Texts.{before_quote}
 use Rattle.debug_modules.specs.DebugLabelsLines.{line_with_numbers}
 use Rattle.debug_modules.specs.Places.{line_naming_on}
-use Rattle.debug_tables.specs.run_meter.GuestState.{state_of}
-use Rattle.debug_tables.specs.run_meter.Value.{MachineValue}
+use Rattle.debug_tables.specs.GuestState.{state_of}
+use Rattle.debug_tables.specs.Value.{MachineValue}
 use Rattle.debug_session.specs.Naming.{naming_of}
 use Rattle.debug_session.specs.Session.{debug_state}
 use Rattle.debug_session.proofs.session.DebugSession.with_numbers.Goals as goal

@@ -4,7 +4,7 @@ use Rattle.debug_session.specs.DebugScript.{bytes_answer}
 use Rattle.debug_session.specs.Session.{debug_state}
 use Rattle.debug_session.proofs.OwnLemmas.{viewed}
 use Rattle.debug_session.proofs.EndLemmas.{ends_unwritten}
-use Rattle.debug_tables.specs.run_meter.RunError.TheVariants.{Memory}
+use Rattle.debug_tables.specs.RunError.TheVariants.{Memory}
 use Rattle.debug_session.proofs.session.DebugSession.write.Goals as goal
 
 pub returns-clause-reported : goal.returns-clause-reported

@@ -4,8 +4,8 @@ use Rattle.std.proofs.lemmas.Result.{IfOk-weaker}
 use Rattle.debug_modules.specs.Noted.{past_with_deed}
 use Rattle.debug_modules.specs.PastDeed.TheVariants.{Bytes}
 use Rattle.debug_tables.specs.byte_writes.Put.{script_after_put}
-use Rattle.debug_tables.specs.run_meter.Answers.{refused_text}
-use Rattle.debug_tables.specs.run_meter.Session.{script_state}
+use Rattle.debug_tables.specs.Answers.{refused_text}
+use Rattle.debug_tables.specs.Session.{script_state}
 use Rattle.debug_session.specs.DebugScript.{bytes_answer, view_answer}
 use Rattle.debug_session.specs.Session.{debug_state}
 use Rattle.debug_session.specs.declared.session.DebugSession.{DebugSession}

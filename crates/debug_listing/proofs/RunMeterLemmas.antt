@@ -1,0 +1,2 @@
+-- A run in slices is one run.
+pub mod SliceLemmas

@@ -1,0 +1,2 @@
+-- The meter of a long run.
+pub mod Meters
