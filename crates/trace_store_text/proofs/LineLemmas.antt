@@ -1,6 +1,7 @@
 -- What is kept of some changes shows the lines of all.
-use Rattle.std.proofs.Common.{◌≡◌, ℕ, Bool, List, [], ◌++◌, refl, sym, ap, ◌∙◌}
+use Rattle.std.proofs.Common.{◌≡◌, ℕ, Bool, true, false, List, [], ◌++◌, refl, sym, ap, ◌∙◌, if◌then◌else◌}
 use Rattle.std.proofs.lemmas.List.{append-nil}
+use Rattle.std.specs.List.{list_any}
 use Rattle.address_map.specs.Bytes.{Bytes}
 use Rattle.store_copies.specs.Store.{Store}
 use Rattle.store_copies.specs.declared.changes.WordChange.{WordChange}
@@ -9,6 +10,9 @@ use Rattle.store_copies.specs.Words.{IsSummary, all_changes, is_shown_elsewhere}
 use Rattle.trace_store_text.specs.items.Changes.{IsItemSummary}
 use Rattle.trace_store_text.specs.declared.items.changes.ItemChange.{ItemChange}
 use Rattle.trace_store_text.specs.declared.items.changes.ItemChanges.{ItemChanges}
+use Rattle.trace_store_text.specs.declared.modules.marks.InstanceMark.{InstanceMark}
+use Rattle.trace_store_text.specs.modules.Changes.{is_same_instance}
+use Rattle.trace_store_text.specs.ModuleLines.{gone_instance_line, gone_instance_lines}
 use Rattle.trace_store_text.specs.ItemLines.{item_lines, item_summary_lines}
 use Rattle.trace_store_text.specs.StoreLines.{changed_word_lines}
 use Rattle.trace_store_text.specs.WordLines.{summary_lines, word_lines}
@@ -34,6 +38,17 @@ item_lines_kept heap kept all is =
     let first = is.first in
     let count = is.count in
     rw (first, count) refl
+
+-- a line that is written where something is so, and one that is written where it isn't
+pub shown_if : (is : Bool) (line : List ℕ) → is ≡ true → line ≡ (if is then line else [])
+shown_if is line so = rw so refl
+
+pub shown_unless : (is : Bool) (line : List ℕ) → is ≡ false → line ≡ (if is then [] else line)
+shown_unless is line so = rw so refl
+
+pub gone_lines : (after : List InstanceMark) (x : InstanceMark) → list_any (is_same_instance x) after ≡ false
+    → gone_instance_line x x.at ≡ gone_instance_lines after x
+gone_lines after x none = rw none (sym (append-nil (gone_instance_line x x.at)))
 
 -- parts that were written one after another
 pub three_parts : (a b c x y z : List ℕ) → a ≡ x → b ≡ y → c ≡ z → a ++ (b ++ (c ++ [])) ≡ x ++ (y ++ z)

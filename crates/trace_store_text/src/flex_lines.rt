@@ -7,7 +7,7 @@ ghost use Rattle.profile.specs.Output.{Writes};
 ghost use Rattle.store_copies.specs.Listed.{all_listed};
 ghost use Rattle.store_copies.specs.State.{IsFlex, flex_in};
 ghost use Rattle.trace_store_text.specs.flex.Changes.{gone_block_by, kept_block_by};
-ghost use Rattle.trace_store_text.specs.FlexLines.{block_change_line, flex_change_lines, flex_lines, gone_block_line, gone_block_lines, kept_block_lines, new_block_line, new_store_line, other_block_line, store_line};
+ghost use Rattle.trace_store_text.specs.FlexLines.{block_change_line, flex_lines, gone_block_line, gone_block_lines, kept_block_lines, new_block_line, new_store_line, other_block_line, store_line};
 
 use crate::flex::{find_block, is_same_block};
 use address_map::AddressMap;
@@ -30,7 +30,8 @@ pub fn push_flex<W: Sink>(
         (flex_lines (bytes_of before.now) old.now (bytes_of after.now) new.now) }
 {
     push_store(sink, old, new)?;
-    push_blocks(sink, before, old, after, new)
+    push_gone_blocks(sink, before, old, after, new)?;
+    push_kept_blocks(sink, before, old, after, new)
 }
 
 fn push_store<W: Sink>(sink: &mut W, old: &Flex, new: &Flex) -> Result<(), WriteFault>
@@ -60,22 +61,6 @@ fn push_new_store<W: Sink>(sink: &mut W, start: u32, end: u32) -> Result<(), Wri
             b" new\n".as_slice(),
         ],
     )
-}
-
-fn push_blocks<W: Sink>(
-    sink: &mut W,
-    before: &AddressMap,
-    old: &Flex,
-    after: &AddressMap,
-    new: &Flex,
-) -> Result<(), WriteFault>
-    requires old { IsFlex before.now old.now }
-    requires new { IsFlex after.now new.now }
-    ensures { Writes W.contents W.has_failed sink.old sink.new result (flex_change_lines
-        (all_listed (flex_in before.now old.now.extent)) (all_listed (flex_in after.now new.now.extent))) }
-{
-    push_gone_blocks(sink, before, old, after, new)?;
-    push_kept_blocks(sink, before, old, after, new)
 }
 
 fn push_gone_blocks<W: Sink>(
@@ -144,22 +129,8 @@ fn push_kept_block<W: Sink>(
 {
     match found {
         None => push_new_line(sink, block),
-        Some(old) => push_other_block(sink, &old, block),
-    }
-}
-
-fn push_other_block<W: Sink>(
-    sink: &mut W,
-    old: &FlexBlock,
-    block: &FlexBlock,
-) -> Result<(), WriteFault>
-    ensures { Writes W.contents W.has_failed sink.old sink.new result
-        (flat_map block_change_line (kept_block_by block.now (Some old.now))) }
-{
-    if is_same_block(old, block) {
-        Ok(())
-    } else {
-        push_other_line(sink, old, block)
+        Some(old) if is_same_block(&old, block) => Ok(()),
+        Some(old) => push_other_line(sink, &old, block),
     }
 }
 

@@ -4,7 +4,7 @@ ghost use Rattle.std.specs.Prelude.{◌≡◌};
 ghost use Rattle.std.specs.List.{flat_map};
 ghost use Rattle.profile.specs.Output.{Writes};
 ghost use Rattle.store_copies.specs.Frames.{innermost_frame};
-ghost use Rattle.trace_store_text.specs.FrameWords.{entered_word, frame_word, instance_name_text, kind_text, left_word, marked_name, marked_name_if};
+ghost use Rattle.trace_store_text.specs.FrameWords.{entered_word, frame_word, instance_name_text, kind_text, left_word, marked_name_if};
 
 use crate::modules::{InstanceMark, marks_of};
 use debugger::{CodeKind, Frame, FrameKind};
@@ -120,20 +120,13 @@ fn push_names<W: Sink>(sink: &mut W, marks: &[InstanceMark], slot: u32) -> Resul
     Ok(())
 }
 
+#[tactic(auto, unfolding(crate::specs::FrameWords::marked_name))]
 fn push_name_if<W: Sink>(sink: &mut W, mark: &InstanceMark, slot: u32) -> Result<(), WriteFault>
     ensures { Writes W.contents W.has_failed sink.old sink.new result (marked_name_if slot mark.now) }
 {
-    if mark.slot == slot {
-        push_name(sink, mark)
-    } else {
-        Ok(())
+    if mark.slot != slot {
+        return Ok(());
     }
-}
-
-#[tactic(auto, unfolding(crate::specs::FrameWords::marked_name))]
-fn push_name<W: Sink>(sink: &mut W, mark: &InstanceMark) -> Result<(), WriteFault>
-    ensures { Writes W.contents W.has_failed sink.old sink.new result (marked_name mark.now) }
-{
     push_parts(
         sink,
         &[

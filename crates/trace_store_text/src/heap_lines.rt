@@ -4,7 +4,7 @@ ghost use Rattle.std.specs.Prelude.{◌≡◌};
 ghost use Rattle.std.specs.List.{flat_map};
 ghost use Rattle.store_copies.specs.Store.{IsSound, store_of};
 ghost use Rattle.profile.specs.Output.{Writes};
-ghost use Rattle.trace_store_text.specs.HeapLines.{changed_limit_line, gone_heap_line, heap_gone_line, gone_heap_lines, heap_lines, heap_lines_by, kept_heap_lines, limit_line, limit_lines, lines_of_region, made_line};
+ghost use Rattle.trace_store_text.specs.HeapLines.{heap_gone_line, gone_heap_lines, heap_lines, heap_lines_by, kept_heap_lines, limit_line, limit_lines, lines_of_region, made_line};
 ghost use Rattle.trace_store_text.specs.Sound.{AreBothSound};
 
 use crate::heaps::{HeapLimits, limits_of};
@@ -52,23 +52,12 @@ fn push_gone_region<W: Sink>(
     ensures { Writes W.contents W.has_failed sink.old sink.new result
         (lines_of_region (gone_heap_lines (store_of after.now)) region.now) }
 {
-    if region.kind.is_heap() {
-        push_gone(sink, region.at, limits_of(after, region.at))
-    } else {
-        Ok(())
+    if !region.kind.is_heap() {
+        return Ok(());
     }
-}
-
-fn push_gone<W: Sink>(
-    sink: &mut W,
-    start: u32,
-    limits: Option<HeapLimits>,
-) -> Result<(), WriteFault>
-    ensures { Writes W.contents W.has_failed sink.old sink.new result (gone_heap_line start limits) }
-{
-    match limits {
+    match limits_of(after, region.at) {
         Some(_) => Ok(()),
-        None => push_gone_line(sink, start),
+        None => push_gone_line(sink, region.at),
     }
 }
 
@@ -102,6 +91,7 @@ fn push_kept_heaps<W: Sink>(
     Ok(())
 }
 
+// What differs of a heap that is there after the call, or may be.
 fn push_kept_region<W: Sink>(
     sink: &mut W,
     region: &Region,
@@ -112,24 +102,10 @@ fn push_kept_region<W: Sink>(
     ensures { Writes W.contents W.has_failed sink.old sink.new result
         (lines_of_region (kept_heap_lines (store_of before.now) (store_of after.now)) region.now) }
 {
-    if region.kind.is_heap() {
-        push_kept_heap(sink, region.at, before, after)
-    } else {
-        Ok(())
+    if !region.kind.is_heap() {
+        return Ok(());
     }
-}
-
-// What differs of a heap that is there after the call, or may be.
-fn push_kept_heap<W: Sink>(
-    sink: &mut W,
-    start: u32,
-    before: &AddressMap,
-    after: &AddressMap,
-) -> Result<(), WriteFault>
-    requires stores { AreBothSound before.now after.now }
-    ensures { Writes W.contents W.has_failed sink.old sink.new result
-        (kept_heap_lines (store_of before.now) (store_of after.now) start) }
-{
+    let start = region.at;
     push_kept(
         sink,
         start,
@@ -194,19 +170,6 @@ fn push_limit<W: Sink>(
     if old == new {
         return Ok(());
     }
-    push_changed_limit(sink, start, name, old, new)
-}
-
-fn push_changed_limit<W: Sink>(
-    sink: &mut W,
-    start: u32,
-    name: &[u8],
-    old: u32,
-    new: u32,
-) -> Result<(), WriteFault>
-    ensures { Writes W.contents W.has_failed sink.old sink.new result
-        (changed_limit_line start name.now old new) }
-{
     let mut is = Buffer::new();
     let mut was = Buffer::new();
     push_parts(

@@ -4,7 +4,7 @@ ghost use Rattle.std.specs.Prelude.{◌≡◌};
 ghost use Rattle.std.specs.List.{flat_map, list_any};
 ghost use Rattle.store_copies.specs.Store.{is_image, store_of};
 ghost use Rattle.profile.specs.Output.{Writes};
-ghost use Rattle.trace_store_text.specs.ImageLines.{image_line, image_lines, is_lone_image, is_same_image, lone_image_line};
+ghost use Rattle.trace_store_text.specs.ImageLines.{image_lines, is_same_image, lone_image_line};
 
 use address_map::{AddressMap, Kind, Region};
 use itoa::Buffer;
@@ -48,23 +48,9 @@ fn push_lone_image<W: Sink>(
     ensures { Writes W.contents W.has_failed sink.old sink.new result
         (lone_image_line others.now verb.now region.now) }
 {
-    if is_lone(region, others) {
-        push_image(sink, region, verb)
-    } else {
-        Ok(())
+    if !is_image(region.kind) || has_image(others, region) {
+        return Ok(());
     }
-}
-
-// Whether it is an image that isn't among the others.
-fn is_lone(region: &Region, others: &[Region]) -> bool
-    ensures { result ≡ is_lone_image others.now region.now }
-{
-    is_image(region.kind) && !has_image(others, region)
-}
-
-fn push_image<W: Sink>(sink: &mut W, region: &Region, verb: &[u8]) -> Result<(), WriteFault>
-    ensures { Writes W.contents W.has_failed sink.old sink.new result (image_line verb.now region.now) }
-{
     let mut len = Buffer::new();
     push_parts(
         sink,

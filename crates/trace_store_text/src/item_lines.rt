@@ -5,10 +5,10 @@ ghost use Rattle.std.specs.List.{flat_map};
 ghost use Rattle.store_copies.specs.Store.{store_of};
 ghost use Rattle.profile.specs.Output.{Writes};
 ghost use Rattle.trace_store_text.specs.items.Changes.{item_changes};
-ghost use Rattle.trace_store_text.specs.ItemLines.{item_line, item_lines, item_summary_lines, verb_and_use};
+ghost use Rattle.trace_store_text.specs.ItemLines.{item_line, item_lines, verb_and_use};
 ghost use Rattle.trace_store_text.specs.Sound.{AreBothSound};
 
-use crate::items::{ItemChange, ItemChanges, changed_items};
+use crate::items::{ItemChange, changed_items};
 use crate::word_lines::push_more;
 use address_map::{AddressMap, Item};
 use itoa::Buffer;
@@ -30,17 +30,6 @@ pub fn push_items<W: Sink>(
         (item_lines heap (item_changes (store_of before.now) (store_of after.now) heap)) }
 {
     let changes = changed_items(before, after, heap);
-    push_kept_items(sink, heap, &changes)
-}
-
-fn push_kept_items<W: Sink>(
-    sink: &mut W,
-    heap: u32,
-    changes: &ItemChanges,
-) -> Result<(), WriteFault>
-    ensures { Writes W.contents W.has_failed sink.old sink.new result
-        (item_summary_lines heap changes.now) }
-{
     push_first_items(sink, heap, changes.first.as_slice())?;
     push_more(
         sink,

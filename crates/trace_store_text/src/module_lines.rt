@@ -3,7 +3,7 @@
 ghost use Rattle.std.specs.Prelude.{◌≡◌};
 ghost use Rattle.std.specs.List.{flat_map};
 ghost use Rattle.profile.specs.Output.{Writes};
-ghost use Rattle.trace_store_text.specs.ModuleLines.{gone_instance_line, gone_instance_lines, kept_instance_lines, module_lines, moved_instance_line, new_instance_line, preferred_line, preferred_lines};
+ghost use Rattle.trace_store_text.specs.ModuleLines.{gone_instance_lines, kept_instance_lines, module_lines, moved_instance_line, new_instance_line, preferred_lines};
 
 use crate::modules::{InstanceMark, has_same, is_preferred_anew, marks_of, old_address};
 use itoa::Buffer;
@@ -60,6 +60,7 @@ fn push_gone_instances<W: Sink>(
     Ok(())
 }
 
+#[tactic(auto, unfolding(crate::specs::ModuleLines::gone_instance_line))]
 fn push_gone_instance<W: Sink>(
     sink: &mut W,
     mark: &InstanceMark,
@@ -69,10 +70,20 @@ fn push_gone_instance<W: Sink>(
         (gone_instance_lines after.now mark.now) }
 {
     if has_same(after, mark) {
-        Ok(())
-    } else {
-        push_gone(sink, mark)
+        return Ok(());
     }
+    push_parts(
+        sink,
+        &[
+            b"                  module ".as_slice(),
+            mark.title.as_slice(),
+            b"%".as_slice(),
+            mark.name.as_slice(),
+            b" gone at ".as_slice(),
+            HexText::word(mark.at).as_slice(),
+            b"\n".as_slice(),
+        ],
+    )
 }
 
 fn push_kept_instances<W: Sink>(
@@ -118,6 +129,7 @@ fn push_preferred_instances<W: Sink>(
     Ok(())
 }
 
+#[tactic(auto, unfolding(crate::specs::ModuleLines::preferred_line))]
 fn push_preferred_instance<W: Sink>(
     sink: &mut W,
     mark: &InstanceMark,
@@ -126,17 +138,9 @@ fn push_preferred_instance<W: Sink>(
     ensures { Writes W.contents W.has_failed sink.old sink.new result
         (preferred_lines before.now mark.now) }
 {
-    if is_preferred_anew(before, mark) {
-        push_preferred(sink, mark)
-    } else {
-        Ok(())
+    if !is_preferred_anew(before, mark) {
+        return Ok(());
     }
-}
-
-#[tactic(auto, unfolding(crate::specs::ModuleLines::preferred_line))]
-fn push_preferred<W: Sink>(sink: &mut W, mark: &InstanceMark) -> Result<(), WriteFault>
-    ensures { Writes W.contents W.has_failed sink.old sink.new result (preferred_line mark.now) }
-{
     push_parts(
         sink,
         &[
@@ -145,25 +149,6 @@ fn push_preferred<W: Sink>(sink: &mut W, mark: &InstanceMark) -> Result<(), Writ
             b"%".as_slice(),
             mark.name.as_slice(),
             b" preferred\n".as_slice(),
-        ],
-    )
-}
-
-#[tactic(auto, unfolding(crate::specs::ModuleLines::gone_instance_line))]
-fn push_gone<W: Sink>(sink: &mut W, mark: &InstanceMark) -> Result<(), WriteFault>
-    ensures { Writes W.contents W.has_failed sink.old sink.new result
-        (gone_instance_line mark.now mark.now.at) }
-{
-    push_parts(
-        sink,
-        &[
-            b"                  module ".as_slice(),
-            mark.title.as_slice(),
-            b"%".as_slice(),
-            mark.name.as_slice(),
-            b" gone at ".as_slice(),
-            HexText::word(mark.at).as_slice(),
-            b"\n".as_slice(),
         ],
     )
 }

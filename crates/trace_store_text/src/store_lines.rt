@@ -6,9 +6,6 @@ ghost use Rattle.debugger.specs.GuestState.{state_of};
 ghost use Rattle.store_copies.specs.Copies.{kept_in, kept_of};
 ghost use Rattle.store_copies.specs.Words.{AreListedWithin, is_shown_elsewhere};
 ghost use Rattle.trace_store_text.specs.FlexLines.{flex_lines};
-ghost use Rattle.trace_store_text.specs.HeapLines.{heap_lines};
-ghost use Rattle.trace_store_text.specs.ImageLines.{image_lines};
-ghost use Rattle.trace_store_text.specs.ModuleLines.{module_lines};
 ghost use Rattle.trace_store_text.specs.StoreLines.{changed_word_lines, store_lines};
 
 use crate::flex_lines::push_flex;
@@ -34,34 +31,11 @@ pub fn push_store_lines_in<W: Sink>(
     ensures writes { Writes W.contents W.has_failed sink.old sink.new result
         (store_lines has_error (kept_in before.now) (kept_of (state_of machine.now.guest))) }
 {
-    push_changed_images(sink, before, machine)?;
-    push_changed_modules(sink, before, machine)?;
+    push_images(sink, before.memory(), machine.memory())?;
+    push_modules(sink, before.instances(), machine.instances())?;
     push_changed_flex(sink, before, machine)?;
-    push_changed_heaps(sink, before, machine)?;
+    push_heaps(sink, before.memory(), machine.memory())?;
     push_changed_words(sink, before, machine, has_error, pages)
-}
-
-fn push_changed_images<W: Sink>(
-    sink: &mut W,
-    before: &StoreCopy,
-    machine: &Machine,
-) -> Result<(), WriteFault>
-    ensures { Writes W.contents W.has_failed sink.old sink.new result
-        (image_lines (kept_in before.now).store (state_of machine.now.guest).store) }
-{
-    push_images(sink, before.memory(), machine.memory())
-}
-
-fn push_changed_modules<W: Sink>(
-    sink: &mut W,
-    before: &StoreCopy,
-    machine: &Machine,
-) -> Result<(), WriteFault>
-    ensures { let s = state_of machine.now.guest in
-        Writes W.contents W.has_failed sink.old sink.new result
-        (module_lines (kept_in before.now).modules s.tables.modules) }
-{
-    push_modules(sink, before.instances(), machine.instances())
 }
 
 fn push_changed_flex<W: Sink>(
@@ -80,17 +54,6 @@ fn push_changed_flex<W: Sink>(
         machine.memory(),
         machine.flex(),
     )
-}
-
-fn push_changed_heaps<W: Sink>(
-    sink: &mut W,
-    before: &StoreCopy,
-    machine: &Machine,
-) -> Result<(), WriteFault>
-    ensures { Writes W.contents W.has_failed sink.old sink.new result
-        (heap_lines (kept_in before.now).store (state_of machine.now.guest).store) }
-{
-    push_heaps(sink, before.memory(), machine.memory())
 }
 
 fn push_changed_words<W: Sink>(

@@ -3,7 +3,7 @@
 ghost use Rattle.std.specs.Prelude.{◌≡◌};
 ghost use Rattle.std.specs.List.{flat_map};
 ghost use Rattle.profile.specs.Output.{Writes};
-ghost use Rattle.trace_store_text.specs.WordLines.{count_line, more_line, summary_lines, word_line};
+ghost use Rattle.trace_store_text.specs.WordLines.{more_line, summary_lines, word_line};
 
 use itoa::Buffer;
 use profile::{HexText, Sink, WriteFault, push_parts};
@@ -52,20 +52,13 @@ fn push_change<W: Sink>(sink: &mut W, change: &WordChange) -> Result<(), WriteFa
 }
 
 /// Writes how many more there are of what isn't shown, if there are any.
-#[tactic(auto, unfolding(crate::specs::WordLines::more_line))]
+#[tactic(auto, unfolding(crate::specs::WordLines::more_line, crate::specs::WordLines::count_line))]
 pub fn push_more<W: Sink>(sink: &mut W, more: u32, what: &[u8]) -> Result<(), WriteFault>
     ensures { Writes W.contents W.has_failed sink.old sink.new result (more_line what.now more) }
 {
     if more == 0 {
         return Ok(());
     }
-    push_count(sink, more, what)
-}
-
-#[tactic(auto, unfolding(crate::specs::WordLines::count_line))]
-fn push_count<W: Sink>(sink: &mut W, more: u32, what: &[u8]) -> Result<(), WriteFault>
-    ensures { Writes W.contents W.has_failed sink.old sink.new result (count_line what.now more) }
-{
     let mut digits = Buffer::new();
     push_parts(
         sink,

@@ -31,7 +31,7 @@ impl Default for ItemChange {
 }
 
 /// The items that differ, by address: the first 64 of them, and how many there are.
-#[derive(Clone, Drop)]
+#[derive(Drop)]
 pub struct ItemChanges {
     pub first: ArrayVec<ItemChange, MOST_ITEMS>,
     pub count: u32,

@@ -3,11 +3,11 @@
 ghost use Rattle.std.specs.Prelude.{◌≡◌, ◌≤◌, ◌<◌, ◌+◌, ◌∷◌, ◌++◌, [], length, slice_get};
 ghost use Rattle.arrayvec.specs.ArrayVec.{array_vec_len};
 ghost use Rattle.instances_table.specs.Lookup.{shown_of_place};
-ghost use Rattle.trace_store_text.specs.modules.Marks.{instance_marks, mark_shown, marks_at, marks_in, one_mark};
+ghost use Rattle.trace_store_text.specs.modules.Marks.{instance_marks, marks_at, marks_in, one_mark};
 
 use arrayvec::ArrayVec;
 use instances_table::{MOST_INSTANCES, Name};
-use store_copies::{InstanceInfo, Instances, ModuleInfo};
+use store_copies::Instances;
 
 /// An instance: its module's title, its own name, its slot, whether it is the preferred one of its
 /// module, and where its image stands, and how many bytes that has.
@@ -55,19 +55,13 @@ fn add_instance(marks: &mut InstanceMarks, modules: &Instances, number: u32, ins
         return;
     };
     if let Some(reported) = modules.instance(number, instance) {
-        marks.push(mark_shown(info, reported));
-    }
-}
-
-fn mark_shown(info: ModuleInfo, reported: InstanceInfo) -> InstanceMark
-    ensures { result ≡ mark_shown info reported }
-{
-    InstanceMark {
-        title: info.title,
-        name: reported.name,
-        slot: reported.slot,
-        preferred: reported.preferred,
-        at: info.image,
-        len: info.len,
+        marks.push(InstanceMark {
+            title: info.title,
+            name: reported.name,
+            slot: reported.slot,
+            preferred: reported.preferred,
+            at: info.image,
+            len: info.len,
+        });
     }
 }
