@@ -82,6 +82,28 @@ module_words s b (Some reason.Prefer) = text_reason_words s b (codes "Prefer") [
 module_words s b (Some reason.Lookup) = text_reason_words s b (codes "Lookup") []
 module_words s b None = reason_word s (codes "?")
 
+-- the name alone
+abbrev pub module_name : Option ModuleReason → List ℕ
+module_name (Some reason.Run) = codes "Run"
+module_name (Some reason.Load) = codes "Load"
+module_name (Some reason.Enter) = codes "Enter"
+module_name (Some reason.Reinit) = codes "Reinit"
+module_name (Some reason.Delete) = codes "Delete"
+module_name (Some reason.DescribeArea) = codes "DescribeArea"
+module_name (Some reason.Claim) = codes "Claim"
+module_name (Some reason.Free) = codes "Free"
+module_name (Some reason.Tidy) = codes "Tidy"
+module_name (Some reason.Clear) = codes "Clear"
+module_name (Some reason.Insert) = codes "Insert"
+module_name (Some reason.InsertCopy) = codes "InsertCopy"
+module_name (Some reason.Info) = codes "Info"
+module_name (Some reason.Extend) = codes "Extend"
+module_name (Some reason.Instantiate) = codes "Instantiate"
+module_name (Some reason.Rename) = codes "Rename"
+module_name (Some reason.Prefer) = codes "Prefer"
+module_name (Some reason.Lookup) = codes "Lookup"
+module_name None = codes "?"
+
 -- what follows on a call's name; `number` is the call's own
 abbrev pub read_words : State → Bytes → ℕ → SwiName → List ℕ
 read_words s b number swi.Heap = heap_words s (heap_reason (register_of s 0))

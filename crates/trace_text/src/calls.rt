@@ -1,11 +1,11 @@
 //! A store call as words: its name, its reason and the registers that it reads.
 
-ghost use Rattle.std.specs.Prelude.{◌≤◌, codes, if◌then◌else◌};
+ghost use Rattle.std.specs.Prelude.{◌≡◌, ◌≤◌};
 ghost use Rattle.std.specs.List.{All};
 ghost use Rattle.trace_effects.specs.Memory.{bytes_of};
 ghost use Rattle.profile.specs.Output.{Writes};
 ghost use Rattle.profile.specs.SwiNames.{swi_of};
-ghost use Rattle.trace_text.specs.Calls.{area_words, argument_word, argument_words, call_words, heap_words, module_words, named_words, read_words, reason_word, reason_words, text_argument, text_reason_words};
+ghost use Rattle.trace_text.specs.Calls.{area_words, argument_word, argument_words, call_words, heap_words, module_name, module_words, named_words, read_words, reason_word, reason_words, text_argument, text_reason_words};
 
 use crate::strings::push_string;
 use arm_core::Cpu;
@@ -28,19 +28,13 @@ pub fn push_call<W: Sink>(
     ensures writes { Writes W.contents W.has_failed sink.old sink.new result
         (call_words cpu.now (bytes_of memory.now) is_x number) }
 {
-    push_x(sink, is_x)?;
-    push_named(sink, cpu, memory, number)
-}
-
-fn push_x<W: Sink>(sink: &mut W, is_x: bool) -> Result<(), WriteFault>
-    ensures { Writes W.contents W.has_failed sink.old sink.new result
-        (if is_x then codes " X" else codes " ") }
-{
-    if is_x {
-        push_all(sink, b" X")
+    let front = if is_x {
+        b" X".as_slice()
     } else {
-        push_all(sink, b" ")
-    }
+        b" ".as_slice()
+    };
+    push_all(sink, front)?;
+    push_named(sink, cpu, memory, number)
 }
 
 fn push_named<W: Sink>(
@@ -136,26 +130,56 @@ fn push_module<W: Sink>(
     ensures { Writes W.contents W.has_failed sink.old sink.new result
         (module_words cpu.now (bytes_of memory.now) reason) }
 {
+    let name = module_name(reason);
     match reason {
-        Some(ModuleReason::Run) => push_text_reason(sink, cpu, memory, b"Run", &[]),
-        Some(ModuleReason::Load) => push_text_reason(sink, cpu, memory, b"Load", &[]),
-        Some(ModuleReason::Enter) => push_text_reason(sink, cpu, memory, b"Enter", &[2]),
-        Some(ModuleReason::Reinit) => push_text_reason(sink, cpu, memory, b"Reinit", &[]),
-        Some(ModuleReason::Delete) => push_text_reason(sink, cpu, memory, b"Delete", &[]),
-        Some(ModuleReason::DescribeArea) => push_reason_word(sink, cpu, b"DescribeArea"),
-        Some(ModuleReason::Claim) => push_reason(sink, cpu, b"Claim", &[3]),
-        Some(ModuleReason::Free) => push_reason(sink, cpu, b"Free", &[2]),
-        Some(ModuleReason::Tidy) => push_reason_word(sink, cpu, b"Tidy"),
-        Some(ModuleReason::Clear) => push_reason_word(sink, cpu, b"Clear"),
-        Some(ModuleReason::Insert) => push_reason(sink, cpu, b"Insert", &[1]),
-        Some(ModuleReason::InsertCopy) => push_reason(sink, cpu, b"InsertCopy", &[1, 2]),
-        Some(ModuleReason::Info) => push_reason(sink, cpu, b"Info", &[1, 2]),
-        Some(ModuleReason::Extend) => push_reason(sink, cpu, b"Extend", &[2, 3]),
-        Some(ModuleReason::Instantiate) => push_text_reason(sink, cpu, memory, b"Instantiate", &[]),
-        Some(ModuleReason::Rename) => push_text_reason(sink, cpu, memory, b"Rename", &[2]),
-        Some(ModuleReason::Prefer) => push_text_reason(sink, cpu, memory, b"Prefer", &[]),
-        Some(ModuleReason::Lookup) => push_text_reason(sink, cpu, memory, b"Lookup", &[]),
-        None => push_reason_word(sink, cpu, b"?"),
+        Some(
+            ModuleReason::Run
+            | ModuleReason::Load
+            | ModuleReason::Reinit
+            | ModuleReason::Delete
+            | ModuleReason::Instantiate
+            | ModuleReason::Prefer
+            | ModuleReason::Lookup,
+        ) => push_text_reason(sink, cpu, memory, name, &[]),
+        Some(ModuleReason::Enter | ModuleReason::Rename) => {
+            push_text_reason(sink, cpu, memory, name, &[2])
+        }
+        Some(ModuleReason::Claim) => push_reason(sink, cpu, name, &[3]),
+        Some(ModuleReason::Free) => push_reason(sink, cpu, name, &[2]),
+        Some(ModuleReason::Insert) => push_reason(sink, cpu, name, &[1]),
+        Some(ModuleReason::InsertCopy | ModuleReason::Info) => {
+            push_reason(sink, cpu, name, &[1, 2])
+        }
+        Some(ModuleReason::Extend) => push_reason(sink, cpu, name, &[2, 3]),
+        None | Some(ModuleReason::DescribeArea | ModuleReason::Tidy | ModuleReason::Clear) => {
+            push_reason_word(sink, cpu, name)
+        }
+    }
+}
+
+fn module_name(reason: Option<ModuleReason>) -> &'static [u8]
+    ensures { result.now ≡ module_name reason }
+{
+    match reason {
+        Some(ModuleReason::Run) => b"Run",
+        Some(ModuleReason::Load) => b"Load",
+        Some(ModuleReason::Enter) => b"Enter",
+        Some(ModuleReason::Reinit) => b"Reinit",
+        Some(ModuleReason::Delete) => b"Delete",
+        Some(ModuleReason::DescribeArea) => b"DescribeArea",
+        Some(ModuleReason::Claim) => b"Claim",
+        Some(ModuleReason::Free) => b"Free",
+        Some(ModuleReason::Tidy) => b"Tidy",
+        Some(ModuleReason::Clear) => b"Clear",
+        Some(ModuleReason::Insert) => b"Insert",
+        Some(ModuleReason::InsertCopy) => b"InsertCopy",
+        Some(ModuleReason::Info) => b"Info",
+        Some(ModuleReason::Extend) => b"Extend",
+        Some(ModuleReason::Instantiate) => b"Instantiate",
+        Some(ModuleReason::Rename) => b"Rename",
+        Some(ModuleReason::Prefer) => b"Prefer",
+        Some(ModuleReason::Lookup) => b"Lookup",
+        None => b"?",
     }
 }
 

@@ -1,10 +1,11 @@
 //! What a step leaves in the core, as words.
 
-ghost use Rattle.std.specs.Prelude.{◌≡◌};
+ghost use Rattle.std.specs.Prelude.{◌≡◌, ◌++◌};
 ghost use Rattle.std.specs.List.{flat_map};
 ghost use Rattle.profile.specs.Output.{Writes};
 ghost use Rattle.trace_effects.specs.changes.Registers.{changes_of};
-ghost use Rattle.trace_text.specs.Core.{banked_register_name, carry_flag_words, core_words, flag_word, flag_words, hides, jump_word, mask_flag_words, mode_word, register_word, sign_flag_words};
+ghost use Rattle.trace_effects.specs.changes.Status.{flag_change};
+ghost use Rattle.trace_text.specs.Core.{banked_register_name, core_words, flag_word, flag_words, hides, jump_word, mode_word, register_word};
 
 use arm_core::{Cpu, Mode, Psr};
 use itoa::Buffer;
@@ -96,34 +97,30 @@ fn push_jump<W: Sink>(sink: &mut W, jump: Option<u32>) -> Result<(), WriteFault>
 fn push_flags<W: Sink>(sink: &mut W, before: Psr, after: Psr) -> Result<(), WriteFault>
     ensures { Writes W.contents W.has_failed sink.old sink.new result (flag_words before after) }
 {
-    push_sign_flags(sink, before, after)?;
-    push_carry_flags(sink, before, after)?;
-    push_mask_flags(sink, before, after)
-}
-
-fn push_sign_flags<W: Sink>(sink: &mut W, before: Psr, after: Psr) -> Result<(), WriteFault>
-    ensures { Writes W.contents W.has_failed sink.old sink.new result (sign_flag_words before after) }
-{
-    push_flag(sink, b'N', changed_flag(Flag::Negative, before, after))?;
-    push_flag(sink, b'Z', changed_flag(Flag::Zero, before, after))
-}
-
-fn push_carry_flags<W: Sink>(sink: &mut W, before: Psr, after: Psr) -> Result<(), WriteFault>
-    ensures { Writes W.contents W.has_failed sink.old sink.new result (carry_flag_words before after) }
-{
-    push_flag(sink, b'C', changed_flag(Flag::Carry, before, after))?;
-    push_flag(sink, b'V', changed_flag(Flag::Overflow, before, after))
-}
-
-fn push_mask_flags<W: Sink>(sink: &mut W, before: Psr, after: Psr) -> Result<(), WriteFault>
-    ensures { Writes W.contents W.has_failed sink.old sink.new result (mask_flag_words before after) }
-{
-    push_flag(sink, b'I', changed_flag(Flag::InterruptsOff, before, after))?;
-    push_flag(
+    let psrs = (before, after);
+    push_two_flags(sink, psrs, (b'N', Flag::Negative), (b'Z', Flag::Zero))?;
+    push_two_flags(sink, psrs, (b'C', Flag::Carry), (b'V', Flag::Overflow))?;
+    push_two_flags(
         sink,
-        b'F',
-        changed_flag(Flag::FastInterruptsOff, before, after),
+        psrs,
+        (b'I', Flag::InterruptsOff),
+        (b'F', Flag::FastInterruptsOff),
     )
+}
+
+// Two flags, each with its letter, where the second status differs from the first.
+fn push_two_flags<W: Sink>(
+    sink: &mut W,
+    psrs: (Psr, Psr),
+    first: (u8, Flag),
+    second: (u8, Flag),
+) -> Result<(), WriteFault>
+    ensures { Writes W.contents W.has_failed sink.old sink.new result
+        (flag_word first.0 (flag_change first.1 psrs.0 psrs.1)
+        ++ flag_word second.0 (flag_change second.1 psrs.0 psrs.1)) }
+{
+    push_flag(sink, first.0, changed_flag(first.1, psrs.0, psrs.1))?;
+    push_flag(sink, second.0, changed_flag(second.1, psrs.0, psrs.1))
 }
 
 fn push_flag<W: Sink>(sink: &mut W, letter: u8, change: Option<bool>) -> Result<(), WriteFault>

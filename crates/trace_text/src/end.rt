@@ -26,7 +26,7 @@ use trace_store_text::{Frame, Machine, PageRange, StoreCopy, heap_pages, push_st
 
 impl StepStart {
     ghost use Rattle.trace_text.specs.Start.{known_in};
-    ghost use Rattle.trace_text.specs.Step.{ListsInside, ListsWith, lines_after_call, lines_with, frame_lines_below, core_line, step_end_text, instruction_below, instruction_end, instruction_words, lines_below, memory_lines_below, pages_listed};
+    ghost use Rattle.trace_text.specs.Step.{ListsInside, ListsWith, lines_after_call, lines_with, frame_lines_below, core_line, step_end_text, instruction_below, instruction_end, instruction_words, memory_lines_below, pages_listed};
 
     /// Writes what the step left behind, by the machine after it and what it printed.
     ///
@@ -200,27 +200,11 @@ impl StepStart {
                 push_stop(&mut words, stop)?;
                 push_below(sink, words.bytes())
             }
-            None => self.push_lines(alloc, machine, printed, leaves, pages, sink),
+            None => {
+                let kept = frames_kept(leaves, self.frames);
+                self.push_lines_with(alloc, machine, printed, leaves, kept, pages, sink)
+            }
         }
-    }
-
-    fn push_lines<W: Sink>(
-        &self,
-        alloc: Global,
-        machine: &Machine,
-        printed: &[u8],
-        leaves: bool,
-        pages: PageRange,
-        sink: &mut W,
-    ) -> Result<(), WriteFault>
-        requires { let now = state_of machine.now.guest in
-            ListsWith (frames_kept leaves self.now.frames) (store_kept self.now.before) now pages }
-        ensures { let o = outcome_with (state_of machine.now.guest) printed.now in
-            OnOk result (Appends (W.contents sink.old) (W.contents sink.new)
-            (lines_below leaves (known_in self.now) o)) }
-    {
-        let kept = frames_kept(leaves, self.frames);
-        self.push_lines_with(alloc, machine, printed, leaves, kept, pages, sink)
     }
 
     // The lines where so many frames were kept open.

@@ -1,8 +1,8 @@
 //! Errors and stops as words.
 
-ghost use Rattle.std.specs.Prelude.{◌≡◌};
+ghost use Rattle.std.specs.Prelude.{◌≡◌, ◌++◌};
 ghost use Rattle.profile.specs.Output.{Writes};
-ghost use Rattle.trace_text.specs.Errors.{error_stop_word, error_with_number, error_word, fault_word, name_word, numbered_errors, error_number_word, stop_word};
+ghost use Rattle.trace_text.specs.Errors.{error_with_number, error_word, fault_word, name_word, numbered_errors, error_number_word, stop_word};
 
 use itoa::Buffer;
 use profile::{ErrorNumber, Fault, Sink, Stop, WriteFault, error_text, push_all, push_parts};
@@ -53,8 +53,7 @@ const NUMBERED_ERRORS: [ErrorNumber; 38] = [
 pub fn push_error<W: Sink>(sink: &mut W, number: u32) -> Result<(), WriteFault>
     ensures writes { Writes W.contents W.has_failed sink.old sink.new result (error_word number) }
 {
-    push_all(sink, b" error")?;
-    push_numbered(sink, number)
+    push_numbered(sink, b" error", number)
 }
 
 /// Writes why a step has halted the machine, ` stops ErrorStop 9 HeapNoRoom`.
@@ -72,23 +71,21 @@ fn push_fault<W: Sink>(sink: &mut W, fault: Fault) -> Result<(), WriteFault>
     ensures { Writes W.contents W.has_failed sink.old sink.new result (fault_word fault) }
 {
     match fault {
-        Fault::ErrorStop(number) => push_error_stop(sink, number),
+        Fault::ErrorStop(number) => push_numbered(sink, b" stops ErrorStop", number),
         _ => push_parts(sink, &[b" stops ".as_slice(), fault.name().as_bytes()]),
     }
 }
 
-fn push_error_stop<W: Sink>(sink: &mut W, number: u32) -> Result<(), WriteFault>
-    ensures { Writes W.contents W.has_failed sink.old sink.new result (error_stop_word number) }
-{
-    push_all(sink, b" stops ErrorStop")?;
-    push_numbered(sink, number)
-}
-
-fn push_numbered<W: Sink>(sink: &mut W, number: u32) -> Result<(), WriteFault>
-    ensures { Writes W.contents W.has_failed sink.old sink.new result (error_number_word number) }
+// A number behind what it is of, and its name.
+fn push_numbered<W: Sink>(sink: &mut W, front: &[u8], number: u32) -> Result<(), WriteFault>
+    ensures { Writes W.contents W.has_failed sink.old sink.new result
+        (front.now ++ error_number_word number) }
 {
     let mut digits = Buffer::new();
-    push_parts(sink, &[b" ".as_slice(), digits.format(number).as_bytes()])?;
+    push_parts(
+        sink,
+        &[front, b" ".as_slice(), digits.format(number).as_bytes()],
+    )?;
     push_name(sink, numbered_error(number))
 }
 

@@ -6,7 +6,7 @@ ghost use Rattle.profile.specs.Output.{Writes};
 ghost use Rattle.profile.specs.SwiNames.{swi_of};
 ghost use Rattle.profile.specs.text_sink.TextSink.{sink_text_of};
 ghost use Rattle.trace_store_text.specs.Step.{without_x};
-ghost use Rattle.trace_text.specs.Instruction.{branch_destination, front_text, named_text, swi_standing, swi_of_word, destination_of_word, what_text, with_call, by_name, word_column};
+ghost use Rattle.trace_text.specs.Instruction.{branch_destination, front_text, named_text, swi_standing, destination_of_word, what_text, with_call, by_name, word_column};
 
 use profile::text_lines::cut;
 use profile::text_sink::TextSink;
@@ -142,13 +142,9 @@ fn swi_standing(cause: Cause) -> Option<u32>
     ensures { result ≡ swi_standing cause }
 {
     match cause {
-        Cause::Skipped(word) | Cause::Word(word) => swi_of_word(word),
+        Cause::Skipped(word) | Cause::Word(word) => {
+            (word >> 24 & 15 == 15).then_some(word % (1 << 24))
+        }
         Cause::Gate | Cause::Unmapped => None,
     }
-}
-
-fn swi_of_word(word: u32) -> Option<u32>
-    ensures { result ≡ swi_of_word word }
-{
-    (word >> 24 & 15 == 15).then_some(word % (1 << 24))
 }

@@ -8,7 +8,7 @@ ghost use Rattle.trace_store_text.specs.Frames.{innermost_frame};
 ghost use Rattle.trace_store_text.specs.GuestState.{state_of};
 ghost use Rattle.trace_effects.specs.Cause.{cause_of, swi_of_cause};
 ghost use Rattle.trace_text.specs.Start.{store_kept};
-ghost use Rattle.trace_text.specs.Step.{areas_before, is_skipped, start_text, store_before, taking_of, taking_swi, taking_text};
+ghost use Rattle.trace_text.specs.Step.{areas_before, start_text, store_before, taking_of, taking_text};
 ghost use Rattle.trace_text.specs.Instruction.{named_text};
 ghost use Rattle.trace_store_text.specs.Copies.{kept_in, kept_of};
 
@@ -47,20 +47,14 @@ fn taking_of(cause: Cause, swi: Option<u32>) -> Taking
 {
     match cause {
         Cause::Gate => Taking::Gate,
-        Cause::Word(_) => taking_swi(swi),
-        Cause::Skipped(_) | Cause::Unmapped => Taking::Instruction,
-    }
-}
-
-fn taking_swi(swi: Option<u32>) -> Taking
-    ensures { result ≡ taking_swi swi }
-{
-    match swi {
-        Some(number) => Taking::Call {
-            is_x: is_bit_set(number, 17),
-            number: without_x_bit(number),
+        Cause::Word(_) => match swi {
+            Some(number) => Taking::Call {
+                is_x: is_bit_set(number, 17),
+                number: without_x_bit(number),
+            },
+            None => Taking::Instruction,
         },
-        None => Taking::Instruction,
+        Cause::Skipped(_) | Cause::Unmapped => Taking::Instruction,
     }
 }
 
@@ -152,7 +146,7 @@ impl StepStart {
             cpu: *cpu,
             taking: taking_of(cause, effects.swi),
             expected: following_word(cpu),
-            is_skipped: is_skipped(cause),
+            is_skipped: matches!(cause, Cause::Skipped(_)),
             text_length,
             stored_at: stored.at,
             old_words: old_words(machine.memory(), stored),
@@ -291,12 +285,6 @@ fn kept_store(
         Ok(copy) => Ok(copy),
         Err(_) => Err(WriteFault),
     }
-}
-
-fn is_skipped(cause: Cause) -> bool
-    ensures { result ≡ is_skipped cause }
-{
-    matches!(cause, Cause::Skipped(_))
 }
 
 // Writes what stands at a program counter, and answers how long its text is.

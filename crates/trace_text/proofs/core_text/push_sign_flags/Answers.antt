@@ -1,9 +1,0 @@
--- As the definition says.
-use Rattle.std.proofs.Common.{arith}
-use Rattle.std.proofs.lemmas.Grind.{common_steps}
-use Rattle.trace_text.specs.Core.{sign_flag_words}
-use Rattle.trace_text.proofs.core_text.push_sign_flags.Goals as goal
-
-pub returns : goal.returns
-unfolding sign_flag_words
-returns g c = grind (arith, common_steps)
