@@ -6,6 +6,7 @@ use profile::{AreaReason, HeapReason, ModuleReason, SwiName};
 use std::alloc::AllocError;
 use trace_effects::record_text::{Bracket, RecordText};
 use trace_moments::plain_name;
+use trace_text::calls::module_name;
 
 /// The most characters of a string that a record has.
 const MOST_CHARACTERS: u32 = 256;
@@ -194,25 +195,26 @@ fn area_use(reason: Option<AreaReason>) -> CallUse {
 }
 
 fn module_use(reason: Option<ModuleReason>) -> CallUse {
+    let name = module_name(reason);
     match reason {
-        Some(ModuleReason::Run) => CallUse::named(b"Run", &[1]),
-        Some(ModuleReason::Load) => CallUse::named(b"Load", &[1]),
-        Some(ModuleReason::Enter) => CallUse::named(b"Enter", &[1, 2]),
-        Some(ModuleReason::Reinit) => CallUse::named(b"Reinit", &[1]),
-        Some(ModuleReason::Delete) => CallUse::named(b"Delete", &[1]),
-        Some(ModuleReason::DescribeArea) => CallUse::reason(b"DescribeArea", &[]),
-        Some(ModuleReason::Claim) => CallUse::reason(b"Claim", &[3]),
-        Some(ModuleReason::Free) => CallUse::reason(b"Free", &[2]),
-        Some(ModuleReason::Tidy) => CallUse::reason(b"Tidy", &[]),
-        Some(ModuleReason::Clear) => CallUse::reason(b"Clear", &[]),
-        Some(ModuleReason::Insert) => CallUse::reason(b"Insert", &[1]),
-        Some(ModuleReason::InsertCopy) => CallUse::reason(b"InsertCopy", &[1, 2]),
-        Some(ModuleReason::Info) => CallUse::reason(b"Info", &[1, 2]),
-        Some(ModuleReason::Extend) => CallUse::reason(b"Extend", &[2, 3]),
-        Some(ModuleReason::Instantiate) => CallUse::named(b"Instantiate", &[1]),
-        Some(ModuleReason::Rename) => CallUse::named(b"Rename", &[1, 2]),
-        Some(ModuleReason::Prefer) => CallUse::named(b"Prefer", &[1]),
-        Some(ModuleReason::Lookup) => CallUse::named(b"Lookup", &[1]),
+        Some(
+            ModuleReason::Run
+            | ModuleReason::Load
+            | ModuleReason::Reinit
+            | ModuleReason::Delete
+            | ModuleReason::Instantiate
+            | ModuleReason::Prefer
+            | ModuleReason::Lookup,
+        ) => CallUse::named(name, &[1]),
+        Some(ModuleReason::Enter | ModuleReason::Rename) => CallUse::named(name, &[1, 2]),
+        Some(ModuleReason::Claim) => CallUse::reason(name, &[3]),
+        Some(ModuleReason::Free) => CallUse::reason(name, &[2]),
+        Some(ModuleReason::Insert) => CallUse::reason(name, &[1]),
+        Some(ModuleReason::InsertCopy | ModuleReason::Info) => CallUse::reason(name, &[1, 2]),
+        Some(ModuleReason::Extend) => CallUse::reason(name, &[2, 3]),
+        Some(ModuleReason::DescribeArea | ModuleReason::Tidy | ModuleReason::Clear) => {
+            CallUse::reason(name, &[])
+        }
         None => CallUse::unknown(),
     }
 }

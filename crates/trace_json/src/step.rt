@@ -91,11 +91,7 @@ impl StepBefore {
         ensures copied { IfOk result (λ before. is_copied before.memory ≡ true) }
     {
         let called = without_x_bit(swi % (1 << 24));
-        text.name(b"call")?;
-        text.open_string()?;
-        push_characters(text, b"CALL &")?;
-        push_characters(text, HexText::number(swi).as_slice())?;
-        text.close_string()?;
+        push_directive(text, b"CALL &", HexText::number(swi).as_slice())?;
         push_call(text, machine.cpu(), machine.memory(), true, called)?;
         StepBefore::keeping(alloc, machine, StepKind::Outside(called), Cause::Unmapped)
     }
@@ -114,11 +110,7 @@ impl StepBefore {
         ensures before { IfOk result (λ before. IsKeptBefore before (state_of machine.now.guest)) }
         ensures copied { IfOk result (λ before. is_copied before.memory ≡ true) }
     {
-        text.name(b"call")?;
-        text.open_string()?;
-        push_characters(text, b"LOAD ")?;
-        push_characters(text, words)?;
-        text.close_string()?;
+        push_directive(text, b"LOAD ", words)?;
         push_load(text)?;
         StepBefore::keeping(alloc, machine, StepKind::Outside(0), Cause::Unmapped)
     }
@@ -383,6 +375,14 @@ fn push_kind(
     let is_x = is_bit_set(number, 17);
     let called = without_x_bit(number);
     push_call(text, machine.cpu(), machine.memory(), is_x, called)
+}
+
+fn push_directive(text: &mut RecordText, directive: &[u8], rest: &[u8]) -> Result<(), AllocError> {
+    text.name(b"call")?;
+    text.open_string()?;
+    push_characters(text, directive)?;
+    push_characters(text, rest)?;
+    text.close_string()
 }
 
 fn push_characters(text: &mut RecordText, bytes: &[u8]) -> Result<(), AllocError> {

@@ -157,7 +157,8 @@ fn push_module<W: Sink>(
     }
 }
 
-fn module_name(reason: Option<ModuleReason>) -> &'static [u8]
+/// The name of a reason of OS_Module, and a question mark where there is none.
+pub fn module_name(reason: Option<ModuleReason>) -> &'static [u8]
     ensures { result.now ≡ module_name reason }
 {
     match reason {
