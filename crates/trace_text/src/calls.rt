@@ -4,7 +4,6 @@ ghost use Rattle.std.specs.Prelude.{◌≡◌, ◌≤◌};
 ghost use Rattle.std.specs.List.{All};
 ghost use Rattle.trace_effects.specs.Memory.{bytes_of};
 ghost use Rattle.profile.specs.Output.{Writes};
-ghost use Rattle.profile.specs.SwiNames.{swi_of};
 ghost use Rattle.trace_text.specs.Calls.{area_words, argument_word, argument_words, call_words, heap_words, module_name, module_words, named_words, read_words, reason_word, reason_words, text_argument, text_reason_words};
 
 use crate::strings::push_string;
@@ -34,7 +33,7 @@ pub fn push_call<W: Sink>(
         b" ".as_slice()
     };
     push_all(sink, front)?;
-    push_named(sink, cpu, memory, number)
+    push_named(sink, cpu, memory, number, SwiName::of(number))
 }
 
 fn push_named<W: Sink>(
@@ -42,11 +41,12 @@ fn push_named<W: Sink>(
     cpu: &Cpu,
     memory: &AddressMap,
     number: u32,
+    name: Option<SwiName>,
 ) -> Result<(), WriteFault>
     ensures { Writes W.contents W.has_failed sink.old sink.new result
-        (named_words cpu.now (bytes_of memory.now) number (swi_of number)) }
+        (named_words cpu.now (bytes_of memory.now) number name) }
 {
-    match SwiName::of(number) {
+    match name {
         Some(name) => {
             push_all(sink, name.name().as_bytes())?;
             push_read(sink, cpu, memory, number, name)
