@@ -1,11 +1,11 @@
 -- What the proofs of the command line cite.
 use Rattle.std.proofs.Common.{◌≡◌, ◌≢◌, ◌∙◌, ◌&&◌, ◌^◌, ◌⊎◌, inl, inr, ℕ, Bool, true, false, List, [], ◌∷◌, Some, None, Result, Ok, Err, refl, sym, ap, length, nat_lt, lt-ltb, ltb-true, true≢false}
 use Rattle.std.specs.List.{list_all}
-use Rattle.std.specs.Prelude.{if◌then◌else◌, option_and_then, option_map, unwrap_or, Option, IfOk, IsErr}
+use Rattle.std.specs.Prelude.{if◌then◌else◌, option_and_then, option_map, unwrap_or, Option, IfErr, IfOk, IsErr, OnOk}
 use Rattle.std.specs.Result.{result_ok}
 use Rattle.std.specs.Char.{digit_value}
 use Rattle.std.specs.Str.Parse.{AllDigits, ParsesUnsigned, digits_value, without_leading_plus}
-use Rattle.clap.specs.Words.{App, HasKind, HasMatchesOf, IsAmong, Kinds, fault_of, first_value, found_of, is_simple, is_simple_and_free, kind_of, matches_of, rows_of}
+use Rattle.clap.specs.Words.{App, FailsBy, HasKind, HasMatchesOf, IsAmong, Kinds, fault_of, first_value, found_of, is_simple, is_simple_and_free, kind_of, matches_of, rows_of}
 use Rattle.clap.specs.declared.error.Error.{Error}
 use Rattle.clap.specs.declared.error.kind.ErrorKind.{ErrorKind}
 use Rattle.clap.specs.declared.error.kind.ErrorKind.TheVariants.{OutOfMemory}
@@ -110,18 +110,28 @@ module _ (a : App) (words : List (List ℕ)) (is : a ≡ rosm) where
         ∙ not_empty (kind_of e) (fault_of a words) (h (ap is_simple_and_free is ∙ rosm_is_free)) other,
   )
 
-  -- Words that are a line are refused for want of memory alone, and then no reason is shown.
-  pub no_reason : {A E : Type 0} (e : Error) (r : Result A E) (P : A → Type 0)
-      → (is_simple_and_free a ≡ true → HasKind (fault_of a words) e) → is_line words ≡ true
-      → (is_memory (kind_of e) ≡ true → IsErr r) → IfOk r P
-  no_reason e (Err x) P h line err = tt
-  no_reason e (Ok x) P h line err = by_kind (is_memory (kind_of e)) refl
-    where
-      by_kind : (b : Bool) → is_memory (kind_of e) ≡ b → P x
-      by_kind true m = absurd (true≢false (sym (err m)))
-      by_kind false m =
-          let reported : Line ≡ refusal_of (kind_of e) = ap (λ (b : Bool). if b then Memory else Line) (sym m) in
-          let other : refusal_of (kind_of e) ≢ Memory = λ memory. line_alone (reported ∙ memory) in
-          absurd (true≢false (sym line ∙ (line_refused e h other).1))
+  pub outcome_taken : (r : Result ArgMatches Error) → (is_simple_and_free a ≡ true → FailsBy (fault_of a words) r)
+      → OnOk r (is_line words ≡ true)
+  outcome_taken (Ok m) h = line_taken h
+  outcome_taken (Err e) h = tt
+
+  pub outcome_refused : (r : Result ArgMatches Error) → (is_simple_and_free a ≡ true → FailsBy (fault_of a words) r)
+      → IfErr r (λ e. refusal_of (kind_of e) ≢ Memory → (refusal_of (kind_of e) ≡ Line) × (is_line words ≡ false))
+  outcome_refused (Ok m) h = tt
+  outcome_refused (Err e) h = line_refused e h
+
+-- Words that are a line are refused for want of memory alone, and then no reason is shown.
+pub no_reason : {A E : Type 0} (words : List (List ℕ)) (e : Error) (r : Result A E) (P : A → Type 0)
+    → (refusal_of (kind_of e) ≢ Memory → (refusal_of (kind_of e) ≡ Line) × (is_line words ≡ false))
+    → is_line words ≡ true → (is_memory (kind_of e) ≡ true → IsErr r) → IfOk r P
+no_reason words e (Err x) P h line err = tt
+no_reason words e (Ok x) P h line err = by_kind (is_memory (kind_of e)) refl
+  where
+    by_kind : (b : Bool) → is_memory (kind_of e) ≡ b → P x
+    by_kind true m = absurd (true≢false (sym (err m)))
+    by_kind false m =
+        let reported : Line ≡ refusal_of (kind_of e) = ap (λ (b : Bool). if b then Memory else Line) (sym m) in
+        let other : refusal_of (kind_of e) ≢ Memory = λ memory. line_alone (reported ∙ memory) in
+        absurd (true≢false (sym line ∙ (h other).1))
 
 pub ruleset file_steps = (raw_values-rows)

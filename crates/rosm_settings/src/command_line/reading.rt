@@ -1,12 +1,12 @@
 //! The words of a command line, read by `clap` into settings.
 
 ghost use Rattle.std.specs.Prelude.{◌≡◌, ◌≢◌, IfOk, IfErr, OnOk, Err, map, true, false, List, codes};
-ghost use Rattle.clap.specs.Words.{app_of, found_of, rows_of, rule_of, with_rule};
+ghost use Rattle.clap.specs.Words.{app_of, found_of, kind_of, rows_of, with_rule};
 ghost use Rattle.rosm_settings.specs.command_line.Settings.{file_rule, files_in, is_line, option_number, option_rule, refusal_of, rosm, rows_for, settings_for, settings_in as settings_from};
 
 use crate::command_line::files::Files;
 use crate::command_line::options::{Settings, SettingsError};
-use clap::error::ErrorKind;
+use clap::error::{Error, ErrorKind};
 use clap::{Arg, ArgAction, ArgMatches, Command};
 use profile::Config;
 use std::alloc::{AllocError, Global};
@@ -24,24 +24,35 @@ use std::alloc::{AllocError, Global};
 pub fn settings(alloc: Global, words: &[&str]) -> Result<Settings, SettingsError>
     ensures { result ≢ Err SettingsError.Memory → result ≡ settings_for (map (λ w. w.now) words.now) }
 {
-    settings_in(alloc, &matches_for(alloc, words)?)
+    match matches_for(alloc, words) {
+        Ok(matches) => settings_in(alloc, &matches),
+        Err(error) => Err(refusal(error.kind())),
+    }
 }
 
 #[tactic(auto, unfolding(crate::specs::command_line::Settings::settings_in))]
 fn settings_in(alloc: Global, matches: &ArgMatches<'_>) -> Result<Settings, SettingsError>
     ensures { result ≢ Err SettingsError.Memory → result ≡ settings_from (rows_of (found_of matches.now)) }
 {
-    let pages = size(matches, "pages").ok_or(SettingsError::Line)?;
-    let app = size(matches, "app").ok_or(SettingsError::Line)?;
-    let rma = size(matches, "rma").ok_or(SettingsError::Line)?;
-    let budget = steps(matches, "budget").ok_or(SettingsError::Line)?;
-    let config = Config::new(pages, app, rma).ok_or(SettingsError::Sizes)?;
-    let files = file_words(alloc, matches)?;
-    Ok(Settings {
-        config,
-        budget,
-        files,
-    })
+    let (Some(pages), Some(app), Some(rma), Some(budget)) = (
+        size(matches, "pages"),
+        size(matches, "app"),
+        size(matches, "rma"),
+        steps(matches, "budget"),
+    ) else {
+        return Err(SettingsError::Line);
+    };
+    let Some(config) = Config::new(pages, app, rma) else {
+        return Err(SettingsError::Sizes);
+    };
+    match file_words(alloc, matches) {
+        Ok(files) => Ok(Settings {
+            config,
+            budget,
+            files,
+        }),
+        Err(_) => Err(SettingsError::Memory),
+    }
 }
 
 // The number of an option, or `None` where its text is no number.
@@ -67,16 +78,15 @@ fn file_words(alloc: Global, matches: &ArgMatches<'_>) -> Result<Files, AllocErr
     }
 }
 
-fn matches_for<'a>(alloc: Global, words: &'a [&'a str]) -> Result<ArgMatches<'a>, SettingsError>
+// What clap makes of the words.
+pub(crate) fn matches_for<'a>(alloc: Global, words: &'a [&'a str]) -> Result<ArgMatches<'a>, Error>
     ensures line { OnOk result (is_line (map (λ w. w.now) words.entry.now) ≡ true) }
     ensures rows { IfOk result (λ m. rows_of (found_of m) ≡ rows_for (map (λ w. w.now) words.entry.now)) }
-    ensures refused { IfErr result (λ e. e ≢ SettingsError.Memory
-        → (e ≡ SettingsError.Line) × (is_line (map (λ w. w.now) words.entry.now) ≡ false)) }
+    ensures refused { IfErr result (λ e. refusal_of (kind_of e) ≢ SettingsError.Memory
+        → (refusal_of (kind_of e) ≡ SettingsError.Line)
+        × (is_line (map (λ w. w.now) words.entry.now) ≡ false)) }
 {
-    match command(alloc)?.try_get_matches_from(words) {
-        Ok(matches) => Ok(matches),
-        Err(error) => Err(refusal(error.kind())),
-    }
+    command(alloc)?.try_get_matches_from(words)
 }
 
 fn refusal(kind: ErrorKind) -> SettingsError
@@ -89,38 +99,36 @@ fn refusal(kind: ErrorKind) -> SettingsError
 }
 
 // `--name N`, with a default.
-fn option<'a>(alloc: Global, name: &'a str, default: &'a str) -> Arg<'a>
-    ensures rule { rule_of result ≡ option_rule name.entry.now default.entry.now }
-    ensures local { result.global ≡ false }
+fn with_option<'a>(
+    command: Command<'a>,
+    alloc: Global,
+    name: &'a str,
+    default: &'a str,
+) -> Result<Command<'a>, AllocError>
+    ensures { IfOk result (λ c. app_of c
+        ≡ with_rule (app_of command.entry) (option_rule name.entry.now default.entry.now)) }
 {
-    Arg::new(alloc, name)
+    let option = Arg::new(alloc, name)
         .long(name)
         .value_name("N")
-        .default_value(default)
+        .default_value(default);
+    command.arg(option)
 }
 
 // Each word that belongs to no option.
-fn other_words<'a>(alloc: Global) -> Arg<'a>
-    ensures rule { rule_of result ≡ file_rule }
-    ensures local { result.global ≡ false }
+fn with_files<'a>(command: Command<'a>, alloc: Global) -> Result<Command<'a>, AllocError>
+    ensures { IfOk result (λ c. app_of c ≡ with_rule (app_of command.entry) file_rule) }
 {
-    Arg::new(alloc, "file").action(ArgAction::Append)
+    command.arg(Arg::new(alloc, "file").action(ArgAction::Append))
 }
 
-fn with_arg<'a>(command: Command<'a>, arg: Arg<'a>) -> Result<Command<'a>, AllocError>
-    requires { arg.global ≡ false }
-    ensures { IfOk result (λ c. app_of c ≡ with_rule (app_of command.entry) (rule_of arg.entry)) }
-{
-    command.arg(arg)
-}
-
-pub(crate) fn command<'a>(alloc: Global) -> Result<Command<'a>, AllocError>
+fn command<'a>(alloc: Global) -> Result<Command<'a>, AllocError>
     ensures { IfOk result (λ c. app_of c ≡ rosm) }
 {
     let named = Command::new(alloc, "rosm");
-    let pages = with_arg(named, option(alloc, "pages", "256"))?;
-    let app = with_arg(pages, option(alloc, "app", "64"))?;
-    let rma = with_arg(app, option(alloc, "rma", "16"))?;
-    let budget = with_arg(rma, option(alloc, "budget", "1000000"))?;
-    with_arg(budget, other_words(alloc))
+    let pages = with_option(named, alloc, "pages", "256")?;
+    let app = with_option(pages, alloc, "app", "64")?;
+    let rma = with_option(app, alloc, "rma", "16")?;
+    let budget = with_option(rma, alloc, "budget", "1000000")?;
+    with_files(budget, alloc)
 }

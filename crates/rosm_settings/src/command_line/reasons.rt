@@ -5,7 +5,7 @@ ghost use Rattle.clap.specs.Words.{found_of, kind_of, rows_of};
 ghost use Rattle.rosm_settings.specs.command_line.Settings.{is_line, is_memory, rows_for};
 ghost use Rattle.rosm_settings.specs.command_line.Reasons.{ShowsBadNumber, ShowsNumber, few_pages_text, sizes_text, option_text_of, wrong_option};
 
-use crate::command_line::reading::{command, size};
+use crate::command_line::reading::{matches_for, size};
 use clap::ArgMatches;
 use clap::error::{Error, ErrorKind};
 use profile::memory_map::{MOST_PAGES, SYSTEM_PAGES};
@@ -27,7 +27,7 @@ pub fn line_reason(alloc: Global, words: &[&str]) -> Result<String, AllocError>
     ensures { is_line (map (λ w. w.now) words.now) ≡ true → IfOk result (λ reason.
         ShowsNumber (rows_for (map (λ w. w.now) words.now)) (string_bytes reason)) }
 {
-    match command(alloc)?.try_get_matches_from(words) {
+    match matches_for(alloc, words) {
         Ok(matches) => number_reason(alloc, &matches),
         Err(error) => words_reason(alloc, &error),
     }
@@ -59,7 +59,7 @@ pub fn sizes_reason(alloc: Global, words: &[&str]) -> Result<String, AllocError>
     ensures { is_line (map (λ w. w.now) words.now) ≡ true → IfOk result (λ reason.
         string_bytes reason ≡ sizes_text (rows_for (map (λ w. w.now) words.now))) }
 {
-    match command(alloc)?.try_get_matches_from(words) {
+    match matches_for(alloc, words) {
         Ok(matches) => bad_size(alloc, &matches),
         Err(error) => words_reason(alloc, &error),
     }
