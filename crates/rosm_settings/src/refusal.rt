@@ -50,10 +50,11 @@ impl fmt::Display for SettingsRefusal<'_> {
         match self {
             SettingsRefusal::Memory => f.write_str("out of memory"),
             SettingsRefusal::NotText => write!(f, "a word is not text in UTF-8; {USAGE}"),
-            SettingsRefusal::Line(reason) => write!(f, "{reason}; {USAGE}"),
-            SettingsRefusal::Sizes(reason) => write!(f, "{reason}; {USAGE}"),
+            SettingsRefusal::Line(reason) | SettingsRefusal::Sizes(reason) => {
+                write!(f, "{reason}; {USAGE}")
+            }
             SettingsRefusal::File(path, error) => write!(f, "{path:?}: {error}"),
-            SettingsRefusal::Script(error) => write!(f, "{error}"),
+            SettingsRefusal::Script(error) => fmt::Display::fmt(error, f),
         }
     }
 }

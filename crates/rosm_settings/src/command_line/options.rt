@@ -40,13 +40,13 @@ impl fmt::Display for SettingsError {
     ghost output = { λ error. Some (settings_error_text error) };
 
     fn fmt<W: fmt::Write>(&self, f: &mut fmt::Formatter<W>) -> fmt::Result {
-        match self {
-            SettingsError::Memory => f.write_str("out of memory"),
-            SettingsError::Line => f.write_str(USAGE),
-            SettingsError::Sizes => f.write_str(
-                "sizes: --app and --rma at least 1, --pages at most 1024 and at least app + rma + 3",
-            ),
-        }
+        f.write_str(match self {
+            SettingsError::Memory => "out of memory",
+            SettingsError::Line => USAGE,
+            SettingsError::Sizes => {
+                "sizes: --app and --rma at least 1, --pages at most 1024 and at least app + rma + 3"
+            }
+        })
     }
 }
 
