@@ -1,11 +1,12 @@
 -- The words that are left to be looked at, one after another.
-use Rattle.std.proofs.Common.{◌≡◌, ◌≤◌, ◌<◌, ◌+◌, ℕ, Bool, true, false, ◌||◌, List, [], length, get_or, drop, map, refl, sym, ap, ◌∙◌}
+use Rattle.std.proofs.Common.{◌≡◌, ◌≤◌, ◌<◌, ◌+◌, ℕ, Bool, true, false, ◌||◌, ◌++◌, ◌∷◌, List, [], length, get_or, drop, map, refl, sym, ap, append-nil, append_assoc, ◌∙◌}
 use Rattle.std.specs.Prelude.{codes, if◌then◌else◌}
 use Rattle.std.specs.Str.{bytes_eq}
 use Rattle.std.proofs.lemmas.List.{at_drop_more, at_drop_all}
 use denote.Ref.{Bor}
-use Rattle.rosm_settings.specs.gdb.Options.{any_sets_budget, asks_to_stay, sets_budget, stays_from, and_machine_word, and_start_path, gdb_word_after, is_machine_word, last_gdb_word, machine_words_from, start_paths_from}
+use Rattle.rosm_settings.specs.gdb.Options.{any_sets_budget, asks_to_stay, sets_budget, stays_from, and_machine_word, and_start_path, gdb_word_after, is_machine_word, is_start_path, last_gdb_word, machine_words_from, start_paths_from}
 use Rattle.rosm_settings.specs.declared.gdb.options.GdbWord.{GdbWord}
+use Rattle.rosm_settings.specs.declared.gdb.options.GdbWord.TheVariants as taken
 
 abbrev word_texts : List (Bor (List ℕ)) → List (List ℕ)
 word_texts words = map (λ (w : Bor (List ℕ)). w.now) words
@@ -56,6 +57,60 @@ stays_more stays t words place d within =
 pub stays_end : (t : GdbWord) (words : List (Bor (List ℕ))) (place : ℕ) → length words ≤ place
     → stays_from t (word_texts (drop place words)) ≡ false
 stays_end t words place all = at_drop_all (λ (ws : List (Bor (List ℕ))). stays_from t (word_texts ws)) words place all
+
+and_word_behind : (b : Bool) (old : List (List ℕ)) (word : List ℕ) (rest : List (List ℕ))
+    → (old ++ and_machine_word b word []) ++ rest ≡ old ++ and_machine_word b word rest
+and_word_behind true old word rest = append_assoc old (word ∷ []) rest
+and_word_behind false old word rest = ap (λ (ws : List (List ℕ)). ws ++ rest) (append-nil old)
+
+path_is_word : (t : GdbWord) (word : List ℕ) (rest : List (List ℕ))
+    → and_machine_word (is_start_path t) word rest ≡ and_start_path t word rest
+path_is_word taken.Path word rest = refl
+path_is_word taken.Option word rest = refl
+path_is_word taken.File word rest = refl
+
+-- what is shown of all words stays the same when the next one is put where it belongs
+module _ (t after : GdbWord) (words : List (Bor (List ℕ))) (place : ℕ) (d : Bor (List ℕ)) (within : place < length words)
+    (of_after : after ≡ gdb_word_after t (get_or words place d).now) where
+  pub paths_kept : (old new all : List (List ℕ)) (b : Bool) → b ≡ is_start_path t
+      → new ≡ old ++ and_machine_word b (get_or words place d).now []
+      → old ++ start_paths_from t (word_texts (drop place words)) ≡ all
+      → new ++ start_paths_from after (word_texts (drop (place + 1) words)) ≡ all
+  paths_kept old new all b of_b of_new kept =
+      let word : List ℕ = (get_or words place d).now in
+      let rest : List (List ℕ) = start_paths_from (gdb_word_after t word) (word_texts (drop (place + 1) words)) in
+      ap (λ (ws : List (List ℕ)). ws ++ start_paths_from after (word_texts (drop (place + 1) words))) of_new
+      ∙ ap (λ (n : GdbWord). (old ++ and_machine_word b word []) ++ start_paths_from n (word_texts (drop (place + 1) words))) of_after
+      ∙ and_word_behind b old word rest
+      ∙ ap (λ (x : Bool). old ++ and_machine_word x word rest) of_b
+      ∙ ap (λ (ws : List (List ℕ)). old ++ ws) (path_is_word t word rest ∙ sym (paths_more t words place d within)) ∙ kept
+
+  pub machine_kept : (old new all : List (List ℕ)) (b : Bool) → b ≡ is_machine_word t (get_or words place d).now
+      → new ≡ old ++ and_machine_word b (get_or words place d).now []
+      → old ++ machine_words_from t (word_texts (drop place words)) ≡ all
+      → new ++ machine_words_from after (word_texts (drop (place + 1) words)) ≡ all
+  machine_kept old new all b of_b of_new kept =
+      let word : List ℕ = (get_or words place d).now in
+      let rest : List (List ℕ) = machine_words_from (gdb_word_after t word) (word_texts (drop (place + 1) words)) in
+      ap (λ (ws : List (List ℕ)). ws ++ machine_words_from after (word_texts (drop (place + 1) words))) of_new
+      ∙ ap (λ (n : GdbWord). (old ++ and_machine_word b word []) ++ machine_words_from n (word_texts (drop (place + 1) words))) of_after
+      ∙ and_word_behind b old word rest
+      ∙ ap (λ (x : Bool). old ++ and_machine_word x word rest) of_b
+      ∙ ap (λ (ws : List (List ℕ)). old ++ ws) (sym (machine_more t words place d within)) ∙ kept
+
+  pub last_kept : (all : GdbWord) → last_gdb_word t (word_texts (drop place words)) ≡ all
+      → last_gdb_word after (word_texts (drop (place + 1) words)) ≡ all
+  last_kept all kept =
+      ap (λ (n : GdbWord). last_gdb_word n (word_texts (drop (place + 1) words))) of_after
+      ∙ sym (last_more t words place d within) ∙ kept
+
+  pub stays_kept : (old new all : Bool) → new ≡ (old || asks_to_stay t (get_or words place d).now)
+      → (old || stays_from t (word_texts (drop place words))) ≡ all
+      → (new || stays_from after (word_texts (drop (place + 1) words))) ≡ all
+  stays_kept old new all of_new kept =
+      ap (λ (b : Bool). b || stays_from after (word_texts (drop (place + 1) words))) of_new
+      ∙ ap (λ (n : GdbWord). (old || asks_to_stay t (get_or words place d).now) || stays_from n (word_texts (drop (place + 1) words))) of_after
+      ∙ stays_more old t words place d within ∙ kept
 
 pub ruleset option_steps =
     (paths_more, paths_end, machine_more, machine_end, last_more, last_end, stays_more, stays_end)

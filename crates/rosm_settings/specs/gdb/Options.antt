@@ -49,6 +49,12 @@ and_start_path taken.Path word more = word ∷ more
 and_start_path taken.Option word more = more
 and_start_path taken.File word more = more
 
+-- whether a word is the path of a script
+abbrev pub is_start_path : GdbWord → Bool
+is_start_path taken.Path = true
+is_start_path taken.Option = false
+is_start_path taken.File = false
+
 -- the paths of scripts, in order
 abbrev pub start_paths_from : GdbWord → List (List ℕ) → List (List ℕ)
 start_paths_from t [] = []

@@ -1,7 +1,7 @@
 //! The words that are the subcommand's own: `--script`, with the path that follows it, and `--stay`.
 
-ghost use Rattle.std.specs.Prelude.{◌≡◌, IfOk, map};
-ghost use Rattle.rosm_settings.specs.gdb.Options.{asks_to_stay, gdb_word_after, is_machine_word, last_gdb_word, machine_words_from, start_paths_from, stays_from};
+ghost use Rattle.std.specs.Prelude.{◌≡◌, ◌++◌, [], IfOk, OnOk, map};
+ghost use Rattle.rosm_settings.specs.gdb.Options.{and_machine_word, asks_to_stay, gdb_word_after, is_machine_word, is_start_path, last_gdb_word, machine_words_from, start_paths_from, stays_from};
 ghost use Rattle.rosm_settings.specs.declared.gdb.options.GdbWord.TheVariants.{Option as expects_option};
 
 use std::alloc::{AllocError, Global};
@@ -54,12 +54,8 @@ pub(crate) fn part_words<'a>(
     let mut stays = false;
     let mut next = GdbWord::Option;
     for word in words {
-        if next == GdbWord::Path {
-            paths.push(*word)?;
-        }
-        if is_machine_word(next, word.as_bytes()) {
-            others.push(*word)?;
-        }
+        push_if(&mut paths, is_start_path(next), *word)?;
+        push_if(&mut others, is_machine_word(next, word.as_bytes()), *word)?;
         stays = stays || asks_to_stay(next, word.as_bytes());
         next = gdb_word_after(next, word.as_bytes());
     }
@@ -69,6 +65,31 @@ pub(crate) fn part_words<'a>(
         stays,
         next,
     })
+}
+
+// Puts a word behind those of a list, where it is to stand there.
+fn push_if<'a>(
+    words: &mut Vec<&'a str>,
+    stands_there: bool,
+    word: &'a str,
+) -> Result<(), AllocError>
+    ensures { OnOk result (map (λ w. w.now) words.new.items
+        ≡ map (λ w. w.now) words.old.items ++ and_machine_word stands_there word.entry.now []) }
+{
+    if stands_there {
+        words.push(word)?;
+    }
+    Ok(())
+}
+
+// Whether a word is the path of a script.
+fn is_start_path(taken: GdbWord) -> bool
+    ensures { result ≡ is_start_path taken }
+{
+    match taken {
+        GdbWord::Path => true,
+        GdbWord::Option | GdbWord::File => false,
+    }
 }
 
 // Whether a word is one of `rosm`'s.

@@ -77,6 +77,25 @@ fn wanted_of(alloc: Global, words: &[String]) -> Result<WantedGdb, GdbRefusal<'s
     let Some(path) = path_of(&parted) else {
         return Err(refused_line(alloc, "--script takes the path of a file, once"));
     };
+    wanted_with(alloc, path, &parted)
+}
+
+// What words ask for, by the path of their script and their parts.
+fn wanted_with(
+    alloc: Global,
+    path: Option<&str>,
+    parted: &PartedGdbWords<'_>,
+) -> Result<WantedGdb, GdbRefusal<'static>>
+    ensures script { IfOk result (λ wanted.
+        option_map string_bytes wanted.script ≡ option_map (λ w. w.now) path.entry) }
+    ensures settings { IfOk result (λ wanted.
+        settings_for (map (λ w. w.now) parted.now.others.items) ≡ Ok wanted.settings) }
+    ensures most { IfOk result (λ wanted. wanted.most
+        ≡ most_wanted (map (λ w. w.now) parted.now.others.items) wanted.settings.budget) }
+    ensures stays { IfOk result (λ wanted. wanted.stays ≡ parted.now.stays) }
+    ensures refused { IfErr result
+        (IsMachineRefusal (settings_for (map (λ w. w.now) parted.now.others.items))) }
+{
     let script = match path {
         Some(path) => Some(String::from_str(alloc, path)?),
         None => None,

@@ -1,4 +1,4 @@
-use Rattle.std.proofs.Common.{◌∙◌, ◌≡◌, Bool, Err, ap, sym}
+use Rattle.std.proofs.Common.{◌∙◌, Bool, Err, ap, sym}
 use Rattle.std.specs.Prelude.{if◌then◌else◌, map}
 use Rattle.rosm_settings.specs.declared.command_line.options.SettingsError.TheVariants.{Line}
 use Rattle.rosm_settings.specs.command_line.Settings.{refusal_of, rows_for, settings_for, settings_in}
