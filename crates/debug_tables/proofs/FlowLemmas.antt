@@ -17,7 +17,6 @@ use Rattle.arm_decode.specs.Names.{indexing_of}
 use Rattle.arm_decode.specs.Refusals.{is_test, refusal, writes_base}
 use Rattle.arm_decode.specs.Table.{form_of}
 use Rattle.arm_decode.specs.declared.action.Action.{Action}
-use Rattle.arm_decode.specs.declared.action.Action.TheVariants as action
 use Rattle.arm_decode.specs.declared.action.BlockTransfer.{BlockTransfer}
 use Rattle.arm_decode.specs.declared.action.Operate.{Operate}
 use Rattle.arm_decode.specs.declared.action.Transfer.{Transfer}

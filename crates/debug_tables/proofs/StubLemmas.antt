@@ -1,7 +1,7 @@
 -- What a stub does is a step.
 use Rattle.std.proofs.lemmas.Bool.{cases_Bool, eqb-true}
 use Rattle.std.proofs.lemmas.List.{drop_more}
-use Rattle.std.proofs.Common.{◌≡◌, ℕ, ◌+◌, ◌-◌, ◌<◌, drop, get_or, length, Bool, true, false, List, [], ◌∷◌, Option, Some, None, Result, Ok, Err, if◌then◌else◌, refl, sym, ap, ◌∙◌, ◌⊎◌, inl, inr}
+use Rattle.std.proofs.Common.{◌≡◌, ℕ, ◌+◌, ◌-◌, ◌<◌, drop, get_or, length, Bool, true, false, List, [], ◌∷◌, Option, Some, None, Result, Ok, Err, if◌then◌else◌, refl, sym, ap, ◌∙◌, inl, inr}
 use Rattle.std.specs.Prelude.{◌==◌, is_some}
 use Rattle.std.specs.Option.{option_map}
 use Rattle.address_map.specs.Bytes.{ok_unless_fault, word_loaded}
@@ -21,7 +21,7 @@ use Rattle.command_shell.specs.Memory.{script_at, script_with_bank_register, scr
 use Rattle.command_shell.specs.State.{ScriptState}
 use Rattle.command_shell.specs.Stub.{Stub}
 use Rattle.debug_tables.specs.byte_writes.Put.{bytes_fit, put_fault, script_after_put, script_with_bytes}
-use Rattle.debug_tables.specs.Stubs.{StubDeedState, deed_ahead, deed_next, deed_of_swi, deed_that_fits, deed_unless_empty, deed_unless_fetched, deed_unless_halted, machine_after_deed, machine_after_put, machine_with_settings, script_after_deed, script_or, script_with_settings, step_or_deed, stub_end, stubbed_step, swi_in_turn, swi_next}
+use Rattle.debug_tables.specs.Stubs.{StubDeedState, deed_ahead, deed_next, deed_of_swi, deed_that_fits, deed_unless_empty, deed_unless_fetched, deed_unless_halted, is_known_swi, machine_after_deed, machine_after_put, machine_with_settings, script_after_deed, script_or, script_with_settings, step_or_deed, stub_end, stub_numbered, stub_unless_known, stubbed_step, swi_in_turn, swi_next}
 use Rattle.debug_tables.specs.declared.stub_deeds.BankSetting.{BankSetting}
 use Rattle.debug_tables.proofs.AheadLemmas.{swi_of_step}
 
@@ -163,6 +163,16 @@ next_by_swi stubs m swi other is =
     ∙ sym (ap (λ (b : Bool). if b
     then deed_unless_fetched m.cpu m.store.bytes (word_loaded m.store.bytes m.cpu.pc)
     else deed_of_swi stubs m (swi_in_turn (result_of_instruction m))) (not_at_end m other))
+
+-- a stub of a call that the machine has is none
+pub none_known : (stubs : List Stub) (m : MachineState) (number : ℕ) → is_known_swi m number ≡ true
+    → stub_unless_known stubs m number ≡ None
+none_known stubs m number known = ap (λ (b : Bool). if b then None else stub_numbered number stubs) known
+
+pub numbered_unless_known : (stubs : List Stub) (m : MachineState) (number : ℕ) → is_known_swi m number ≡ false
+    → stub_unless_known stubs m number ≡ stub_numbered number stubs
+numbered_unless_known stubs m number other =
+    ap (λ (b : Bool). if b then None else stub_numbered number stubs) other
 
 -- one register more is set
 pub next_set : (xs : List BankSetting) (i : ℕ) (x : BankSetting) (s : ScriptState) → i < length xs → x ≡ get_or xs i x

@@ -2,8 +2,7 @@
 
 ghost use Rattle.std.specs.Prelude.{◌≡◌};
 ghost use Rattle.address_map.specs.Memory.{bytes_of};
-ghost use Rattle.arm_decode.specs.Table.{form_of};
-ghost use Rattle.debug_tables.specs.Stubs.{has_swi_form, is_known_swi, swi_next, swi_in_action, swi_in_word};
+ghost use Rattle.debug_tables.specs.Stubs.{is_known_swi, swi_next, swi_in_word};
 ghost use Rattle.command_shell.specs.GuestState.{state_of};
 
 use address_map::AddressMap;
@@ -28,18 +27,11 @@ pub(crate) fn swi_next(cpu: &Cpu, memory: &AddressMap) -> Option<u32>
 fn swi_in_word(psr: Psr, word: u32) -> Option<u32>
     ensures { result ≡ swi_in_word psr word }
 {
-    if is_swi(word) {
-        swi_if_met(psr, word)
-    } else {
-        None
+    // Whether a word is a SWI its form says: few words are decoded.
+    match row_of(word) {
+        Ok(Form::SoftwareInterrupt) => swi_if_met(psr, word),
+        _ => None,
     }
-}
-
-// Whether a word is a SWI, which its form says: few words are decoded.
-fn is_swi(word: u32) -> bool
-    ensures { result ≡ has_swi_form (form_of word) }
-{
-    matches!(row_of(word), Ok(Form::SoftwareInterrupt))
 }
 
 fn swi_if_met(psr: Psr, word: u32) -> Option<u32>
@@ -49,17 +41,11 @@ fn swi_if_met(psr: Psr, word: u32) -> Option<u32>
         return None;
     }
     match decode(word) {
-        Ok(instr) => swi_in_action(instr.action()),
+        Ok(instr) => match instr.action() {
+            Action::SoftwareInterrupt(number) => Some(number.number()),
+            _ => None,
+        },
         Err(_) => None,
-    }
-}
-
-fn swi_in_action(action: Action) -> Option<u32>
-    ensures { result ≡ swi_in_action action }
-{
-    match action {
-        Action::SoftwareInterrupt(number) => Some(number.number()),
-        _ => None,
     }
 }
 

@@ -243,7 +243,10 @@ fn deed_back(cpu: &Cpu, memory: &AddressMap) -> Option<StubDeed>
     ensures { result ≡ deed_back cpu.now (bytes_of memory.now) }
 {
     let at = cpu.register_in(Mode::Supervisor, 13);
-    let [r10, r11, r12, back, own] = words_found(memory, at)?;
+    let Some(words) = words_found(memory, at) else {
+        return None;
+    };
+    let [r10, r11, r12, back, own] = words;
     if own - own % 2 != at {
         return None;
     }
@@ -258,13 +261,18 @@ fn deed_back(cpu: &Cpu, memory: &AddressMap) -> Option<StubDeed>
 fn words_found(memory: &AddressMap, at: u32) -> Option<[u32; 5]>
     ensures { result ≡ words_found (bytes_of memory.now) at }
 {
-    Some([
-        mapped_word(memory, at)?,
-        mapped_word(memory, at.wrapping_add(4))?,
-        mapped_word(memory, at.wrapping_add(8))?,
-        mapped_word(memory, at.wrapping_add(12))?,
-        mapped_word(memory, at.wrapping_add(16))?,
-    ])
+    match (
+        mapped_word(memory, at),
+        mapped_word(memory, at.wrapping_add(4)),
+        mapped_word(memory, at.wrapping_add(8)),
+        mapped_word(memory, at.wrapping_add(12)),
+        mapped_word(memory, at.wrapping_add(16)),
+    ) {
+        (Some(r10), Some(r11), Some(r12), Some(back), Some(own)) => {
+            Some([r10, r11, r12, back, own])
+        }
+        _ => None,
+    }
 }
 
 // An error goes on at the instruction that generates it.

@@ -60,7 +60,7 @@ impl Model for Stubs {
 }
 
 impl Stubs {
-    ghost use Rattle.debug_tables.specs.Stubs.{deed_ahead, deed_next, stub_numbered, stub_place, stub_unless_known, with_stub, without_stub};
+    ghost use Rattle.debug_tables.specs.Stubs.{deed_ahead, deed_next, stub_numbered, stub_place, with_stub, without_stub};
 
     /// No stub.
     pub fn new() -> Stubs
@@ -112,9 +112,13 @@ impl Stubs {
     pub fn remove(&mut self, number: u32) -> Result<(), StubError>
         ensures { Leaves self.old (without_stub self.old number) result self.new }
     {
-        let place = self.place_of(number).ok_or(StubError::NoStub)?;
-        self.table.remove(place);
-        Ok(())
+        match self.place_of(number) {
+            Some(place) => {
+                self.table.remove(place);
+                Ok(())
+            }
+            None => Err(StubError::NoStub),
+        }
     }
 
     /// The same stubs once more.
@@ -167,16 +171,11 @@ impl Stubs {
             return deed_unless_fetched(cpu, memory);
         }
         let swi = swi_next(cpu, memory)?;
-        let stub = self.unless_known(machine, without_x_bit(swi))?;
-        Some(deed_of_stub(stub, cpu, swi))
-    }
-
-    fn unless_known(&self, machine: &Machine, number: u32) -> Option<&Stub>
-        ensures { option_copied result ≡ stub_unless_known self.now (state_of machine.now.guest) number }
-    {
+        let number = without_x_bit(swi);
         if is_known_swi(machine, number) {
             return None;
         }
-        self.numbered(number)
+        let stub = self.numbered(number)?;
+        Some(deed_of_stub(stub, cpu, swi))
     }
 }

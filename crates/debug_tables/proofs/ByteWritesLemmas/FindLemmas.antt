@@ -2,7 +2,7 @@
 use Rattle.std.proofs.Common.{◌≡◌, ℕ, zero, suc, ◌+◌, ◌-◌, ◌≤◌, Bool, true, false, List, [], ◌∷◌, ◌++◌, length, take, ap, sym, ◌∙◌, arith, refl}
 use Rattle.std.specs.Int.{from_bool}
 use Rattle.std.specs.List.{filter, flat_map}
-use Rattle.std.specs.Prelude.{nat_lt, ◌&&◌, if◌then◌else◌}
+use Rattle.std.specs.Prelude.{nat_lt, if◌then◌else◌}
 use Rattle.profile.specs.Sums.{address_further}
 use Rattle.address_map.specs.Bytes.{Bytes}
 use Rattle.debug_tables.specs.byte_writes.Find.{addresses_from, place_text, byte_places, shown_place, stand_at}

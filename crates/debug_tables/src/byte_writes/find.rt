@@ -8,7 +8,7 @@ ghost use Rattle.address_map.specs.Memory.{bytes_of};
 ghost use Rattle.profile.specs.Output.{Writes};
 ghost use Rattle.command_shell.specs.NamedBytes.{named_bytes, or_no_bytes};
 ghost use Rattle.command_shell.specs.GuestState.{state_of};
-ghost use Rattle.debug_tables.specs.byte_writes.Find.{find_text, is_byte, more_places_text, place_text, byte_places, shown_place, stand_at};
+ghost use Rattle.debug_tables.specs.byte_writes.Find.{find_text, is_byte, place_text, byte_places, shown_place, stand_at};
 
 use address_map::AddressMap;
 use command_shell::{Machine, bytes_named};
@@ -59,7 +59,13 @@ fn show_find<W: Sink>(
     if found == 0 {
         return push_all(sink, b"not found\n");
     }
-    push_more(found.saturating_sub(MOST_SHOWN), sink)
+    let more = found.saturating_sub(MOST_SHOWN);
+    if more == 0 {
+        return Ok(());
+    }
+    let mut digits = Buffer::new();
+    let shown = digits.format(more).as_bytes();
+    push_parts(sink, &[b".. ".as_slice(), shown, b" more\n".as_slice()])
 }
 
 // The first places, and how many there are in all.
@@ -101,17 +107,6 @@ fn show_place<W: Sink>(
     let digits = HexText::number(address);
     let shown = digits.as_slice();
     push_parts(sink, &[b"found &".as_slice(), shown, b"\n".as_slice()])
-}
-
-fn push_more<W: Sink>(count: u32, sink: &mut W) -> Result<(), WriteFault>
-    ensures { Writes W.contents W.has_failed sink.old sink.new result (more_places_text count) }
-{
-    if count == 0 {
-        return Ok(());
-    }
-    let mut digits = Buffer::new();
-    let shown = digits.format(count).as_bytes();
-    push_parts(sink, &[b".. ".as_slice(), shown, b" more\n".as_slice()])
 }
 
 // Whether bytes stand at an address.

@@ -1,7 +1,7 @@
 //! The words that bytes lie in: where they refuse, and how they are stored.
 
 ghost use Rattle.std.specs.Prelude.{◌≡◌, ◌<◌, ◌≤◌, ◌+◌, ◌%◌, ◌^◌, None, List, length};
-ghost use Rattle.address_map.specs.Bytes.{store_fault as store_fault_shown, with_bytes_at};
+ghost use Rattle.address_map.specs.Bytes.{with_bytes_at};
 ghost use Rattle.address_map.specs.Memory.{byte_at, bytes_of, is_owned};
 ghost use Rattle.debug_tables.specs.byte_writes.Put.{IsWordOf, bytes_fit, put_fault as put_fault_shown, script_after_put, script_with_bytes, word_count as word_count_shown, words_fault as words_fault_shown};
 ghost use Rattle.command_shell.specs.Session.{script_state};
@@ -53,32 +53,23 @@ fn put_fault(machine: &Machine, at: u32, bytes: &[u8]) -> Option<Fault>
 }
 
 // The first fault that stores of so many words meet.
-#[tactic(auto, using(crate::proofs::ByteWritesLemmas::WordLemmas::fault_steps))]
+#[tactic(auto, using(crate::proofs::ByteWritesLemmas::WordLemmas::fault_steps), unfolding(address_map::specs::Bytes::byte_loaded))]
 fn words_fault(map: &AddressMap, start: u32, count: u64) -> Option<Fault>
     ensures { result ≡ words_fault_shown (is_owned map.now) (bytes_of map.now) start count }
 {
     let mut address = start;
     let mut left = count;
     while left > 0 {
-        if let Some(fault) = store_fault(map, address) {
+        if let Err(fault) = map.load_byte(address) {
             return Some(fault);
+        }
+        if map.owns(address) {
+            return Some(Fault::OwnedWord);
         }
         address += 4;
         left -= 1;
     }
     None
-}
-
-// The fault that a store of a word meets.
-#[tactic(auto, unfolding(address_map::specs::Bytes::byte_loaded))]
-fn store_fault(map: &AddressMap, address: u32) -> Option<Fault>
-    ensures reported { result ≡ store_fault_shown (is_owned map.now) (bytes_of map.now) address }
-    ensures inside { result ≡ None → address < 2 ^ 26 }
-{
-    if let Err(fault) = map.load_byte(address) {
-        return Some(fault);
-    }
-    map.owns(address).then_some(Fault::OwnedWord)
 }
 
 // How many words bytes lie in.

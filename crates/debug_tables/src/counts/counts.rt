@@ -1,7 +1,7 @@
 //! How often steps were taken at each word of memory, while they are counted.
 
-ghost use Rattle.std.specs.Prelude.{◌≡◌, OnErr, OnOk, IfOk, [], replicate};
-ghost use Rattle.debug_tables.specs.counts.Counts.{no_counts, no_pages, word_counted, zero_counts};
+ghost use Rattle.std.specs.Prelude.{◌≡◌, OnErr, OnOk, IfOk, replicate};
+ghost use Rattle.debug_tables.specs.counts.Counts.{no_counts, no_pages, zero_counts};
 
 use profile::memory_map::ADDRESS_LIMIT;
 use std::alloc::{AllocError, Global};
@@ -28,17 +28,8 @@ impl Model for CountPage {
 }
 
 impl CountPage {
-    ghost use Rattle.std.specs.Prelude.{[], slice_index_or};
-    ghost use Rattle.debug_tables.specs.counts.Counts.{counts_of_page, counts_with, page_counted};
-
-    // A page at whose words no step was taken.
-    fn new(alloc: Global) -> CountPage
-        ensures { result ≡ [] }
-    {
-        CountPage {
-            words: Vec::new(alloc),
-        }
-    }
+    ghost use Rattle.std.specs.Prelude.{slice_index_or};
+    ghost use Rattle.debug_tables.specs.counts.Counts.{page_counted};
 
     // How often steps were taken at a word.
     fn times(&self, word: usize) -> u32
@@ -51,34 +42,19 @@ impl CountPage {
     }
 
     // One step more at a word.
+    #[tactic(auto, using(crate::proofs::CountsLemmas::CountLemmas::counted_past))]
     fn count(&mut self, alloc: Global, word: usize) -> Result<(), AllocError>
         ensures counted { OnOk result (self.new ≡ page_counted self.old word) }
-        ensures same { OnErr result (self.new ≡ self.old) }
-    {
-        self.fill(alloc)?;
-        self.add(word);
-        Ok(())
-    }
-
-    // Takes the counts of the page where it has none yet.
-    fn fill(&mut self, alloc: Global) -> Result<(), AllocError>
-        ensures filled { OnOk result (self.new ≡ counts_of_page self.old) }
         ensures same { OnErr result (self.new ≡ self.old) }
     {
         if self.words.as_slice().is_empty() {
             self.words = zero_counts(alloc)?;
         }
-        Ok(())
-    }
-
-    #[tactic(auto, using(crate::proofs::CountsLemmas::CountLemmas::counted_past))]
-    fn add(&mut self, word: usize)
-        ensures { self.new ≡ counts_with self.old word }
-    {
         let times = self.times(word).saturating_add(1);
         if word < self.words.as_slice().len() {
             self.words[word] = times;
         }
+        Ok(())
     }
 }
 
@@ -148,24 +124,19 @@ impl StepCounts {
     /// # Errors
     ///
     /// Memory ran out.
+    #[tactic(auto, using(crate::proofs::CountsLemmas::CountLemmas::pages_past))]
     pub fn count(&mut self, address: u32) -> Result<(), AllocError>
         ensures { OnOk result (self.new ≡ step_counted self.old address) }
     {
         if !self.is_on {
             return Ok(());
         }
-        self.count_word((address / 4) as usize)
-    }
-
-    #[tactic(auto, using(crate::proofs::CountsLemmas::CountLemmas::pages_past))]
-    fn count_word(&mut self, word: usize) -> Result<(), AllocError>
-        ensures { OnOk result (self.new ≡ word_counted self.old word) }
-    {
+        let word = (address / 4) as usize;
         let page = word / PAGE_WORDS;
-        if page < self.pages.len() {
-            self.pages[page].count(self.alloc, word % PAGE_WORDS)?;
+        if page >= self.pages.len() {
+            return Ok(());
         }
-        Ok(())
+        self.pages[page].count(self.alloc, word % PAGE_WORDS)
     }
 
     /// How often steps were taken at the word of an address.
@@ -197,15 +168,11 @@ fn zeros(alloc: Global, count: usize) -> Result<Vec<u32>, AllocError>
 fn no_pages(alloc: Global) -> Result<Vec<CountPage>, AllocError>
     ensures { IfOk result (λ pages. pages.items ≡ no_pages) }
 {
-    empty_pages(alloc, PAGES)
-}
-
-fn empty_pages(alloc: Global, count: usize) -> Result<Vec<CountPage>, AllocError>
-    ensures { IfOk result (λ pages. pages.items ≡ replicate count []) }
-{
     let mut pages = Vec::new(alloc);
-    for _page in 0..count {
-        pages.push(CountPage::new(alloc))?;
+    for _page in 0..PAGES {
+        pages.push(CountPage {
+            words: Vec::new(alloc),
+        })?;
     }
     Ok(pages)
 }

@@ -1,5 +1,5 @@
 -- By the places among the addresses that are left.
-use Rattle.std.proofs.Common.{◌≡◌, ℕ, suc, ◌+◌, ◌-◌, ◌%◌, ◌++◌, ◌∙◌, List, [], take, length, ap, sym, refl, arith}
+use Rattle.std.proofs.Common.{◌≡◌, ℕ, suc, ◌+◌, ◌-◌, ◌%◌, ◌++◌, ◌∙◌, take, length, ap, sym, refl, arith}
 use Rattle.std.specs.Int.{from_bool}
 use Rattle.std.specs.List.{flat_map}
 use Rattle.address_map.specs.Memory.{bytes_of}

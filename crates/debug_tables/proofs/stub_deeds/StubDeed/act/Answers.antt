@@ -1,4 +1,4 @@
-use Rattle.std.proofs.Common.{◌≡◌, ℕ, ◌-◌, [], ap, ◌∙◌, arith}
+use Rattle.std.proofs.Common.{ℕ, ◌-◌, [], ap, ◌∙◌, arith}
 use Rattle.command_shell.specs.Memory.{script_at, script_with_budget, script_with_status}
 use Rattle.command_shell.specs.Session.{script_state}
 use Rattle.command_shell.specs.State.{ScriptState}

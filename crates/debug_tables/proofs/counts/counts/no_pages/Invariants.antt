@@ -1,5 +1,5 @@
 use Rattle.std.proofs.Common.{◌≡◌, [], replicate}
-use Rattle.debug_tables.proofs.counts.counts.empty_pages.Given as goal
+use Rattle.debug_tables.proofs.counts.counts.no_pages.Given as goal
 
 -- so many pages so far
 abbrev pub invariant-loop-page : goal.invariant-loop-page
