@@ -59,13 +59,6 @@ impl KeptStep {
         })
     }
 
-    // All that can be shown of it.
-    fn whole(&self) -> &[u8]
-        ensures { result.now ≡ self.now.whole }
-    {
-        self.whole.as_slice()
-    }
-
     /// What it printed.
     pub(crate) fn printed(&self) -> &[u8]
         ensures { result.now ≡ self.now.printed }
@@ -183,7 +176,7 @@ fn push_steps(text: &mut TextSink, mut steps: VecDeque<KeptStep>) -> Result<(), 
         ≡ sink_text_of text.old ++ flat_map whole_text steps.items) }
 {
     while let Some(step) = steps.pop_front() {
-        push_all(text, step.whole())?;
+        push_all(text, step.whole.as_slice())?;
     }
     Ok(())
 }
