@@ -49,24 +49,10 @@ end_is s next o kept known printed made is all =
     ∙ (ap (λ (w : ScriptState). step_end_text known (outcome_with w.machine printed)) made
     ∙ ap (λ (p : List ℕ). step_end_text known (outcome_with o.now p)) all)
 
-pub step_answer : (label : Option (List ℕ)) (s next : ScriptState) (o : StepOutcome) (kept : Known) (t u v printed : List ℕ) → next ≡ step_made s o
-    → kept ≡ known_of label s.machine
-    → printed ≡ o.printed → u ≡ t ++ start_text label s.machine.cpu s.machine.store.bytes → v ≡ u ++ step_end_text kept (outcome_with next.machine printed)
-    → v ≡ t ++ step_text label s.machine o
-step_answer label s next o kept t u v printed made is all start behind =
-    behind
-    ∙ (ap (λ (xs : List ℕ). xs ++ step_end_text kept (outcome_with next.machine printed)) start
-    ∙ (append_assoc t (start_text label s.machine.cpu s.machine.store.bytes) (step_end_text kept (outcome_with next.machine printed))
-    ∙ ap (λ (xs : List ℕ). t ++ (start_text label s.machine.cpu s.machine.store.bytes ++ xs)) (end_is s next o kept (known_of label s.machine) printed made is all)))
-
-pub call_answer_behind : (call : OutsideCall) (s next : ScriptState) (o : StepOutcome) (kept : Known) (t u v printed : List ℕ) → next ≡ step_made s o
-    → kept ≡ known_outside s.machine → printed ≡ o.printed → u ≡ t ++ outside_start_text call s.machine
-    → v ≡ u ++ step_end_text kept (outcome_with next.machine printed) → v ≡ t ++ outside_text call s.machine o
-call_answer_behind call s next o kept t u v printed made is all start behind =
-    behind
-    ∙ (ap (λ (xs : List ℕ). xs ++ step_end_text kept (outcome_with next.machine printed)) start
-    ∙ (append_assoc t (outside_start_text call s.machine) (step_end_text kept (outcome_with next.machine printed))
-    ∙ ap (λ (xs : List ℕ). t ++ (outside_start_text call s.machine ++ xs)) (end_is s next o kept (known_outside s.machine) printed made is all)))
+pub ended_so : (s next : ScriptState) (o : StepOutcome) (kept : Known) (u v printed : List ℕ) → next ≡ step_made s o → printed ≡ o.printed
+    → v ≡ u ++ step_end_text kept (outcome_with next.machine printed) → v ≡ u ++ step_end_text kept o
+ended_so s next o kept u v printed made all behind =
+    behind ∙ ap (λ (xs : List ℕ). u ++ xs) (end_is s next o kept kept printed made refl all)
 
 -- what was shown, and what was printed, where the last call succeeded
 pub answer_pushed : {U E : Type 0} (r : Result U E) (old new : TraceWriter) (text printed piece : List ℕ) → sink_text_of new.text ≡ sink_text_of old.text ++ text
@@ -75,6 +61,22 @@ answer_pushed (Err f) old new text printed piece reported is pushed = tt
 answer_pushed (Ok u) old new text printed piece reported is pushed = record {
   text_answer = reported;
   all_printed = pushed ∙ ap (λ (xs : List ℕ). sink_text_of old.printed ++ xs) is;
+}
+
+-- how a step began that is shown, and how it ended
+pub start_first : {U E : Type 0} (r : Result U E) (old mid new last : TraceWriter) (start end same whole printed : List ℕ)
+    → sink_text_of mid.text ≡ sink_text_of old.text ++ start → sink_text_of mid.printed ≡ sink_text_of old.printed
+    → same ≡ end → whole ≡ start ++ end → sink_text_of last.text ≡ sink_text_of new.text → sink_text_of last.printed ≡ sink_text_of new.printed
+    → OnOk r (IsAnswerOn mid new same printed) → OnOk r (IsAnswerOn old last whole printed)
+start_first (Err f) old mid new last start end same whole printed first all is whole_is text_same printed_same reported = tt
+start_first (Ok u) old mid new last start end same whole printed first all is whole_is text_same printed_same reported = record {
+  text_answer = text_same
+      ∙ (reported.text_answer
+      ∙ (ap (λ (xs : List ℕ). sink_text_of mid.text ++ xs) is
+      ∙ (ap (λ (xs : List ℕ). xs ++ end) first
+      ∙ (append_assoc (sink_text_of old.text) start end
+      ∙ ap (λ (xs : List ℕ). sink_text_of old.text ++ xs) (sym whole_is)))));
+  all_printed = printed_same ∙ (reported.all_printed ∙ ap (λ (xs : List ℕ). xs ++ printed) all);
 }
 
 -- what a step printed that isn't shown

@@ -1,9 +1,8 @@
 //! One step of a session, shown or not shown.
 
-ghost use Rattle.std.specs.Io.KnownBytes.{Appends};
 ghost use Rattle.std.specs.Prelude.{◌≡◌, ◌<◌, ◌++◌, [], List, Some, IfOk, OnOk};
 ghost use Rattle.debug_tables.specs.Session.{script_state};
-ghost use Rattle.debug_tables.specs.GuestState.{state_of};
+ghost use Rattle.debug_tables.specs.GuestState.{IsState, state_of};
 ghost use Rattle.trace_text.specs.Start.{known_in};
 ghost use Rattle.trace_text.specs.Step.{known_outside};
 ghost use Rattle.profile.specs.images.Entries.{Entry};
@@ -43,7 +42,7 @@ pub(crate) struct TraceWriter {
 impl TraceWriter {
     ghost use Rattle.debug_tables.specs.Calls.{first_step, step_made};
     ghost use Rattle.debug_tables.specs.Step.{machine_step};
-    ghost use Rattle.trace_text.specs.Step.{step_text};
+    ghost use Rattle.trace_text.specs.Step.{ListsInside, step_end_text, step_text};
     ghost use Rattle.debug_runs.specs.Runs.{next_step, text_of_next};
     ghost use Rattle.debug_tables.specs.Stubs.{script_after_deed};
     ghost use Rattle.debug_runs.specs.TraceWriter.{answer_of_step, label_ahead, stub_step_text, whole_step_text};
@@ -66,6 +65,7 @@ impl TraceWriter {
     }
 
     /// Takes a step, or lets a stub answer it, and shows it where it is one of those that are shown.
+    #[tactic(auto, using(crate::proofs::TraceWriterLemmas::trace_writer_steps))]
     pub(crate) fn step(
         &mut self,
         session: &mut Session,
@@ -81,12 +81,17 @@ impl TraceWriter {
             (next_step modes s).printed) }
         ensures one_answer { OnOk result (self.new.reported ≡ one_answer self.old.reported) }
     {
-        self.take(session, context)?;
+        if is_step_shown(self.reported) {
+            self.take_answer(session, context)?;
+        } else {
+            self.take_untold(session, context)?;
+        }
         self.reported = one_answer(self.reported);
         Ok(())
     }
 
     /// Takes the first step of a call from outside, and shows it where a step is shown.
+    #[tactic(auto, using(crate::proofs::TraceWriterLemmas::trace_writer_steps))]
     pub(crate) fn begin(
         &mut self,
         session: &mut Session,
@@ -102,53 +107,13 @@ impl TraceWriter {
             (answer_of_step self.old.reported (outside_text call.entry s.machine o) o.printed) o.printed) }
         ensures one_answer { OnOk result (self.new.reported ≡ one_answer self.old.reported) }
     {
-        self.make(session, context.images, call)?;
+        if is_step_shown(self.reported) {
+            self.begin_answer(session, context.images, call)?;
+        } else {
+            self.begin_untold(session, context.images, call)?;
+        }
         self.reported = one_answer(self.reported);
         Ok(())
-    }
-
-    // Takes a step, shown or not shown.
-    #[tactic(auto, using(crate::proofs::TraceWriterLemmas::trace_writer_steps))]
-    fn take(&mut self, session: &mut Session, context: &StepContext<'_>) -> Result<(), WriteFault>
-        requires { 0 < (script_state session.old context.now.images.now).left }
-        ensures state { let s = script_state session.old context.now.images.now in OnOk result
-            (script_state session.new context.now.images.now
-            ≡ step_made s (next_step context.now.modes.now s)) }
-        ensures reported { let s = script_state session.old context.now.images.now in
-            let modes = context.now.modes.now in OnOk result
-            (IsAnswerOn self.old self.new (text_of_next modes context.now.labels.now self.old.reported s)
-            (next_step modes s).printed) }
-        ensures same { self.new.reported ≡ self.old.reported }
-    {
-        if is_step_shown(self.reported) {
-            self.take_answer(session, context)
-        } else {
-            self.take_untold(session, context)
-        }
-    }
-
-    // Takes the first step of a call, shown or not shown.
-    #[tactic(auto, using(crate::proofs::TraceWriterLemmas::trace_writer_steps))]
-    fn make(
-        &mut self,
-        session: &mut Session,
-        images: &Images,
-        call: OutsideCall,
-    ) -> Result<(), WriteFault>
-        requires { 0 < (script_state session.old images.now).left }
-        ensures state { let s = script_state session.old images.now in OnOk result
-            (script_state session.new images.now ≡ step_made s (first_step s call.entry)) }
-        ensures reported { let s = script_state session.old images.now in
-            let o = first_step s call.entry in OnOk result
-            (IsAnswerOn self.old self.new
-            (answer_of_step self.old.reported (outside_text call.entry s.machine o) o.printed) o.printed) }
-        ensures same { self.new.reported ≡ self.old.reported }
-    {
-        if is_step_shown(self.reported) {
-            self.begin_answer(session, images, call)
-        } else {
-            self.begin_untold(session, images, call)
-        }
     }
 
     fn take_answer(
@@ -191,16 +156,39 @@ impl TraceWriter {
     {
         let machine = session.machine();
         machine.known();
+        other_bytes_stay();
         let label = label_ahead(context.labels, machine);
         let scratch = self.scratch.take();
         let rooms = &mut self.rooms;
         let start = StepStart::print_step(machine, label, scratch, rooms, &mut self.text)?;
-        let mut printed = TextSink::new(self.alloc);
-        session.take_step(context.images, &mut printed)?;
-        session.machine().known();
-        other_bytes_stay();
-        start.print_taken(session.machine(), printed.bytes(), rooms, &mut self.text)?;
+        let taken = self.take_started(session, context.images, &start);
         self.scratch = start.into_scratch();
+        taken
+    }
+
+    // A step of which a trace has shown how it begins.
+    fn take_started(
+        &mut self,
+        session: &mut Session,
+        images: &Images,
+        start: &StepStart,
+    ) -> Result<(), WriteFault>
+        requires left { 0 < (script_state session.old images.now).left }
+        requires lists { let s = script_state session.old images.now in
+            let now = (machine_step images.now s.machine).now in
+            IsState now → ListsInside (known_in start.now) now }
+        ensures state { let s = script_state session.old images.now in OnOk result
+            (script_state session.new images.now ≡ step_made s (machine_step images.now s.machine)) }
+        ensures reported { let s = script_state session.old images.now in
+            let o = machine_step images.now s.machine in OnOk result
+            (IsAnswerOn self.old self.new (step_end_text (known_in start.now) o) o.printed) }
+        ensures same { self.new.reported ≡ self.old.reported }
+    {
+        let mut printed = TextSink::new(self.alloc);
+        session.take_step(images, &mut printed)?;
+        let machine = session.machine();
+        machine.known();
+        start.print_taken(machine, printed.bytes(), &mut self.rooms, &mut self.text)?;
         push_all(&mut self.printed, printed.bytes())
     }
 
@@ -269,11 +257,30 @@ impl TraceWriter {
             (IsAnswerOn self.old self.new (outside_text call.entry s.machine o) o.printed) }
         ensures same { self.new.reported ≡ self.old.reported }
     {
-        let alloc = self.alloc;
-        let start = print_outside(alloc, session.machine(), call, &mut self.text)?;
-        let mut printed = TextSink::new(alloc);
+        let start = print_outside(self.alloc, session.machine(), call, &mut self.text)?;
+        self.begin_started(session, images, call, &start)
+    }
+
+    // The first step of a call of which a trace has shown how it begins.
+    fn begin_started(
+        &mut self,
+        session: &mut Session,
+        images: &Images,
+        call: OutsideCall,
+        start: &StepStart,
+    ) -> Result<(), WriteFault>
+        requires { 0 < (script_state session.old images.now).left }
+        ensures state { let s = script_state session.old images.now in OnOk result
+            (script_state session.new images.now ≡ step_made s (first_step s call.entry)) }
+        ensures reported { let s = script_state session.old images.now in
+            let o = first_step s call.entry in OnOk result
+            (IsAnswerOn self.old self.new (step_end_text (known_in start.now) o) o.printed) }
+        ensures same { self.new.reported ≡ self.old.reported }
+    {
+        let mut printed = TextSink::new(self.alloc);
         session.begin_call(images, &mut printed, call)?;
-        start.print_end(alloc, session.machine(), printed.bytes(), &mut self.text)?;
+        let machine = session.machine();
+        start.print_end(self.alloc, machine, printed.bytes(), &mut self.text)?;
         push_all(&mut self.printed, printed.bytes())
     }
 
@@ -297,7 +304,7 @@ impl TraceWriter {
         self.push_untold(printed.bytes())
     }
 
-    // What a step printed that is not shown: most print nothing.
+    // What a step printed that is not shown, on a line of its own where other steps are: most print nothing.
     fn push_untold(&mut self, printed: &[u8]) -> Result<(), WriteFault>
         ensures reported { OnOk result
             (IsAnswerOn self.old self.new (untold_text self.old.reported printed.now) printed.now) }
@@ -306,7 +313,10 @@ impl TraceWriter {
         if printed.is_empty() {
             return Ok(());
         }
-        push_untold_text(self.alloc, self.reported, printed, &mut self.text)?;
+        match self.reported {
+            None => push_all(&mut self.text, printed)?,
+            Some(_) => push_prints_line(self.alloc, printed, &mut self.text)?,
+        }
         push_all(&mut self.printed, printed)
     }
 
@@ -338,22 +348,6 @@ fn one_answer(reported: Option<u64>) -> Option<u64>
     match reported {
         None => None,
         Some(limit) => Some(limit.saturating_sub(1)),
-    }
-}
-
-// What a step printed, as it stands where steps are not shown, else on a line of its own.
-fn push_untold_text<W: Sink>(
-    alloc: Global,
-    reported: Option<u64>,
-    printed: &[u8],
-    sink: &mut W,
-) -> Result<(), WriteFault>
-    ensures { OnOk result (Appends (W.contents sink.old) (W.contents sink.new)
-        (untold_text reported printed.now)) }
-{
-    match reported {
-        None => push_all(sink, printed),
-        Some(_) => push_prints_line(alloc, printed, sink),
     }
 }
 
