@@ -8,6 +8,7 @@ ghost use Rattle.debug_listing.specs.Requests.{module_request_of};
 ghost use Rattle.debug_modules.specs.Taking.{HasLineSteps};
 
 use crate::comparing::images_compared;
+use crate::context::LineContext;
 use crate::entering::{ModuleEntry, enter_code};
 use crate::plans::{CommandPlan, TAIL, command_plan, tail_bytes};
 use crate::services::{call_service, is_served};
@@ -67,115 +68,102 @@ pub fn answer_module_line(
         let text = module_described(alloc, session.machine().memory(), &info)?;
         return Ok(Some(ModuleAnswer::Shown(text)));
     };
-    let answer = answer_request(
-        alloc, budget, session, modes, past, images, labels, sources, number, &request,
-    )?;
-    Ok(Some(answer))
+    let context = LineContext {
+        alloc,
+        images,
+        labels,
+        budget,
+        number,
+    };
+    match answer_request(&context, session, modes, past, sources, &request) {
+        Ok(answer) => Ok(Some(answer)),
+        Err(error) => Err(error),
+    }
 }
 
 // What a line asks for is done, and answered.
 fn answer_request(
-    alloc: Global,
-    budget: u64,
+    context: &LineContext<'_>,
     session: &mut Session,
     modes: &mut DebugModes,
     past: &mut Past,
-    images: &Images,
-    labels: &LabelTable,
     sources: &Images,
-    number: u64,
     request: &ModuleRequest<'_>,
 ) -> Result<ModuleAnswer, AllocError>
-    ensures { let s = script_state session.old images.now in IfOk result (λ answer. IsModuleAnswered
-        (module_answered modes.old labels.now sources.now budget s past.old number
+    ensures { let images = context.now.images.now in let labels = context.now.labels.now in
+        let s = script_state session.old images in IfOk result (λ answer. IsModuleAnswered
+        (module_answered modes.old labels sources.now context.now.budget s past.old context.now.number
         (module_request_of request.now))
-        (script_state session.new images.now) modes.new past.new (shown_of answer)) }
+        (script_state session.new images) modes.new past.new (shown_of answer)) }
 {
-    match *request {
-        ModuleRequest::Command(name, tail) => answer_command(
-            alloc, budget, session, modes, past, images, labels, number, name, tail,
-        ),
-        ModuleRequest::Service(service, title) => answer_service(
-            alloc, budget, session, modes, past, images, labels, number, service, title,
-        ),
-        ModuleRequest::Commands => {
-            Ok(ModuleAnswer::Shown(commands_text(alloc, session.machine())?))
+    let alloc = context.alloc;
+    let text = match *request {
+        ModuleRequest::Command(name, tail) => {
+            return answer_command(context, session, modes, past, name, tail);
         }
-        ModuleRequest::Explain(is_on) => Ok(ModuleAnswer::Shown(modes.explain(alloc, is_on)?)),
+        ModuleRequest::Service(service, title) => {
+            return answer_service(context, session, modes, past, service, title);
+        }
+        ModuleRequest::Commands => commands_text(alloc, session.machine()),
+        ModuleRequest::Explain(is_on) => modes.explain(alloc, is_on),
         ModuleRequest::Listing(name) => {
-            let place = names_on(labels, session.machine()).image_place(name);
-            let (image, source) = (images.get(name), sources.get(name));
+            let place = names_on(context.labels, session.machine()).image_place(name);
+            let (image, source) = (context.images.get(name), sources.get(name));
             let start = place.map(|place| place.start);
-            let text = listing_text(alloc, &modes.counts, image, source, start)?;
-            Ok(ModuleAnswer::Shown(text))
+            listing_text(alloc, &modes.counts, image, source, start)
         }
-        ModuleRequest::Compare(one, other) => {
-            Ok(ModuleAnswer::Shown(images_compared(alloc, images, one, other)?))
-        }
+        ModuleRequest::Compare(one, other) => images_compared(alloc, context.images, one, other),
+    };
+    match text {
+        Ok(text) => Ok(ModuleAnswer::Shown(text)),
+        Err(error) => Err(error),
     }
 }
 
 // COMMAND.
 fn answer_command(
-    alloc: Global,
-    budget: u64,
+    context: &LineContext<'_>,
     session: &mut Session,
     modes: &mut DebugModes,
     past: &mut Past,
-    images: &Images,
-    labels: &LabelTable,
-    number: u64,
     name: &[u8],
     tail: &[u8],
 ) -> Result<ModuleAnswer, AllocError>
-    ensures { let s = script_state session.old images.now in IfOk result (λ answer. IsModuleAnswered
-        (command_answered modes.old labels.now budget s past.old number name.now tail.now)
-        (script_state session.new images.now) modes.new past.new (shown_of answer)) }
+    ensures { let images = context.now.images.now in let labels = context.now.labels.now in
+        let s = script_state session.old images in IfOk result (λ answer. IsModuleAnswered
+        (command_answered modes.old labels context.now.budget s past.old context.now.number name.now tail.now)
+        (script_state session.new images) modes.new past.new (shown_of answer)) }
 {
+    let alloc = context.alloc;
     match command_plan(alloc, session.machine(), name, tail)? {
         CommandPlan::Refused(text) => Ok(ModuleAnswer::Shown(text)),
         CommandPlan::Ready(entry) => {
             let bytes = tail_bytes(alloc, tail)?;
-            put_tail(
-                alloc,
-                budget,
-                session,
-                modes,
-                past,
-                images,
-                labels,
-                number,
-                &entry,
-                bytes.as_slice(),
-            )
+            put_tail(context, session, modes, past, &entry, bytes.as_slice())
         }
     }
 }
 
 // Puts the tail where the code finds it, and enters that.
 fn put_tail(
-    alloc: Global,
-    budget: u64,
+    context: &LineContext<'_>,
     session: &mut Session,
     modes: &mut DebugModes,
     past: &mut Past,
-    images: &Images,
-    labels: &LabelTable,
-    number: u64,
     entry: &ModuleEntry,
     bytes: &[u8],
 ) -> Result<ModuleAnswer, AllocError>
-    ensures { let s = script_state session.old images.now in IfOk result (λ answer. IsModuleAnswered
-        (command_put modes.old labels.now budget s past.old number entry.now bytes.now)
-        (script_state session.new images.now) modes.new past.new (shown_of answer)) }
+    ensures { let images = context.now.images.now in let labels = context.now.labels.now in
+        let s = script_state session.old images in IfOk result (λ answer. IsModuleAnswered
+        (command_put modes.old labels context.now.budget s past.old context.now.number entry.now bytes.now)
+        (script_state session.new images) modes.new past.new (shown_of answer)) }
 {
+    let alloc = context.alloc;
     let kept = KeptText::of(alloc, bytes)?;
     match put_bytes(session, TAIL, bytes) {
         Ok(()) => {
-            past.put(number, PastDeed::Bytes(TAIL, kept))?;
-            let answer = call_command(
-                alloc, budget, session, modes, past, images, labels, number, entry,
-            )?;
+            past.put(context.number, PastDeed::Bytes(TAIL, kept))?;
+            let answer = call_command(context, session, modes, past, entry)?;
             Ok(ModuleAnswer::Entered(answer))
         }
         Err(fault) => {
@@ -187,24 +175,26 @@ fn put_tail(
 
 // Enters a command, with the whole budget; where its code has gone back with an error, that stands below.
 fn call_command(
-    alloc: Global,
-    budget: u64,
+    context: &LineContext<'_>,
     session: &mut Session,
     modes: &mut DebugModes,
     past: &mut Past,
-    images: &Images,
-    labels: &LabelTable,
-    number: u64,
     entry: &ModuleEntry,
 ) -> Result<LineAnswer, AllocError>
-    ensures { let s = script_state session.old images.now in IfOk result (λ answer. HasLineSteps
-        (command_called modes.old labels.now budget s past.old number entry.now)
-        (script_state session.new images.now) modes.new past.new
+    ensures { let images = context.now.images.now in let labels = context.now.labels.now in
+        let s = script_state session.old images in IfOk result (λ answer. HasLineSteps
+        (command_called modes.old labels context.now.budget s past.old context.now.number entry.now)
+        (script_state session.new images) modes.new past.new
         answer.text.items answer.printed.items answer.ending.items) }
 {
-    session.set_budget(budget);
-    let mut answer = enter_code(alloc, session, modes, past, images, labels, number, entry)?;
-    let error = code_error_text(alloc, session, labels, answer.ending.as_slice())?;
+    session.set_budget(context.budget);
+    let mut answer = enter_code(context, session, modes, past, entry)?;
+    let error = code_error_text(
+        context.alloc,
+        session,
+        context.labels,
+        answer.ending.as_slice(),
+    )?;
     answer.ending.extend_from_slice(error.as_slice())?;
     Ok(answer)
 }
@@ -229,21 +219,19 @@ fn code_error_text(
 
 // SERVICE.
 fn answer_service(
-    alloc: Global,
-    budget: u64,
+    context: &LineContext<'_>,
     session: &mut Session,
     modes: &mut DebugModes,
     past: &mut Past,
-    images: &Images,
-    labels: &LabelTable,
-    number: u64,
     service: u32,
     title: &[u8],
 ) -> Result<ModuleAnswer, AllocError>
-    ensures { let s = script_state session.old images.now in IfOk result (λ answer. IsModuleAnswered
-        (service_answered modes.old labels.now budget s past.old number service title.now)
-        (script_state session.new images.now) modes.new past.new (shown_of answer)) }
+    ensures { let images = context.now.images.now in let labels = context.now.labels.now in
+        let s = script_state session.old images in IfOk result (λ answer. IsModuleAnswered
+        (service_answered modes.old labels context.now.budget s past.old context.now.number service title.now)
+        (script_state session.new images) modes.new past.new (shown_of answer)) }
 {
+    let alloc = context.alloc;
     let machine = session.machine();
     if machine.stop().is_some() {
         return Ok(ModuleAnswer::Shown(refused_line(alloc, b"Halted")?));
@@ -251,8 +239,6 @@ fn answer_service(
     if !is_served(machine.instances(), title) {
         return Ok(ModuleAnswer::Shown(refused_line(alloc, b"NoModule")?));
     }
-    let answer = call_service(
-        alloc, budget, session, modes, past, images, labels, number, service, title,
-    )?;
+    let answer = call_service(context, session, modes, past, service, title)?;
     Ok(ModuleAnswer::Entered(answer))
 }

@@ -9,14 +9,14 @@ ghost use Rattle.debug_history.specs.declared.act.PastDeed.TheVariants.{Register
 ghost use Rattle.debug_modules.specs.Entering.{at_entry, module_code_entered, past_at_entry, status_gone_back, supervisor};
 ghost use Rattle.debug_modules.specs.Taking.{HasLineSteps};
 
+use crate::context::LineContext;
 use crate::taking::take_steps;
 use arm_core::{Mode, Psr};
 use debug_history::{Past, PastDeed, has_returned};
 use debug_listing::Origin;
 use debug_modes::{DebugModes, RegisterNumber};
-use debug_runs::{LabelTable, LineAnswer, Session, SteppingCommand};
-use profile::images::Images;
-use std::alloc::{AllocError, Global};
+use debug_runs::{LineAnswer, Session, SteppingCommand};
+use std::alloc::AllocError;
 
 /// Code that is to be entered, and what R0, R1 and R12 are there.
 #[derive(Clone, Copy)]
@@ -33,25 +33,32 @@ pub struct ModuleEntry {
 ///
 /// Where memory ran out; steps may have been taken then.
 pub(crate) fn enter_code(
-    alloc: Global,
+    context: &LineContext<'_>,
     session: &mut Session,
     modes: &mut DebugModes,
     past: &mut Past,
-    images: &Images,
-    labels: &LabelTable,
-    number: u64,
     entry: &ModuleEntry,
 ) -> Result<LineAnswer, AllocError>
-    ensures { let s = script_state session.old images.now in IfOk result (λ answer. HasLineSteps
-        (module_code_entered modes.old labels.now s past.old number entry.now)
-        (script_state session.new images.now) modes.new past.new
+    ensures { let images = context.now.images.now in let s = script_state session.old images in
+        IfOk result (λ answer. HasLineSteps
+        (module_code_entered modes.old context.now.labels.now s past.old context.now.number entry.now)
+        (script_state session.new images) modes.new past.new
         answer.text.items answer.printed.items answer.ending.items) }
 {
+    let number = context.number;
     let command = SteppingCommand::Gosub(entry.code);
     let before = status_of(session);
     stand_at(session, past, number, entry)?;
     let answer = take_steps(
-        alloc, session, modes, past, images, labels, number, false, &command,
+        context.alloc,
+        session,
+        modes,
+        past,
+        context.images,
+        context.labels,
+        number,
+        false,
+        &command,
     )?;
     if !has_returned(answer.ending.as_slice()) {
         return Ok(answer);

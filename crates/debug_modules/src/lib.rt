@@ -6,6 +6,7 @@
 
 mod answering;
 mod comparing;
+mod context;
 mod entering;
 mod laws;
 mod plans;

@@ -11,13 +11,13 @@ ghost use Rattle.profile.specs.images.Entries.{Entry};
 ghost use Rattle.debug_modules.specs.Services.{claimed_text, is_service_meant, is_served, served_at, served_by, service_called, service_code, service_ended, service_state};
 ghost use Rattle.debug_modules.specs.Taking.{HasLineSteps};
 
+use crate::context::LineContext;
 use crate::entering::{ModuleEntry, enter_code};
 use debug_history::{Machine, Past, has_returned};
 use debug_listing::{Origin, code_place, loaded_word};
 use debug_modes::{DebugModes, Instances};
-use debug_runs::{LabelTable, LineAnswer, Session};
+use debug_runs::{LineAnswer, Session};
 use instances_table::{ModuleInfo, Name};
-use profile::images::Images;
 use profile::memory_map::PRIVATE_WORDS;
 use std::alloc::{AllocError, Global};
 
@@ -58,92 +58,74 @@ pub(crate) fn is_served(modules: &Instances, title: &[u8]) -> bool
 ///
 /// Where memory ran out; steps may have been taken then.
 pub(crate) fn call_service(
-    alloc: Global,
-    budget: u64,
+    context: &LineContext<'_>,
     session: &mut Session,
     modes: &mut DebugModes,
     past: &mut Past,
-    images: &Images,
-    labels: &LabelTable,
-    number: u64,
     service: u32,
     title: &[u8],
 ) -> Result<LineAnswer, AllocError>
-    ensures { let s = script_state session.old images.now in IfOk result (λ answer. HasLineSteps
-        (service_called modes.old labels.now budget s past.old number service title.now)
-        (script_state session.new images.now) modes.new past.new
+    ensures { let images = context.now.images.now in let labels = context.now.labels.now in
+        let s = script_state session.old images in IfOk result (λ answer. HasLineSteps
+        (service_called modes.old labels context.now.budget s past.old context.now.number service title.now)
+        (script_state session.new images) modes.new past.new
         answer.text.items answer.printed.items answer.ending.items) }
 {
-    session.set_budget(budget);
+    let alloc = context.alloc;
+    session.set_budget(context.budget);
+    let ending = Vec::from_slice(alloc, b"not claimed\n")?;
     let mut serving = Serving {
         r1: service,
         is_over: false,
         answer: LineAnswer {
             text: Vec::new(alloc),
             printed: Vec::new(alloc),
-            ending: Vec::from_slice(alloc, b"not claimed\n")?,
+            ending,
         },
     };
     for place in 0..MOST * MOST {
-        serve_at(
-            alloc,
-            session,
-            modes,
-            past,
-            images,
-            labels,
-            number,
-            title,
-            place,
-            &mut serving,
-        )?;
+        serve_at(context, session, modes, past, title, place, &mut serving)?;
     }
     Ok(serving.answer)
 }
 
 // Enters the code of the instance at a place, if there is one and the call isn't over.
 fn serve_at(
-    alloc: Global,
+    context: &LineContext<'_>,
     session: &mut Session,
     modes: &mut DebugModes,
     past: &mut Past,
-    images: &Images,
-    labels: &LabelTable,
-    number: u64,
     title: &[u8],
     place: u32,
     serving: &mut Serving,
 ) -> Result<(), AllocError>
-    ensures { OnOk result (service_state (script_state session.new images.now) modes.new past.new serving.new
-        ≡ served_at labels.now number title.now place
-        (service_state (script_state session.old images.now) modes.old past.old serving.old)) }
+    ensures { let images = context.now.images.now in
+        OnOk result (service_state (script_state session.new images) modes.new past.new serving.new
+        ≡ served_at context.now.labels.now context.now.number title.now place
+        (service_state (script_state session.old images) modes.old past.old serving.old)) }
 {
     if serving.is_over {
         return Ok(());
     }
     match service_code(session.machine(), title, place / MOST, place % MOST) {
-        Some(code) => serve(
-            alloc, session, modes, past, images, labels, number, &code, serving,
-        ),
+        Some(code) => serve(context, session, modes, past, &code, serving),
         None => Ok(()),
     }
 }
 
 // Enters the code of an instance.
 fn serve(
-    alloc: Global,
+    context: &LineContext<'_>,
     session: &mut Session,
     modes: &mut DebugModes,
     past: &mut Past,
-    images: &Images,
-    labels: &LabelTable,
-    number: u64,
     code: &ServiceCode,
     serving: &mut Serving,
 ) -> Result<(), AllocError>
-    ensures { OnOk result (service_state (script_state session.new images.now) modes.new past.new serving.new
-        ≡ served_by labels.now number code.now
-        (service_state (script_state session.old images.now) modes.old past.old serving.old)) }
+    ensures { let images = context.now.images.now in
+        OnOk result (service_state (script_state session.new images) modes.new past.new serving.new
+        ≡ served_by context.now.labels.now context.now.number code.now
+        (service_state (script_state session.old images) modes.old past.old serving.old)) }
 {
     let entry = ModuleEntry {
         code: code.code,
@@ -151,7 +133,7 @@ fn serve(
         r1: serving.r1,
         r12: code.word,
     };
-    let taken = enter_code(alloc, session, modes, past, images, labels, number, &entry)?;
+    let taken = enter_code(context, session, modes, past, &entry)?;
     serving
         .answer
         .text
@@ -161,7 +143,7 @@ fn serve(
         .printed
         .extend_from_slice(taken.printed.as_slice())?;
     serving.r1 = register_in(session, 1);
-    end_turn(alloc, serving, code.title.as_slice(), taken.ending)
+    end_turn(context.alloc, serving, code.title.as_slice(), taken.ending)
 }
 
 fn register_in(session: &Session, number: u32) -> u32

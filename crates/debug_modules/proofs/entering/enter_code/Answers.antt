@@ -8,19 +8,19 @@ use Rattle.debug_modules.proofs.entering.enter_code.Goals as goal
 
 pub returns-then-not-has_returned : goal.returns-then-not-has_returned
 returns-then-not-has_returned c =
-    let images = c.args.images.now in
-    code_left c.args.modes.now c.args.labels.now (script_state c.args.session.now images) (script_state c.stand_at.new.session images)
-    (script_state c.take_steps.new.session images) c.args.past.now c.stand_at.new.past c.take_steps.new.past c.args.number
+    let images = c.args.context.now.images.now in
+    code_left c.args.modes.now c.args.context.now.labels.now (script_state c.args.session.now images) (script_state c.stand_at.new.session images)
+    (script_state c.take_steps.new.session images) c.args.past.now c.stand_at.new.past c.take_steps.new.past c.args.context.now.number
     c.args.entry.now c.take_steps.new.modes _ _ c.in_ok-answer.answer.ending.items
     (c.in_ok-stand_at.ensures.script images) (c.in_ok-stand_at.ensures.past images) c.in_ok-answer.ensures
     (ap has_returned (sym c.as_slice.ensures.value) ∙ sym c.has_returned.ensures ∙ c.if-not-has_returned.true)
 
 pub returns : goal.returns
 returns c =
-    let images = c.args.images.now in
-    code_back c.args.modes.now c.args.labels.now (script_state c.args.session.now images) (script_state c.stand_at.new.session images)
+    let images = c.args.context.now.images.now in
+    code_back c.args.modes.now c.args.context.now.labels.now (script_state c.args.session.now images) (script_state c.stand_at.new.session images)
     (script_state c.take_steps.new.session images) (script_state c.put_status.new.session images)
-    c.args.past.now c.stand_at.new.past c.take_steps.new.past c.put_status.new.past c.args.number
+    c.args.past.now c.stand_at.new.past c.take_steps.new.past c.put_status.new.past c.args.context.now.number
     c.args.entry.now c.take_steps.new.modes _ _ c.in_ok-answer.answer.ending.items c.status_gone_back-status.result
     (c.in_ok-stand_at.ensures.script images) (c.in_ok-stand_at.ensures.past images) c.in_ok-answer.ensures
     (ap has_returned (sym c.as_slice.ensures.value) ∙ sym c.has_returned.ensures ∙ c.if-not-has_returned.false)

@@ -11,9 +11,9 @@ use Rattle.debug_modules.proofs.services.serve.Goals as goal
 
 pub returns : goal.returns
 returns c =
-    let images = c.args.images.now in
+    let images = c.args.context.now.images.now in
     let s = script_state c.args.session.now images in
-    let labels = c.args.labels.now in
+    let labels = c.args.context.now.labels.now in
     let code = c.args.code.now in
     let v : ServiceState = service_state s c.args.modes.now c.args.past.now c.args.serving.now in
     let now = script_state c.enter_code.new.session images in
@@ -22,9 +22,9 @@ returns c =
     let taken = c.in_ok-taken.taken in
     let here = subst (λ (r : ℕ). let e : ModuleEntry =
     record { code = code.code; r0 = r; r1 = c.args.serving.now.r1; r12 = code.word } in
-    HasLineSteps (module_code_entered c.args.modes.now labels s c.args.past.now c.args.number e) now ms pp taken.text.items taken.printed.items
+    HasLineSteps (module_code_entered c.args.modes.now labels s c.args.past.now c.args.context.now.number e) now ms pp taken.text.items taken.printed.items
     taken.ending.items) (c.register_in.ensures images) c.in_ok-taken.ensures in
-    let left = left_so labels c.args.number code v now ms pp taken.text.items taken.printed.items taken.ending.items _ _ _ here
+    let left = left_so labels c.args.context.now.number code v now ms pp taken.text.items taken.printed.items taken.ending.items _ _ _ here
     (c.in_ok-extend_from_slice.ensures.items ∙ ap (λ (xs : List ℕ). c.args.serving.now.answer.text.items ++ xs) c.as_slice.ensures.value)
     (c.in_ok-extend_from_slice-2.ensures.items
     ∙ ap (λ (xs : List ℕ). c.args.serving.now.answer.printed.items ++ xs) c.as_slice-2.ensures.value)
