@@ -2,35 +2,43 @@
 
 ghost use Rattle.std.specs.Prelude.{◌≡◌};
 
+use crate::command_line::SettingsError;
 use crate::gdb::serve_error::ServeError;
 use crate::image_files::FileError;
 use command_shell::RunError;
 use std::alloc::AllocError;
-use std::error::Error;
-use std::fmt;
+use thiserror::Error;
 
 /// The form of a command line, in one line.
 pub const USAGE: &str = "usage: rosm_gdb [--script FILE] [--stay] \
 [--pages N] [--app N] [--rma N] [--budget N] [FILE...]";
 
 /// Why GDB isn't served to its end. The text is one line.
-#[derive(Debug, Drop)]
+#[derive(Debug, Drop, Error)]
 pub enum GdbRefusal<'a> {
     /// Memory ran out while the command line was read.
+    #[error("{}", SettingsError::Memory)]
     Memory,
     /// A word of the command line is no text.
+    #[error("a word is not text in UTF-8; {usage}", usage = USAGE)]
     NotText,
     /// The words are no command line; the text says what is wrong with them.
+    #[error("{0}; {usage}", usage = USAGE)]
     Line(String),
     /// No machine can have the sizes of the command line; the text says which, and by what rule.
+    #[error("{0}; {usage}", usage = USAGE)]
     Sizes(String),
     /// The file of this path is no image, or no script that can be read, for this reason.
+    #[error("{0:?}: {1}")]
     File(&'a str, FileError),
     /// The file of this path is an ELF file, which is no image.
+    #[error("{0:?}: an ELF file is for GDB; objcopy -O binary makes an image of it")]
     Elf(&'a str),
     /// The lines that a machine begins with can't be read, or not all be answered, for this reason.
+    #[error("{0}")]
     Start(RunError),
     /// Serving ended, for this reason.
+    #[error("{0}")]
     Served(ServeError),
 }
 
@@ -51,26 +59,6 @@ impl GdbRefusal<'_> {
         }
     }
 }
-
-/// A path stands in quotes, as Rust writes them.
-impl fmt::Display for GdbRefusal<'_> {
-    fn fmt<W: fmt::Write>(&self, f: &mut fmt::Formatter<W>) -> fmt::Result {
-        match self {
-            GdbRefusal::Memory => f.write_str("out of memory"),
-            GdbRefusal::NotText => write!(f, "a word is not text in UTF-8; {USAGE}"),
-            GdbRefusal::Line(reason) | GdbRefusal::Sizes(reason) => write!(f, "{reason}; {USAGE}"),
-            GdbRefusal::File(path, error) => write!(f, "{path:?}: {error}"),
-            GdbRefusal::Elf(path) => write!(
-                f,
-                "{path:?}: an ELF file is for GDB; objcopy -O binary makes an image of it"
-            ),
-            GdbRefusal::Start(error) => fmt::Display::fmt(error, f),
-            GdbRefusal::Served(error) => fmt::Display::fmt(error, f),
-        }
-    }
-}
-
-impl Error for GdbRefusal<'_> {}
 
 impl<'a> From<AllocError> for GdbRefusal<'a> {
     ghost use Rattle.rosm_settings.specs.declared.gdb.refusal.GdbRefusal.TheVariants.{Memory};

@@ -4,34 +4,24 @@ ghost use Rattle.std.specs.Prelude.{◌≡◌};
 
 use command_shell::RunError;
 use profile::{ReadFault, WriteFault};
-use std::error::Error;
-use std::fmt;
+use thiserror::Error;
 
 /// Why serving ended before the debugger was gone, and before the end of what it sends.
-#[derive(Clone, Copy, Debug)]
+#[derive(Clone, Copy, Debug, Error)]
 pub enum ServeError {
     /// Memory ran out.
+    #[error("no memory for an answer to GDB")]
     Memory,
     /// What GDB sends can't be read.
+    #[error("what GDB sends can't be read")]
     ReadFault,
     /// The answers can't be written.
+    #[error("the answers to GDB can't be written")]
     WriteFault,
     /// GDB sends more pieces than can be counted.
+    #[error("GDB sends more than can be counted")]
     TooMuch,
 }
-
-impl fmt::Display for ServeError {
-    fn fmt<W: fmt::Write>(&self, f: &mut fmt::Formatter<W>) -> fmt::Result {
-        f.write_str(match self {
-            ServeError::Memory => "no memory for an answer to GDB",
-            ServeError::ReadFault => "what GDB sends can't be read",
-            ServeError::WriteFault => "the answers to GDB can't be written",
-            ServeError::TooMuch => "GDB sends more than can be counted",
-        })
-    }
-}
-
-impl Error for ServeError {}
 
 impl From<ReadFault> for ServeError {
     ghost use Rattle.rosm_settings.specs.declared.gdb.serve_error.ServeError.TheVariants as why;
