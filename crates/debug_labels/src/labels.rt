@@ -31,13 +31,6 @@ impl Label {
     {
         name == self.name.as_slice()
     }
-
-    /// How many bytes of its image stand before it.
-    pub(crate) fn offset(&self) -> u32
-        ensures { result ≡ self.now.1 }
-    {
-        self.offset
-    }
 }
 
 /// The labels of an image.
@@ -82,13 +75,13 @@ impl LabelledImage {
     ) -> Result<LabelledImage, AllocError>
         ensures { IfOk result (λ i. i ≡ labels_of_image image.now bytes.now origin labels.now) }
     {
-        let labels = labels_behind(alloc, origin, labels)?;
+        let image = Vec::from_slice(alloc, image)?;
         Ok(LabelledImage {
-            image: Vec::from_slice(alloc, image)?,
+            labels: labels_behind(alloc, origin, labels)?,
+            image,
             header: header_in(bytes),
             origin,
             size: bytes.len(),
-            labels,
         })
     }
 }

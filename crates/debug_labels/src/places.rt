@@ -50,24 +50,17 @@ fn label_at<'a>(
 }
 
 impl LabelledImage {
-    ghost use Rattle.debug_labels.specs.Places.{is_inside, place_from, place_in_image};
+    ghost use Rattle.debug_labels.specs.Places.{place_from, place_in_image};
 
     // The label at an address or nearest below, where the image starts there.
     fn place_from(&self, start: u32, address: u32) -> Option<PlaceLabel<'_>>
         ensures { option_map shown_of_place_label result ≡ place_from start self.now address }
     {
-        if self.is_inside(start, address) {
+        if start <= address && ((address - start) as usize) < self.size {
             self.place_at(address - start)
         } else {
             None
         }
-    }
-
-    // Whether an address is one of the image's, where it starts there.
-    fn is_inside(&self, start: u32, address: u32) -> bool
-        ensures { result ≡ is_inside start self.now address }
-    {
-        start <= address && ((address - start) as usize) < self.size
     }
 
     // The label at a place or nearest below, so many bytes from the image's start.

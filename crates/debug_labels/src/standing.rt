@@ -10,7 +10,7 @@ use debugger::{Instances, ModuleInfo};
 use profile::images::module_header::Header;
 
 impl LabelledImage {
-    ghost use Rattle.debug_labels.specs.Standing.{is_loaded_from, place_now, start_as, module_start, start_now};
+    ghost use Rattle.debug_labels.specs.Standing.{place_now, start_as, module_start, start_now};
 
     /// Where the image stands now.
     pub(crate) fn start(&self, modules: &Instances) -> u32
@@ -43,17 +43,11 @@ impl LabelledImage {
     fn start_as(&self, info: &ModuleInfo) -> Option<u32>
         ensures { result ≡ start_as self.now info.now }
     {
-        if self.is_loaded_from(info) {
+        if is_titled(&self.header, info) && info.len as usize == self.size {
             Some(info.image)
         } else {
             None
         }
-    }
-
-    fn is_loaded_from(&self, info: &ModuleInfo) -> bool
-        ensures { result ≡ is_loaded_from self.now info.now }
-    {
-        is_titled(&self.header, info) && info.len as usize == self.size
     }
 
     /// The address before which so many bytes of the image stand now.

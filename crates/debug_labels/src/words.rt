@@ -30,23 +30,16 @@ impl<'a> Model for PlaceNames<'a> {
 }
 
 impl LabelledImage {
-    ghost use Rattle.debug_labels.specs.Words.{is_image_meant, label_if_meant, label_place};
+    ghost use Rattle.debug_labels.specs.Words.{is_image_meant, label_if_meant};
 
-    // Where a label stands now.
-    fn label_place(&self, modules: &Instances, name: &[u8]) -> Option<u32>
-        ensures { result ≡ label_place modules.now self.now name.now }
-    {
-        let offset = offset_of(self.labels.as_slice(), name)?;
-        Some(self.place(modules, offset))
-    }
-
-    // The same, where the image is one of those that are meant.
+    // Where a label stands now, where the image is one of those that are meant.
     fn label_if_meant(&self, modules: &Instances, image: Option<&[u8]>, name: &[u8]) -> Option<u32>
         ensures { result
             ≡ label_if_meant modules.now (option_map (λ i. i.now) image.entry) name.now self.now }
     {
         if self.is_image_meant(image) {
-            self.label_place(modules, name)
+            let offset = offset_of(self.labels.as_slice(), name)?;
+            Some(self.place(modules, offset))
         } else {
             None
         }
@@ -63,7 +56,7 @@ impl LabelledImage {
 }
 
 impl<'a> PlaceNames<'a> {
-    ghost use Rattle.debug_labels.specs.Words.{labelled_place, named_value, place_of_word, value_behind, value_of_parts};
+    ghost use Rattle.debug_labels.specs.Words.{named_value, place_of_word, value_behind, value_of_parts};
 
     /// Words are read by these labels, by the modules of a machine, from which images stand loaded,
     /// and by its core.
@@ -112,25 +105,10 @@ impl<'a> PlaceNames<'a> {
     fn named_value(&self, image: Option<&[u8]>, name: &[u8]) -> Option<u32>
         ensures { result ≡ named_value self.now (option_map (λ i. i.now) image.entry) name.now }
     {
-        match image {
-            Some(_) => self.labelled_place(image, name),
-            None => self.value_alone(name),
+        match (image, register_named(name)) {
+            (None, Some(register)) => Some(register_value(self.cpu, register.number())),
+            _ => labelled_place(self.labels.images(), self.modules, image, name),
         }
-    }
-
-    fn value_alone(&self, name: &[u8]) -> Option<u32>
-        ensures { result ≡ named_value self.now None name.now }
-    {
-        match register_named(name) {
-            Some(register) => Some(register_value(self.cpu, register.number())),
-            None => self.labelled_place(None, name),
-        }
-    }
-
-    fn labelled_place(&self, image: Option<&[u8]>, name: &[u8]) -> Option<u32>
-        ensures { result ≡ labelled_place self.now (option_map (λ i. i.now) image.entry) name.now }
-    {
-        labelled_place(self.labels.images(), self.modules, image, name)
     }
 }
 
@@ -160,7 +138,7 @@ fn offset_of(labels: &[Label], name: &[u8]) -> Option<u32>
 {
     for label in labels {
         if label.is_named(name) {
-            return Some(label.offset());
+            return Some(label.offset);
         }
     }
     None
@@ -181,10 +159,13 @@ fn register_value(cpu: &Cpu, number: u32) -> u32
 fn further(text: &[u8], value: u32) -> Option<u32>
     ensures { result ≡ further text.now value }
 {
-    match text {
-        [] => Some(value),
-        [b'+', digits @ ..] => Some(value.wrapping_add(number_of(digits)?)),
-        [b'-', digits @ ..] => Some(value.wrapping_sub(number_of(digits)?)),
+    let [sign, digits @ ..] = text else {
+        return Some(value);
+    };
+    let number = number_of(digits)?;
+    match sign {
+        b'+' => Some(value.wrapping_add(number)),
+        b'-' => Some(value.wrapping_sub(number)),
         _ => None,
     }
 }

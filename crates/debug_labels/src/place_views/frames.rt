@@ -4,7 +4,7 @@ ghost use Rattle.std.specs.Prelude.{◌≡◌, length, slice_get};
 ghost use Rattle.debugger.specs.AddressMapMemory.{bytes_of};
 ghost use Rattle.profile.specs.Output.{Writes};
 ghost use Rattle.debugger.specs.Modules.{one_text};
-ghost use Rattle.debug_labels.specs.place_views.Frames.{named_address_text, called_at_text, caller_address, caller_text, calls_entered, entry_text, frame_kind_text, frame_line, frame_lines, frame_number_text, open_frame_numbered, frame_text, frames_text, full_name_at, full_name_of_slot, full_name_text, full_name_within, is_call_entered, is_called_by_instruction};
+ghost use Rattle.debug_labels.specs.place_views.Frames.{named_address_text, called_at_text, caller_address, caller_text, calls_entered, entry_text, frame_kind_text, frame_line, frame_lines, frame_number_text, open_frame_numbered, frame_text, frames_text, full_name_at, full_name_of_slot, full_name_text, full_name_within, is_called_by_instruction};
 ghost use Rattle.debug_labels.specs.place_views.Places.{naming_on};
 ghost use Rattle.debugger.specs.GuestState.{state_of};
 
@@ -13,7 +13,7 @@ use crate::place_views::standing::show_where;
 use crate::{InstanceInfo, Instances, LabelTable, ModuleInfo, PlaceNames};
 use debugger::{AddressMap, CodeKind, Frame, FrameKind, Machine, mode_name, without_x_bit};
 use itoa::Buffer;
-use profile::{Fault, HexText, Sink, SwiName, WriteFault, push_all, push_parts};
+use profile::{HexText, Sink, SwiName, WriteFault, push_all, push_parts};
 
 /// Writes where the machine stands, and a line for each open frame, the innermost first. Frames are
 /// numbered from 1 on, the outermost first; a line says what the frame's code was entered for, the
@@ -229,14 +229,10 @@ fn caller_address(frame: &Frame) -> u32
 fn is_called_by_instruction(memory: &AddressMap, frame: &Frame) -> bool
     ensures { result ≡ is_called_by_instruction (bytes_of memory.now) frame.now }
 {
-    is_call_entered(frame.kind, memory.load_word(caller_address(frame)))
-}
-
-fn is_call_entered(kind: FrameKind, word: Result<u32, Fault>) -> bool
-    ensures { result ≡ is_call_entered kind word }
-{
-    match word {
-        Ok(word) => word >> 24 & 15 == 15 && calls_entered(kind, without_x_bit(word % (1 << 24))),
+    match memory.load_word(caller_address(frame)) {
+        Ok(word) => {
+            word >> 24 & 15 == 15 && calls_entered(frame.kind, without_x_bit(word % (1 << 24)))
+        }
         Err(_) => false,
     }
 }
