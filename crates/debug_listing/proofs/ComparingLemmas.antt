@@ -153,6 +153,21 @@ carried {S} contents o x y one other n k f g same found so_far =
     (subst (λ (h : ℕ). IsComparedSoFar o (contents x) one other n k h) (sym found) so_far)
 
 -- three texts, one behind the other
+-- a text is written, and then more
+pub written_on : {S A E : Type 0} (contents : S → Option (List ℕ)) (has_failed : S → Bool) (first second last : S) (result : Result A E)
+    (a b : List ℕ) → Appends (contents first) (contents second) a → has_failed second ≡ has_failed first
+    → Writes contents has_failed second last result b → Writes contents has_failed first last result (a ++ b)
+written_on contents has_failed first second last (Ok x) a b one same end = record {
+  text = Appends-join (contents first) (contents second) (contents last) a b one end.text;
+  flag = end.flag;
+  same_flag = end.same_flag ∙ same;
+}
+written_on contents has_failed first second last (Err e) a b one same end = record {
+  text = tt;
+  flag = end.flag;
+  same_flag = tt;
+}
+
 pub written : {S A E : Type 0} (contents : S → Option (List ℕ)) (has_failed : S → Bool) (first second third last : S) (result : Result A E)
     (a b c : List ℕ) → Appends (contents first) (contents second) a → Appends (contents second) (contents third) b
     → has_failed third ≡ has_failed first → Writes contents has_failed third last result c

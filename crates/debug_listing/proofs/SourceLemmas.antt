@@ -26,21 +26,21 @@ unfolding labelled_lines
 labels_stop front all number left none known =
     sym (append-nil front) ∙ ap (λ (ls : List (List ℕ)). front ++ labelled_lines number ls) (sym none) ∙ known
 
-pub labels_go_on : (front first second third after all digits behind : List ℕ) (number next : ℕ) (left : List (List ℕ))
+pub labels_go_on : (front after all label digits behind end : List ℕ) (number next : ℕ) (left : List (List ℕ))
     (line : List ℕ) (rest : List (List ℕ)) → left ≡ line ∷ rest → next ≡ number + 1
-    → first ≡ front ++ codes "line" → second ≡ first ++ digits → third ≡ second ++ behind → after ≡ third ++ 10 ∷ []
+    → after ≡ front ++ (label ++ (digits ++ (behind ++ (end ++ [])))) → label ≡ codes "line" → end ≡ 10 ∷ []
     → digits ≡ decimal next → behind ≡ after_word line
     → front ++ labelled_lines number left ≡ all → after ++ labelled_lines next rest ≡ all
 unfolding labelled_lines
-labels_go_on front first second third after all digits behind number next left line rest there more one two three four is cut known =
+labels_go_on front after all label digits behind end number next left line rest there more pushed first last is cut known =
     let others : List ℕ = labelled_lines (number + 1) rest in
     ap (λ (n : ℕ). after ++ labelled_lines n rest) more
-    ∙ ap (λ (xs : List ℕ). xs ++ others) (four ∙ ap (λ (xs : List ℕ). xs ++ 10 ∷ []) (three
-    ∙ ap (λ (xs : List ℕ). xs ++ behind) (two ∙ ap (λ (xs : List ℕ). xs ++ digits) one)))
-    ∙ append_assoc (((front ++ codes "line") ++ digits) ++ behind) (10 ∷ []) others
-    ∙ append_assoc ((front ++ codes "line") ++ digits) behind (10 ∷ others)
-    ∙ append_assoc (front ++ codes "line") digits (behind ++ (10 ∷ others))
-    ∙ append_assoc front (codes "line") (digits ++ (behind ++ (10 ∷ others)))
+    ∙ ap (λ (xs : List ℕ). xs ++ others) (pushed
+    ∙ ap (λ (xs : List ℕ). front ++ (xs ++ (digits ++ (behind ++ (end ++ []))))) first
+    ∙ ap (λ (xs : List ℕ). front ++ (codes "line" ++ (digits ++ (behind ++ (xs ++ []))))) last)
+    ∙ append_assoc front (codes "line" ++ (digits ++ (behind ++ 10 ∷ []))) others
+    ∙ ap (λ (xs : List ℕ). front ++ (codes "line" ++ xs)) (append_assoc digits (behind ++ 10 ∷ []) others
+    ∙ ap (λ (xs : List ℕ). digits ++ xs) (append_assoc behind (10 ∷ []) others))
     ∙ ap (λ (xs : List ℕ). front ++ (codes "line" ++ (xs ++ (behind ++ (10 ∷ others))))) (is ∙ ap decimal more)
     ∙ ap (λ (xs : List ℕ). front ++ (codes "line" ++ (decimal (number + 1) ++ (xs ++ (10 ∷ others))))) cut
     ∙ ap (λ (ls : List (List ℕ)). front ++ labelled_lines number ls) (sym there) ∙ known
@@ -65,16 +65,15 @@ rows_go_on front after all c places start bytes before next left line rest there
     ∙ ap (λ (ls : List (List ℕ)). front ++ rows_behind c places start bytes before ls) (sym there) ∙ known
 
 -- the rows of lines whose labels of their own have places
-pub rows_are : (front text : List ℕ) (c : CountTable) (start : ℕ) (bytes source labelled : List ℕ) (places : Entries) (count : ℕ)
-    (answer : Result Entries AsmError) → front ≡ [] → text ≡ front ++ rows_behind c places start bytes 0 (lines source)
+pub rows_are : (text : List ℕ) (c : CountTable) (start : ℕ) (bytes source labelled : List ℕ) (places : Entries) (count : ℕ)
+    (answer : Result Entries AsmError) → text ≡ rows_behind c places start bytes 0 (lines source)
     → labelled ≡ labelled_lines 0 (lines source) → count ≡ length (lines labelled) → answer ≡ Ok places
     → (answer ≢ Err (record { line = 0; reason = Memory }) → answer ≡ labels_of_lines (take count (lines labelled)) 0)
     → text ≡ rows_text c start bytes source
-rows_are front text c start bytes source labelled places count answer none pushed is all ok below =
+rows_are text c start bytes source labelled places count answer pushed is all ok below =
     let known : answer ≡ labels_of_lines (take count (lines labelled)) 0 = below (λ e. absurd (cc)) in
     let same : Ok places ≡ places_of_lines (lines source) = sym ok ∙ known
     ∙ ap (λ (n : ℕ). labels_of_lines (take n (lines labelled)) 0) all
     ∙ ap (λ (ls : List (List ℕ)). labels_of_lines ls 0) (take-length (lines labelled))
     ∙ ap (λ (xs : List ℕ). labels_of_lines (lines xs) 0) is in
-    pushed ∙ ap (λ (xs : List ℕ). xs ++ rows_behind c places start bytes 0 (lines source)) none
-    ∙ ap (λ (r : Result Entries AsmError). rows_by c start bytes (lines source) r) same
+    pushed ∙ ap (λ (r : Result Entries AsmError). rows_by c start bytes (lines source) r) same

@@ -36,8 +36,12 @@ help_text b m = text_of_image b m.image m.len (header_word b m 20)
 abbrev pub entries_shown : Bytes → CommandList → List ℕ
 entries_shown b t = flat_map (command_line b) t.entries ++ table_end_text t.is_whole
 
--- `module Pots`, `help "Pots 1.00 (30 Nov 2026)"`, `chunk &58CC0`, and the commands
-abbrev pub module_described : Bytes → ModuleInfo → List ℕ
-module_described b m = codes "module " ++ (map shown_character m.title.items
+-- `module Pots`, `help "Pots 1.00 (30 Nov 2026)"`, `chunk &58CC0`
+abbrev pub header_text : Bytes → ModuleInfo → List ℕ
+header_text b m = codes "module " ++ (map shown_character m.title.items
     ++ (codes "\nhelp \"" ++ (map shown_character (help_text b m)
-    ++ (codes "\"\nchunk &" ++ (hex_number m.chunk ++ (codes "\n" ++ entries_shown b (commands_of b m)))))))
+    ++ (codes "\"\nchunk &" ++ (hex_number m.chunk ++ codes "\n")))))
+
+-- these, and the commands
+abbrev pub module_described : Bytes → ModuleInfo → List ℕ
+module_described b m = header_text b m ++ entries_shown b (commands_of b m)

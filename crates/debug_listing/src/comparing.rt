@@ -60,17 +60,18 @@ fn word_of_bytes(bytes: &[u8], k: usize) -> u32
 fn push_both<W: Sink>(sink: &mut W, at: u32, first: u32, second: u32) -> Result<(), WriteFault>
     ensures { Writes W.contents W.has_failed sink.old sink.new result (difference_line at first second) }
 {
-    push_parts(sink, &[HexText::word(at).as_slice(), b" ".as_slice()])?;
-    push_word(sink, at, first)?;
-    push_all(sink, b" | ")?;
-    push_word(sink, at, second)?;
+    push_all(sink, HexText::word(at).as_slice())?;
+    push_word(sink, b" ", at, first)?;
+    push_word(sink, b" | ", at, second)?;
     push_all(sink, b"\n")
 }
 
-fn push_word<W: Sink>(sink: &mut W, at: u32, word: u32) -> Result<(), WriteFault>
-    ensures { Writes W.contents W.has_failed sink.old sink.new result (compared_word at word) }
+// A word and what it is as an instruction, behind a text.
+fn push_word<W: Sink>(sink: &mut W, front: &[u8], at: u32, word: u32) -> Result<(), WriteFault>
+    ensures { Writes W.contents W.has_failed sink.old sink.new result (front.now ++ compared_word at word) }
 {
-    push_parts(sink, &[HexText::word(word).as_slice(), b" ".as_slice()])?;
+    let digits = HexText::word(word);
+    push_parts(sink, &[front, digits.as_slice(), b" ".as_slice()])?;
     disassemble(word, at, sink)
 }
 
@@ -101,9 +102,8 @@ fn push_two<W: Sink>(
     ensures { Writes W.contents W.has_failed sink.old sink.new result
         (decimal first ++ (between.now ++ (decimal second ++ behind.now))) }
 {
-    let mut digits = Buffer::new();
-    push_all(sink, digits.format(first).as_bytes())?;
-    push_all(sink, between)?;
-    push_all(sink, digits.format(second).as_bytes())?;
-    push_all(sink, behind)
+    let (mut one, mut other) = (Buffer::new(), Buffer::new());
+    let one = one.format(first).as_bytes();
+    let other = other.format(second).as_bytes();
+    push_parts(sink, &[one, between, other, behind])
 }

@@ -1,13 +1,13 @@
 //! What a loaded module says of itself.
 
-ghost use Rattle.std.specs.Prelude.{◌≡◌, IfOk, slice_get};
+ghost use Rattle.std.specs.Prelude.{◌≡◌, ◌++◌, IfOk, OnOk, slice_get};
 ghost use Rattle.std.specs.Option.{option_and_then};
 ghost use Rattle.address_map.specs.Memory.{bytes_of};
 ghost use Rattle.debug_tables.specs.GuestState.{state_of};
 ghost use Rattle.instances_table.specs.Lookup.{shown_of_module};
-ghost use Rattle.debug_listing.specs.Describing.{if_titled, module_described, module_meant, module_of_title};
+ghost use Rattle.debug_listing.specs.Describing.{header_text, if_titled, module_described, module_meant, module_of_title};
 
-use crate::image_parts::{push_shown, text_of_image};
+use crate::image_parts::{push_shown, push_texts, text_of_image};
 use crate::listing::{push_entries, table_end_text};
 use crate::tables::{commands_of, header_word};
 use address_map::AddressMap;
@@ -65,17 +65,31 @@ pub fn module_described(
 ) -> Result<Vec<u8>, AllocError>
     ensures { IfOk result (λ text. text.items ≡ module_described (bytes_of memory.now) info.now) }
 {
-    let offset = header_word(memory, info, HELP_WORD);
-    let help = text_of_image(memory, info.image, info.len, offset);
     let table = commands_of(alloc, memory, info)?;
-    let mut text = Vec::from_slice(alloc, b"module ")?;
-    push_shown(&mut text, info.title.as_slice())?;
-    text.extend_from_slice(b"\nhelp \"")?;
-    push_shown(&mut text, help.as_slice())?;
-    text.extend_from_slice(b"\"\nchunk &")?;
-    text.extend_from_slice(HexText::number(info.chunk).as_slice())?;
-    text.push(b'\n')?;
+    let mut text = Vec::new(alloc);
+    push_header(memory, info, &mut text)?;
     push_entries(memory, table.entries.as_slice(), &mut text)?;
     text.extend_from_slice(table_end_text(table.is_whole))?;
     Ok(text)
+}
+
+// What stands before its commands.
+fn push_header(memory: &AddressMap, info: &ModuleInfo, text: &mut Vec<u8>) -> Result<(), AllocError>
+    ensures { OnOk result (text.new.items ≡ text.old.items ++ header_text (bytes_of memory.now) info.now) }
+{
+    let offset = header_word(memory, info, HELP_WORD);
+    let help = text_of_image(memory, info.image, info.len, offset);
+    text.extend_from_slice(b"module ")?;
+    push_shown(text, info.title.as_slice())?;
+    text.extend_from_slice(b"\nhelp \"")?;
+    push_shown(text, help.as_slice())?;
+    let chunk = HexText::number(info.chunk);
+    push_texts(
+        text,
+        &[
+            b"\"\nchunk &".as_slice(),
+            chunk.as_slice(),
+            b"\n".as_slice(),
+        ],
+    )
 }

@@ -1,6 +1,7 @@
 //! Texts and code at offsets of a module's image, and how such a text is shown.
 
 ghost use Rattle.std.specs.Prelude.{◌≡◌, ◌++◌, codes, map, IfOk, OnOk};
+ghost use Rattle.std.specs.List.{flat_map};
 ghost use Rattle.address_map.specs.Memory.{bytes_of};
 ghost use Rattle.debug_listing.specs.ImageParts.{code_place, shown_character, syntax_line, text_of_image};
 
@@ -48,6 +49,20 @@ pub(crate) fn push_shown(line: &mut Vec<u8>, text: &[u8]) -> Result<(), AllocErr
 {
     for byte in text {
         line.push(shown_character(*byte))?;
+    }
+    Ok(())
+}
+
+/// Puts texts behind another, one after another.
+///
+/// # Errors
+///
+/// Memory ran out.
+pub(crate) fn push_texts(text: &mut Vec<u8>, parts: &[&[u8]]) -> Result<(), AllocError>
+    ensures { OnOk result (text.new.items ≡ text.old.items ++ flat_map (λ part. part.now) parts.now) }
+{
+    for part in parts {
+        text.extend_from_slice(part)?;
     }
     Ok(())
 }

@@ -7,7 +7,7 @@ ghost use Rattle.debug_tables.specs.GuestState.{state_of};
 ghost use Rattle.debug_listing.specs.Listing.{command_line, commands_numbered, commands_text, commands_text_of, table_end_text, table_lines, text_shown_at, command_use_text, command_words_text};
 ghost use Rattle.debug_listing.specs.ImageParts.{shown_character};
 
-use crate::image_parts::push_shown;
+use crate::image_parts::{push_shown, push_texts};
 use crate::tables::{CommandEntry, commands_of};
 use address_map::AddressMap;
 use debug_labels::{Instances, MAX_TEXT, ModuleInfo, TextEnd, text_at};
@@ -89,10 +89,9 @@ fn push_table(
         ++ table_lines (bytes_of memory.now) title.now entries.now is_whole) }
 {
     push_shown(text, title)?;
-    text.push(b'\n')?;
+    text.extend_from_slice(b"\n")?;
     push_entries(memory, entries, text)?;
-    text.extend_from_slice(table_end_text(is_whole))?;
-    Ok(())
+    text.extend_from_slice(table_end_text(is_whole))
 }
 
 /// What stands below the entries of a table.
@@ -136,10 +135,9 @@ fn push_entry(
 {
     text.extend_from_slice(b"  ")?;
     push_text_at(memory, entry.name, text)?;
-    text.push(b' ')?;
+    text.extend_from_slice(b" ")?;
     push_use(entry, text)?;
-    text.push(b'\n')?;
-    Ok(())
+    text.extend_from_slice(b"\n")
 }
 
 // The text at an address, up to a zero byte, as characters.
@@ -171,9 +169,11 @@ fn push_use(entry: CommandEntry, text: &mut Vec<u8>) -> Result<(), AllocError>
 fn push_words(limits: u32, text: &mut Vec<u8>) -> Result<(), AllocError>
     ensures { OnOk result (text.new.items ≡ text.old.items ++ command_words_text limits) }
 {
-    let mut digits = Buffer::new();
-    text.extend_from_slice(digits.format(limits % 256).as_bytes())?;
-    text.extend_from_slice(b" to ")?;
-    text.extend_from_slice(digits.format(limits / 65536 % 256).as_bytes())?;
-    text.extend_from_slice(b" words")
+    let (mut least, mut most) = (Buffer::new(), Buffer::new());
+    let least = least.format(limits % 256).as_bytes();
+    let most = most.format(limits / 65536 % 256).as_bytes();
+    push_texts(
+        text,
+        &[least, b" to ".as_slice(), most, b" words".as_slice()],
+    )
 }

@@ -7,6 +7,7 @@ ghost use Rattle.command_shell_lines.specs.Blocks.{block_lines};
 ghost use Rattle.command_shell_lines.specs.Requests.{request_of_command};
 ghost use Rattle.debug_listing.specs.SourceListing.{bytes_made, digits_made, made_word, in_columns, labelled_lines, line_offset, listing_text, made_text, listing_row, rows_behind, rows_text, sources_after, times_text};
 
+use crate::image_parts::push_texts;
 use assembler_text::naming::Labels;
 use assembler_text::naming::words::{after_spaces, after_word, is_end, is_name, word};
 use command_shell_lines::{ScriptCommand, is_block_end};
@@ -55,8 +56,7 @@ fn text_of_block(alloc: Global, block: &Lines) -> Result<Vec<u8>, AllocError>
         if is_block_end(line) {
             return Ok(text);
         }
-        text.extend_from_slice(line)?;
-        text.extend_from_slice(b"\r\n")?;
+        push_texts(&mut text, &[line, b"\r\n".as_slice()])?;
     }
     Ok(text)
 }
@@ -99,33 +99,32 @@ fn rows_text(
 {
     let labelled = labelled_lines(alloc, source)?;
     let block = Lines::new(labelled.as_slice());
-    let Ok(places) = labels_of_lines(alloc, &block, block.count(), 0) else {
-        return Err(AllocError);
-    };
-    let mut text = Vec::new(alloc);
-    push_rows(&mut text, counts, &places, start, bytes, source)?;
-    Ok(text)
+    match labels_of_lines(alloc, &block, block.count(), 0) {
+        Ok(places) => rows_of_lines(alloc, counts, &places, start, bytes, source),
+        Err(_) => Err(AllocError),
+    }
 }
 
-fn push_rows(
-    text: &mut Vec<u8>,
+fn rows_of_lines(
+    alloc: Global,
     counts: &StepCounts,
     places: &Labels,
     start: u32,
     bytes: &[u8],
     source: &[u8],
-) -> Result<(), AllocError>
-    ensures { OnOk result (text.new.items ≡ text.old.items
-        ++ rows_behind counts.now places.now start bytes.now 0 (lines source.now)) }
+) -> Result<Vec<u8>, AllocError>
+    ensures { IfOk result (λ text. text.items
+        ≡ rows_behind counts.now places.now start bytes.now 0 (lines source.now)) }
 {
+    let mut text = Vec::new(alloc);
     let mut lines = Lines::new(source);
     while let Some(line) = lines.next_line() {
         let number = lines.number();
         let address = start.wrapping_add(offset_at(places, number.saturating_sub(1)));
         let made = bytes_made(places, bytes, number, line);
-        push_row(text, counts, address, made, number, line)?;
+        push_row(&mut text, counts, address, made, number, line)?;
     }
-    Ok(())
+    Ok(text)
 }
 
 // The lines of a text, each with a label of its own in place of the one that it has.
@@ -136,10 +135,16 @@ fn labelled_lines(alloc: Global, text: &[u8]) -> Result<Vec<u8>, AllocError>
     let mut lines = Lines::new(text);
     let mut digits = Buffer::new();
     while let Some(line) = lines.next_line() {
-        labelled.extend_from_slice(b"line")?;
-        labelled.extend_from_slice(digits.format(lines.number()).as_bytes())?;
-        labelled.extend_from_slice(after_word(line))?;
-        labelled.push(b'\n')?;
+        let number = digits.format(lines.number()).as_bytes();
+        push_texts(
+            &mut labelled,
+            &[
+                b"line".as_slice(),
+                number,
+                after_word(line),
+                b"\n".as_slice(),
+            ],
+        )?;
     }
     Ok(labelled)
 }
@@ -183,10 +188,7 @@ fn push_row(
     push_times(text, counts, address, made.is_empty())?;
     push_made(text, of_bytes, address, made)?;
     push_columns(text, 5, Buffer::new().format(number).as_bytes())?;
-    text.push(b' ')?;
-    text.extend_from_slice(line)?;
-    text.push(b'\n')?;
-    Ok(())
+    push_texts(text, &[b" ".as_slice(), line, b"\n".as_slice()])
 }
 
 // How often the step at the first byte was taken, while steps are counted.
@@ -204,8 +206,7 @@ fn push_times(
     let mut digits = Buffer::new();
     let times = digits.format(counts.times(address)).as_bytes();
     push_columns(text, 10, if is_blank { b"" } else { times })?;
-    text.push(b' ')?;
-    Ok(())
+    text.extend_from_slice(b" ")
 }
 
 // The address and the first bytes.
@@ -215,8 +216,7 @@ fn push_made(text: &mut Vec<u8>, of_bytes: bool, at: u32, made: &[u8]) -> Result
     if made.is_empty() {
         return push_columns(text, 19, b"");
     }
-    text.extend_from_slice(HexText::word(at).as_slice())?;
-    text.push(b' ')?;
+    push_texts(text, &[HexText::word(at).as_slice(), b" ".as_slice()])?;
     push_digits(text, of_bytes, made)
 }
 

@@ -57,19 +57,13 @@ pub(crate) fn commands_of(
     ensures whole { IfOk result (λ t. t.is_whole ≡ (commands_of (bytes_of memory.now) module.now).is_whole) }
 {
     let offset = header_word(memory, module, TABLE_WORD);
-    if offset == 0 {
+    if offset == 0 || offset >= module.len {
         return Ok(CommandTable {
             entries: Vec::new(alloc),
-            is_whole: true,
+            is_whole: offset == 0,
         });
     }
     let limit = module.image.wrapping_add(module.len);
-    if offset >= module.len {
-        return Ok(CommandTable {
-            entries: Vec::new(alloc),
-            is_whole: false,
-        });
-    }
     table_from(alloc, memory, limit, module.image.wrapping_add(offset))
 }
 

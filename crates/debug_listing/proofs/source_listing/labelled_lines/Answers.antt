@@ -5,10 +5,9 @@ use Rattle.debug_listing.proofs.SourceLemmas.{labels_go_on, labels_stop}
 use Rattle.debug_listing.proofs.source_listing.labelled_lines.Goals as goal
 
 pub loop-line-preserved : goal.loop-line-preserved
-loop-line-preserved c = labels_go_on _ _ _ _ _ _ _ _ _ _ _ _ _ c.in-Some.ensures.line c.in-Some.ensures.number
-    c.in_ok-extend_from_slice.ensures.items c.in_ok-extend_from_slice-2.ensures.items
-    c.in_ok-extend_from_slice-3.ensures.items c.in_ok-push.ensures.items
-    (c.as_bytes.ensures.value ∙ c.format.ensures.text ∙ ap decimal c.number.ensures) c.after_word.ensures c.loop-line.invariant
+loop-line-preserved c = labels_go_on _ _ _ _ _ _ _ _ _ _ _ _ c.in-Some.ensures.line c.in-Some.ensures.number
+    c.in_ok-push_texts.ensures c.as_slice.ensures c.as_slice-in-Some.ensures
+    (c.as_bytes-number.ensures.value ∙ c.format.ensures.text ∙ ap decimal c.number.ensures) c.after_word.ensures c.loop-line.invariant
 
 pub returns : goal.returns
 returns c = labels_stop _ _ _ _ c.in_default.ensures.line c.loop-line.invariant

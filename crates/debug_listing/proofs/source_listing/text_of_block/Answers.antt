@@ -1,5 +1,5 @@
 -- The lemmas of the lines of a block, at each way out and at the next line.
-use Rattle.std.proofs.Common.{[], arith, refl}
+use Rattle.std.proofs.Common.{◌∙◌, ◌++◌, [], ◌∷◌, List, ℕ, ap, append_assoc, arith, refl, sym}
 use Rattle.debug_listing.proofs.BlockErrorLemmas.{source_ends, source_goes_on, source_stops}
 use Rattle.debug_listing.proofs.source_listing.text_of_block.Goals as goal
 
@@ -9,8 +9,11 @@ returns-then-is_block_end c =
 
 pub loop-line-preserved : goal.loop-line-preserved
 loop-line-preserved c = record {
-  text = source_goes_on _ _ _ _ _ [] _ _ _ _ _ c.in-Some.ensures.line (grind arith) (grind arith) refl
-      c.in_ok-extend_from_slice.ensures.items c.in_ok-extend_from_slice-2.ensures.items c.loop-line.invariant.text;
+  text = source_goes_on c.loop-line.text.items (c.loop-line.text.items ++ c.in-Some.line.now) _ _ c.in-Some.line.now [] _ _ _ _ _
+      c.in-Some.ensures.line (grind arith) (grind arith) refl
+      refl (c.in_ok-push_texts.ensures
+      ∙ ap (λ (end : List ℕ). c.loop-line.text.items ++ (c.in-Some.line.now ++ (end ++ []))) c.as_slice.ensures
+      ∙ sym (append_assoc c.loop-line.text.items c.in-Some.line.now (13 ∷ 10 ∷ []))) c.loop-line.invariant.text;
   later = grind arith;
 }
 

@@ -2,7 +2,7 @@
 use Rattle.std.proofs.Common.{arith}
 use Rattle.std.proofs.lemmas.Grind.{common_steps}
 use Rattle.debug_listing.proofs.SourceLemmas.{rows_go_on, rows_stop}
-use Rattle.debug_listing.proofs.source_listing.push_rows.Goals as goal
+use Rattle.debug_listing.proofs.source_listing.rows_of_lines.Goals as goal
 
 pub loop-line-preserved : goal.loop-line-preserved
 loop-line-preserved c = rows_go_on c.loop-line.text.items c.push_row.new.text.items _ c.args.counts.now c.args.places.now
