@@ -91,12 +91,12 @@ impl DebugModes {
             IsModeAnswer (counting_line_answer self.old is_on) self.new text.items) }
         ensures same { OnErr result (self.new ≡ self.old) }
     {
+        let text: &[u8] = if is_on { b"count on\n" } else { b"count off\n" };
+        let text = Vec::from_slice(alloc, text)?;
         if !is_on {
-            let text = Vec::from_slice(alloc, b"count off\n")?;
             self.counts.stop();
             return Ok(text);
         }
-        let text = Vec::from_slice(alloc, b"count on\n")?;
         self.counts.begin()?;
         Ok(text)
     }

@@ -5,6 +5,7 @@ ghost use Rattle.command_shell.specs.Answers.{unknown_text};
 ghost use Rattle.debug_modes.specs.OwnAnswers.{forget_text, put_text, reasoned_text};
 ghost use Rattle.debug_modes.specs.expectations.Reasons.{reason_text};
 
+use crate::answers::joined;
 use crate::expectations::{Mismatch, push_reason};
 use command_shell::print_unknown;
 use itoa::Buffer;
@@ -23,10 +24,7 @@ pub fn forget_text(alloc: Global, is_there: bool, name: &[u8]) -> Result<Vec<u8>
     if !is_there {
         return Vec::from_slice(alloc, b"refused NoImage\n");
     }
-    let mut text = Vec::from_slice(alloc, b"forget ")?;
-    text.extend_from_slice(name)?;
-    text.push(b'\n')?;
-    Ok(text)
+    joined(alloc, &[b"forget ".as_slice(), name, b"\n".as_slice()])
 }
 
 /// What the lines of a word need, as a line.
@@ -37,9 +35,7 @@ pub fn forget_text(alloc: Global, is_there: bool, name: &[u8]) -> Result<Vec<u8>
 pub fn form_line(alloc: Global, form: &[u8]) -> Result<Vec<u8>, AllocError>
     ensures { IfOk result (λ text. text.items ≡ form.now ++ codes "\n") }
 {
-    let mut text = Vec::from_slice(alloc, form)?;
-    text.extend_from_slice(b"\n")?;
-    Ok(text)
+    joined(alloc, &[form, b"\n".as_slice()])
 }
 
 /// `put count at &9000`.
@@ -50,12 +46,12 @@ pub fn form_line(alloc: Global, form: &[u8]) -> Result<Vec<u8>, AllocError>
 pub fn put_text(alloc: Global, name: &[u8], address: u32) -> Result<Vec<u8>, AllocError>
     ensures { IfOk result (λ text. text.items ≡ put_text name.now address) }
 {
-    let mut text = Vec::from_slice(alloc, b"put ")?;
-    text.extend_from_slice(name)?;
-    text.extend_from_slice(b" at &")?;
-    text.extend_from_slice(HexText::number(address).as_slice())?;
-    text.push(b'\n')?;
-    Ok(text)
+    let digits = HexText::number(address);
+    let (at, end) = (b" at &".as_slice(), b"\n".as_slice());
+    joined(
+        alloc,
+        &[b"put ".as_slice(), name, at, digits.as_slice(), end],
+    )
 }
 
 /// Why what should be so isn't, as text.
@@ -97,10 +93,10 @@ pub fn refusal_line(alloc: Global, number: usize, reason: &[u8]) -> Result<Vec<u
     ensures { IfOk result (λ text. text.items ≡ reasoned_text number reason.now) }
 {
     let mut digits = Buffer::new();
-    let mut text = Vec::from_slice(alloc, b"? line ")?;
-    text.extend_from_slice(digits.format(number).as_bytes())?;
-    text.extend_from_slice(b": ")?;
-    text.extend_from_slice(reason)?;
-    text.push(b'\n')?;
-    Ok(text)
+    let number = digits.format(number).as_bytes();
+    let (between, end) = (b": ".as_slice(), b"\n".as_slice());
+    joined(
+        alloc,
+        &[b"? line ".as_slice(), number, between, reason, end],
+    )
 }
