@@ -1,31 +1,20 @@
 //! What the record of an answer begins with.
 
-ghost use Rattle.std.specs.Prelude.{◌≡◌, ◌==◌, ◌++◌, List, true, codes, IfOk, OnOk};
+ghost use Rattle.std.specs.Prelude.{◌≡◌, ◌==◌, ◌++◌, List, true, codes, OnOk};
 ghost use Rattle.std.specs.List.{position};
 ghost use Rattle.trace_effects.specs.record_text.Spelling.{string_text};
 ghost use Rattle.profile.specs.images.Entries.{Entry};
 ghost use Rattle.debug_session.specs.Session.{debug_state};
-ghost use Rattle.debug_records.specs.AnswerHeads.{answer_fields, answer_head, expect_field, is_remark_use, is_stepping_use, reason_from, reason_in, refused_field, steps_field, text_field, without_end};
+ghost use Rattle.debug_records.specs.AnswerHeads.{answer_fields, expect_field, is_remark_use, is_stepping_use, reason_from, reason_in, refused_field, steps_field, text_field, without_end};
 
 use crate::answers::AnsweredLine;
 use crate::counts::LineCounts;
 use crate::lines::LineUse;
-use crate::records::head_of;
-use std::alloc::{AllocError, Global};
+use std::alloc::AllocError;
 use trace_effects::record_text::{Bracket, RecordText};
 
-/// The line's number, and what the line was answered.
-pub(crate) fn answer_head(alloc: Global, line: &AnsweredLine<'_>) -> Result<RecordText, AllocError>
-    ensures { (held : List Entry) → let l = line.now in IfOk result (λ head. head.bytes.items
-        ≡ answer_head l.block.now.number (answer_fields (is_remark_use l.used) (is_stepping_use l.used)
-        l.taken l.counts (debug_state l.session.now held) l.answer.now)) }
-{
-    let mut head = head_of(alloc, b"answer", line.block.number() as u64)?;
-    push_answer(&mut head, line)?;
-    Ok(head)
-}
-
-fn push_answer(head: &mut RecordText, line: &AnsweredLine<'_>) -> Result<(), AllocError>
+/// What a line was answered, behind its number.
+pub(crate) fn push_answer(head: &mut RecordText, line: &AnsweredLine<'_>) -> Result<(), AllocError>
     requires { head.old.follows ≡ true }
     ensures { (held : List Entry) → let l = line.now in OnOk result (head.new.bytes.items
         ≡ head.old.bytes.items ++ answer_fields (is_remark_use l.used) (is_stepping_use l.used)
@@ -34,7 +23,7 @@ fn push_answer(head: &mut RecordText, line: &AnsweredLine<'_>) -> Result<(), All
     match line.used {
         LineUse::Remark => head.truth_field(b"remark"),
         LineUse::Steps => push_stepped(head, line.taken, line.session.answer()),
-        _ => push_plain(head, line, LineCounts::of(line.session)),
+        _ => push_plain(head, line.answer, line.counts, LineCounts::of(line.session)),
     }
 }
 
@@ -62,16 +51,17 @@ fn push_steps(head: &mut RecordText, taken: u64) -> Result<(), AllocError>
 // What a line is answered that takes no steps.
 fn push_plain(
     head: &mut RecordText,
-    line: &AnsweredLine<'_>,
-    counts: LineCounts,
+    answer: &[u8],
+    before: LineCounts,
+    after: LineCounts,
 ) -> Result<(), AllocError>
     requires { head.old.follows ≡ true }
-    ensures { OnOk result (head.new.bytes.items ≡ head.old.bytes.items ++ (text_field line.now.answer.now ++
-        (refused_field line.now.counts counts ++ expect_field line.now.counts counts line.now.answer.now))) }
+    ensures { OnOk result (head.new.bytes.items ≡ head.old.bytes.items ++ (text_field answer.now ++
+        (refused_field before after ++ expect_field before after answer.now))) }
 {
-    push_text(head, line.answer)?;
-    push_refused(head, line.counts, counts)?;
-    push_verdict(head, line, counts)
+    push_text(head, answer)?;
+    push_refused(head, before, after)?;
+    push_verdict(head, answer, before, after)
 }
 
 // A text without the end of its last line, if there is one.
@@ -116,20 +106,21 @@ fn push_refused(
 // Whether what a line expects is so, and what is so if not.
 fn push_verdict(
     head: &mut RecordText,
-    line: &AnsweredLine<'_>,
-    counts: LineCounts,
+    answer: &[u8],
+    before: LineCounts,
+    after: LineCounts,
 ) -> Result<(), AllocError>
     requires { head.old.follows ≡ true }
     ensures { OnOk result (head.new.bytes.items ≡ head.old.bytes.items
-        ++ expect_field line.now.counts counts line.now.answer.now) }
+        ++ expect_field before after answer.now) }
 {
-    if line.counts.passed < counts.passed {
+    if before.passed < after.passed {
         return push_pass(head);
     }
-    if line.counts.failed == counts.failed {
+    if before.failed == after.failed {
         return Ok(());
     }
-    push_fail(head, reason_in(line.answer))
+    push_fail(head, reason_in(answer))
 }
 
 fn push_pass(head: &mut RecordText) -> Result<(), AllocError>

@@ -1,6 +1,6 @@
 //! The answer to a line, recorded.
 
-ghost use Rattle.std.specs.Prelude.{◌≡◌, ◌==◌, ◌&&◌, not, codes, OnOk};
+ghost use Rattle.std.specs.Prelude.{◌≡◌, ◌==◌, codes, OnOk};
 ghost use Rattle.debug_records.specs.AnswerHeads.{is_remark_use, is_reset_use};
 ghost use Rattle.debug_records.specs.LineRecords.{Adds, IsOfForm, answer_form};
 ghost use Rattle.debug_records.specs.Recording.{session_machine, twin_machine};
@@ -46,15 +46,6 @@ pub(crate) struct AnsweredLine<'a> {
     pub(crate) answer: &'a [u8],
 }
 
-impl AnsweredLine<'_> {
-    // Whether the record says what differs: steps have records of their own, and RESET shows the whole machine.
-    fn may_change(&self) -> bool
-        ensures { result ≡ ((self.now.taken == 0) && not (is_reset_use self.now.used)) }
-    {
-        self.taken == 0 && !matches!(self.used, LineUse::Reset)
-    }
-}
-
 impl Twin {
     /// Writes the record of an answer, behind what it begins with: of a remark nothing; what the line
     /// changed, with what stands before it; or of a line that took steps where they ended, and of RESET the
@@ -72,22 +63,18 @@ impl Twin {
         if line.used.is_remark() {
             return push_whole(sink, head);
         }
-        if line.may_change() {
+        if line.used.may_change(line.taken) {
             self.show_changed(line)?;
             return self.print_moment(head, sink);
         }
-        self.show_others(line)?;
-        push_record(sink, head, &self.text)
-    }
-
-    // Writes the fields of where steps ended, or of the whole machine.
-    fn show_others(&mut self, line: &AnsweredLine<'_>) -> Result<(), AllocError> {
         self.text.clear();
-        match line.used {
-            LineUse::Reset => push_reset(&mut self.text, line.session.machine())?,
-            _ => push_ending(self.alloc, &mut self.text, line.session)?,
-        }
-        self.push_places(Some(line.session))
+        let pushed = match line.used {
+            LineUse::Reset => push_reset(&mut self.text, line.session.machine()),
+            _ => push_ending(self.alloc, &mut self.text, line.session),
+        };
+        pushed?;
+        self.push_places(Some(line.session))?;
+        push_record(sink, head, &self.text)
     }
 
     // Writes those of what a line changed, and of what stands before that.
@@ -121,23 +108,11 @@ impl Twin {
         ensures { OnOk result (self.new.changes ≡ self.old.changes) }
     {
         let counts = LineCounts::of(line.session);
-        match line.used {
-            LineUse::Steps => push_ending(self.alloc, &mut self.text, line.session),
-            LineUse::Block(name, origin) if line.counts.refused == counts.refused => {
-                self.print_image(line, name, origin)
-            }
-            _ => Ok(()),
-        }
-    }
-
-    fn print_image(
-        &mut self,
-        line: &AnsweredLine<'_>,
-        name: &[u8],
-        origin: Option<u32>,
-    ) -> Result<(), AllocError>
-        ensures { OnOk result (self.new.changes ≡ self.old.changes) }
-    {
+        let (name, origin) = match line.used {
+            LineUse::Steps => return push_ending(self.alloc, &mut self.text, line.session),
+            LineUse::Block(name, origin) if line.counts.refused == counts.refused => (name, origin),
+            _ => return Ok(()),
+        };
         let Some(bytes) = line.images.get(name) else {
             return Ok(());
         };
@@ -172,18 +147,12 @@ fn push_ending(
     if word == b"stop".as_slice() {
         let stop = session.session.last();
         let at = session.machine().cpu().pc();
-        let cause = first_word(behind.unwrap_or(b""));
-        return push_stop(alloc, text, cause, stop, at);
+        let (cause, _rest) = cut(behind.unwrap_or(b""), b' ');
+        return push_stop(alloc, text, without_end(cause), stop, at);
     }
     if word == b"error".as_slice() {
         let number = session.machine().error_number();
         return text.number_field(b"error", u64::from(number));
     }
     Ok(())
-}
-
-// The first word of a line.
-fn first_word(bytes: &[u8]) -> &[u8] {
-    let (word, _rest) = cut(bytes, b' ');
-    without_end(word)
 }

@@ -14,19 +14,15 @@ pub struct KnownImage {
     at: Option<u32>,
 }
 
-// Where an image stands; one that was assembled for no address stands nowhere until it is loaded.
-fn place_of(session: &DebugSession, name: &[u8]) -> Option<u32> {
-    match session.image_place(name) {
-        Some(place) if place.start != 0 => Some(place.start),
-        _ => None,
-    }
-}
-
-// Takes in where the images stand now, and answers whether one stands elsewhere than before.
+// Takes in where the images stand now, and answers whether one stands elsewhere than before. One that was
+// assembled for no address stands nowhere until it is loaded.
 fn follow_images(known_images: &mut [KnownImage], session: &DebugSession) -> bool {
     let mut has_moved = false;
     for known in known_images.iter_mut() {
-        let at = place_of(session, known.name.as_slice());
+        let at = match session.image_place(known.name.as_slice()) {
+            Some(place) if place.start != 0 => Some(place.start),
+            _ => None,
+        };
         if known.at != at {
             known.at = at;
             has_moved = true;

@@ -1,12 +1,11 @@
 //! One line of a script, recorded.
 
-ghost use Rattle.std.specs.Prelude.{◌≡◌, ◌<◌, ◌-◌, ◌++◌, ◌==◌, false, true, take, List, Some, IfOk, OnOk, option_map, is_some, if◌then◌else◌};
+ghost use Rattle.std.specs.Prelude.{◌≡◌, ◌<◌, ◌-◌, ◌++◌, ◌==◌, ◌&&◌, not, false, true, take, List, Some, OnOk, option_map, is_some, if◌then◌else◌};
 ghost use Rattle.profile.specs.images.Entries.{Entry};
 ghost use Rattle.command_shell_lines.specs.Blocks.{lines_in_block};
-ghost use Rattle.command_shell_lines.specs.Requests.{opens_block, request_of, request_of_command};
-ghost use Rattle.debug_lines.specs.DebugRequests.{Script, debug_opens_block, is_script_request};
+ghost use Rattle.command_shell_lines.specs.Requests.{opens_block, request_of_command};
+ghost use Rattle.debug_lines.specs.DebugRequests.{Script, debug_opens_block};
 ghost use Rattle.debug_lines.specs.SteppingRequests.{stepping_in, stepping_request_of};
-ghost use Rattle.debug_lines.specs.Tidy.{tidied_line};
 ghost use Rattle.debug_records.specs.AnswerHeads.{is_block_use, is_remark_use, is_reset_use, is_stepping_use};
 ghost use Rattle.debug_records.specs.AnsweredLines.{is_remark_request, is_reset_request, limit_after, next_line, request_meant, state_behind, steps_asked, this_time, typed_line, words_read};
 ghost use Rattle.debug_records.specs.LineRecords.{Adds, AreRecorded, AreRecords, IsOfForm, Whole, block_field, line_forms, line_head, step_forms, strings_text};
@@ -16,18 +15,18 @@ ghost use Rattle.debug_records.specs.Taking.{IsFirstRecorded, IsLineRecorded, fo
 ghost use Rattle.debug_session.specs.Session.{debug_state};
 ghost use Rattle.trace_json.specs.MachineState.{MachineState};
 
-use crate::answer_heads::answer_head;
+use crate::answer_heads::push_answer;
 use crate::answers::AnsweredLine;
 use crate::counts::LineCounts;
 use crate::recorder::{Recorder, Twin};
-use crate::records::{line_head, push_whole};
+use crate::records::{head_of, line_head, push_whole};
 use crate::taking::take_or_let;
 use command_shell_lines::{ScriptCommand, command_of, skip_block};
 use debug_lines::{
     DebugCommand, ModeCommand, SteppingCommand, is_script_command, is_script_line, simple_command,
     stepping_in, tidied,
 };
-use debug_session::{DebugSession, RunError, is_faulted};
+use debug_session::{RunError, is_faulted};
 use profile::Sink;
 use profile::text_lines::Lines;
 use profile::text_sink::TextSink;
@@ -62,6 +61,14 @@ impl LineUse<'_> {
     {
         matches!(self, LineUse::Block(_, _))
     }
+
+    /// Whether the record of the answer says what differs, where so many steps were taken: these have records
+    /// of their own, and RESET shows the whole machine.
+    pub(crate) fn may_change(&self, taken: u64) -> bool
+        ensures { result ≡ ((taken == 0) && not (is_reset_use self.now)) }
+    {
+        taken == 0 && !matches!(self, LineUse::Reset)
+    }
 }
 
 // What a tidy line asks for, or one of a script as it stands.
@@ -92,21 +99,12 @@ fn use_of_script<'a>(command: &ScriptCommand<'a>) -> LineUse<'a>
 {
     match stepping_in(command) {
         Some(_steps) => LineUse::Steps,
-        None => use_without_steps(command),
-    }
-}
-
-fn use_without_steps<'a>(command: &ScriptCommand<'a>) -> LineUse<'a>
-    ensures remark { is_remark_use result ≡ is_remark_request (Script (request_of_command command.now)) }
-    ensures stepping { is_stepping_use result ≡ false }
-    ensures block { is_block_use result ≡ opens_block (request_of_command command.now) }
-    ensures resets { is_reset_use result ≡ false }
-{
-    match *command {
-        ScriptCommand::Nothing => LineUse::Remark,
-        ScriptCommand::Asm(name, origin) => LineUse::Block(name, Some(origin.address())),
-        ScriptCommand::Hex(name) => LineUse::Block(name, None),
-        _ => LineUse::Other,
+        None => match *command {
+            ScriptCommand::Nothing => LineUse::Remark,
+            ScriptCommand::Asm(name, origin) => LineUse::Block(name, Some(origin.address())),
+            ScriptCommand::Hex(name) => LineUse::Block(name, None),
+            _ => LineUse::Other,
+        },
     }
 }
 
@@ -138,19 +136,19 @@ fn limit_after(words: &[u8], limit: u64) -> u64
     }
 }
 
-// How many steps a line took that was answered last.
-fn steps_taken(session: &DebugSession, command: &Option<SteppingCommand<'_>>) -> u64
-    ensures { (images : List Entry)
-        → result ≡ (if is_some command.now then (debug_state session.now images).steps else 0) }
+// How many steps a line took, of those that the session counted last.
+fn steps_taken(steps: u64, command: &Option<SteppingCommand<'_>>) -> u64
+    ensures { result ≡ (if is_some command.now then steps else 0) }
 {
     match command {
-        Some(_command) => session.steps(),
+        Some(_command) => steps,
         None => 0,
     }
 }
 
 impl Recorder {
-    /// Records a line as it was typed, each time that it is answered.
+    /// Records a line as it was typed, each time that it is answered: one of a script as it stands, any other
+    /// made tidy.
     pub(crate) fn record_typed<W: Sink>(
         &mut self,
         line: &[u8],
@@ -164,24 +162,8 @@ impl Recorder {
         if is_script_line(line) {
             return self.record_line(line, line, None, script, sink);
         }
-        let words = tidied(self.alloc, line)?;
-        self.record_tidy(line, words.as_slice(), script, sink)
-    }
-
-    // The same of one that is no line of a script, by its tidy words.
-    fn record_tidy<W: Sink>(
-        &mut self,
-        line: &[u8],
-        words: &[u8],
-        script: &mut Lines,
-        sink: &mut W,
-    ) -> Result<(), RunError>
-        requires other { is_script_request (request_of line.now) ≡ false }
-        requires tidy { words.now ≡ tidied_line line.now }
-        ensures { let before = recording_state self.old script.old in OnOk result (IsFirstRecorded
-            (typed_line line.now before) before (recording_state self.new script.new)
-            (W.contents sink.old) (W.contents sink.new)) }
-    {
+        let tidy = tidied(self.alloc, line)?;
+        let words = tidy.as_slice();
         match self.session.repeated(words)? {
             None => self.record_line(line, words, None, script, sink),
             Some(again) => self.record_repeated(line, again.line, again.count, script, sink),
@@ -211,7 +193,8 @@ impl Recorder {
         Ok(())
     }
 
-    // Records a line that asks for what these words do, where the twin stands as the session does.
+    // Records a line that asks for what these words do, where the twin stands as the session does: one of a
+    // script is read as it stands, any other with numbers in place of the words that name places.
     fn record_line<W: Sink>(
         &mut self,
         line: &[u8],
@@ -224,7 +207,10 @@ impl Recorder {
             (recording_state self.new script.new) (W.contents sink.old) (W.contents sink.new)) }
     {
         self.twin.stand_with(&self.session)?;
-        let meant = meant_words(&self.session, self.alloc, line, words)?;
+        if is_script_line(line) {
+            return self.record_meant(line, words, words, time, script, sink);
+        }
+        let meant = self.session.words_meant(self.alloc, words)?;
         self.record_meant(line, words, meant.as_slice(), time, script, sink)
     }
 
@@ -252,7 +238,7 @@ impl Recorder {
         self.session
             .answer_line(&mut self.images, &mut answer, words, script)?;
         let command = steps_of(meant);
-        let taken = steps_taken(&self.session, &command);
+        let taken = steps_taken(self.session.steps(), &command);
         let answered = AnsweredLine {
             session: &self.session,
             images: &self.images,
@@ -272,23 +258,6 @@ impl Recorder {
     }
 }
 
-// What a line is read as: one of a script as it stands, any other with numbers in place of the words
-// that name places.
-fn meant_words(
-    session: &DebugSession,
-    alloc: Global,
-    line: &[u8],
-    words: &[u8],
-) -> Result<Vec<u8>, AllocError>
-    ensures { (images : List Entry) → IfOk result (λ meant. meant.items
-        ≡ words_read (debug_state session.now images) line.now words.now) }
-{
-    if is_script_line(line) {
-        return Vec::from_slice(alloc, words);
-    }
-    session.words_meant(alloc, words)
-}
-
 impl Twin {
     // Records the steps and the answer of a line, behind which the twin stands as the session does.
     fn record_answer<W: Sink>(
@@ -301,7 +270,8 @@ impl Twin {
             (W.contents sink.old) (W.contents sink.new)) }
     {
         self.record_taken(line, sink)?;
-        let head = answer_head(self.alloc, line)?;
+        let mut head = head_of(self.alloc, b"answer", line.block.number() as u64)?;
+        push_answer(&mut head, line)?;
         self.print_answer(line, &head, sink)?;
         self.follow(line)
     }
@@ -321,8 +291,8 @@ impl Twin {
             .answer_line(&mut self.images, &mut unseen, line.words, &mut lines)
     }
 
-    // Records the steps that a line has taken, if there are some: behind them the twin stands as the session
-    // does.
+    // Records the steps that a line has taken, if there are some, one by one up to the limit and the rest as
+    // one: behind them the twin stands as the session does.
     fn record_taken<W: Sink>(
         &mut self,
         line: &AnsweredLine<'_>,
@@ -337,7 +307,12 @@ impl Twin {
         if line.taken == 0 {
             return Ok(());
         }
-        self.record_steps(line, sink)?;
+        if line.limit < line.taken {
+            self.record_each(line, line.limit, sink)?;
+            self.record_rest(line, sink)?;
+            return self.stand_with(line.session);
+        }
+        self.record_each(line, line.taken, sink)?;
         self.stand_with(line.session)
     }
 }

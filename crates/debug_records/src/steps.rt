@@ -3,7 +3,7 @@
 ghost use Rattle.std.specs.Prelude.{◌≡◌, ◌<◌, ◌==◌, true, codes, is_some, IfOk, OnOk};
 ghost use Rattle.trace_json.specs.GuestState.{state_of};
 ghost use Rattle.debug_records.specs.LineRecords.{Adds};
-ghost use Rattle.debug_records.specs.Moments.{AreStepRecords, AreSteps, IsRest, IsStepRecord};
+ghost use Rattle.debug_records.specs.Moments.{AreStepRecords, IsRest};
 ghost use Rattle.debug_records.specs.Recording.{twin_machine};
 ghost use Rattle.debug_records.specs.Taking.{IsMadeBefore, IsNoText, IsShown, IsStepPushed, IsStepShown, IsStepTaken, IsTakenFrom};
 ghost use Rattle.trace_json.specs.MachineState.{MachineState};
@@ -17,7 +17,7 @@ use crate::taking::{
 };
 use arm_core::Cpu;
 use debug_lines::SteppingCommand;
-use debug_session::{DebugSession, OutsideCall, RunError};
+use debug_session::{OutsideCall, RunError};
 use profile::Sink;
 use profile::text_sink::TextSink;
 use std::alloc::{AllocError, Global};
@@ -28,25 +28,8 @@ use trace_json::{
 };
 
 impl Twin {
-    /// Records the steps that the session has taken in a line, so many, where so many were taken before:
-    /// one by one up to the limit, and the rest as one.
-    pub(crate) fn record_steps<W: Sink>(
-        &mut self,
-        line: &AnsweredLine<'_>,
-        sink: &mut W,
-    ) -> Result<(), RunError>
-        ensures { OnOk result (Adds (AreSteps line.now.before line.now.limit line.now.taken
-            (twin_machine self.old) (twin_machine self.new)) (W.contents sink.old) (W.contents sink.new)) }
-    {
-        if line.limit < line.taken {
-            self.record_each(line, line.limit, sink)?;
-            return self.record_rest(line, sink);
-        }
-        self.record_each(line, line.taken, sink)
-    }
-
-    // Records so many of the steps that a line has taken one by one.
-    fn record_each<W: Sink>(
+    /// Records so many of the steps that a line has taken one by one.
+    pub(crate) fn record_each<W: Sink>(
         &mut self,
         line: &AnsweredLine<'_>,
         count: u64,
@@ -58,26 +41,11 @@ impl Twin {
         for index in 0..count {
             let number = line.before.saturating_add(index + 1);
             let is_last = index + 1 == line.taken;
-            self.record_step(line, number, index, is_last, sink)?;
+            let place = self.show_step(line, index, is_last)?;
+            let head = step_head(self.alloc, number, place)?;
+            self.print_moment(&head, sink)?;
         }
         Ok(())
-    }
-
-    // Records one step.
-    fn record_step<W: Sink>(
-        &mut self,
-        line: &AnsweredLine<'_>,
-        number: u64,
-        index: u64,
-        is_last: bool,
-        sink: &mut W,
-    ) -> Result<(), RunError>
-        ensures { OnOk result (Adds (IsStepRecord number (index == 0) is_last (twin_machine self.old)
-            (twin_machine self.new)) (W.contents sink.old) (W.contents sink.new)) }
-    {
-        let place = self.show_step(line, index, is_last)?;
-        let head = step_head(self.alloc, number, place)?;
-        self.print_moment(&head, sink)
     }
 
     // Takes a step, and writes the fields of its record. Gives the address at which it was made.
@@ -98,7 +66,8 @@ impl Twin {
         self.push_step(&before, &shown, &stub, printed.bytes())
     }
 
-    // Writes the fields of a step that was taken, behind those that it began with.
+    // Writes the fields of a step that was taken, behind those that it began with, and where images stand if it
+    // has moved one.
     fn push_step(
         &mut self,
         before: &StepBefore,
@@ -112,7 +81,10 @@ impl Twin {
         before.push_reads(&mut self.front, machine)?;
         before.push_changes(self.alloc, &mut self.changes, shown, machine, stub)?;
         before.push_rest(self.alloc, &mut self.text, machine, printed)?;
-        self.push_moved(before)?;
+        if !before.may_move_images() {
+            return Ok(before.place());
+        }
+        self.push_places(None)?;
         Ok(before.place())
     }
 
@@ -124,17 +96,6 @@ impl Twin {
         self.front.clear();
         self.changes.clear();
         self.text.clear();
-    }
-
-    // Writes where images stand, if a step has moved one.
-    fn push_moved(&mut self, before: &StepBefore) -> Result<(), AllocError>
-        ensures changes { OnOk result (self.new.changes ≡ self.old.changes) }
-        ensures session { OnOk result (self.new.session ≡ self.old.session) }
-    {
-        if before.may_move_images() {
-            return self.push_places(None);
-        }
-        Ok(())
     }
 
     // Begins the record of a step of a line, and takes it; before the first the routine is entered that a
@@ -149,13 +110,14 @@ impl Twin {
             (λ r. IsStepTaken (index == 0) (twin_machine self.old) (twin_machine self.new) r.0) }
         ensures changes { OnOk result (self.new.changes ≡ self.old.changes) }
     {
-        match outside_call(command, index) {
-            Some(call) => self.begin_call(call, printed),
-            None => {
-                enter_first(&mut self.session.session, command, index);
-                self.begin_entered(printed)
-            }
-        }
+        let Some(call) = outside_call(command, index) else {
+            enter_first(&mut self.session.session, command, index);
+            return self.begin_entered(printed);
+        };
+        let machine = self.session.machine();
+        let before = before_call(self.alloc, &mut self.front, machine, call)?;
+        make_call(&mut self.session.session, &self.images, printed, call)?;
+        Ok((before, WrittenRegisters::new()))
     }
 
     // That of a step that is no call from outside.
@@ -175,23 +137,8 @@ impl Twin {
         Ok((before, written_by_stub(&deed)))
     }
 
-    // Begins that of a call from outside, and makes it.
-    fn begin_call(
-        &mut self,
-        call: OutsideCall<'_>,
-        printed: &mut TextSink,
-    ) -> Result<(StepBefore, WrittenRegisters), AllocError>
-        ensures taken { IfOk result (λ r. IsTakenFrom (twin_machine self.old) (twin_machine self.new) r.0) }
-        ensures changes { OnOk result (self.new.changes ≡ self.old.changes) }
-    {
-        let machine = self.session.machine();
-        let before = before_call(self.alloc, &mut self.front, machine, call)?;
-        make_call(&mut self.session.session, &self.images, printed, call)?;
-        Ok((before, WrittenRegisters::new()))
-    }
-
-    // Records the steps that a line has taken past the limit as one.
-    fn record_rest<W: Sink>(
+    /// Records the steps that a line has taken past the limit as one.
+    pub(crate) fn record_rest<W: Sink>(
         &mut self,
         line: &AnsweredLine<'_>,
         sink: &mut W,
@@ -242,7 +189,7 @@ fn before_call(
     ensures { IfOk result (λ before. IsMadeBefore before (state_of machine.now.guest)) }
 {
     match call {
-        OutsideCall::Swi(number) => Ok(StepBefore::call(alloc, front, machine, number)?),
-        OutsideCall::Load(words) => Ok(StepBefore::load(alloc, front, machine, words)?),
+        OutsideCall::Swi(number) => StepBefore::call(alloc, front, machine, number),
+        OutsideCall::Load(words) => StepBefore::load(alloc, front, machine, words),
     }
 }

@@ -151,12 +151,6 @@ pub(crate) fn settle_last(twin: &mut Session, session: &DebugSession, is_last: b
     if !is_last {
         return;
     }
-    settle(twin, session);
-}
-
-fn settle(twin: &mut Session, session: &DebugSession)
-    ensures { IsSet (state_of twin.old.machine.guest) (state_of twin.new.machine.guest) }
-{
     let cpu = session.machine().cpu();
     cpu.known();
     for place in 0..REGISTERS as u32 {

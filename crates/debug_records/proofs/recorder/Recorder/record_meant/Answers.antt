@@ -1,6 +1,7 @@
 -- The record of a line, those of its steps, and that of its answer.
 use Rattle.std.proofs.Common.{◌≡◌, ◌∙◌, ◌++◌, ℕ, List, is_some, ap, subst}
 use Rattle.std.proofs.lemmas.Result.{on_ok_weaker}
+use Rattle.std.specs.Prelude.{if◌then◌else◌}
 use Rattle.debug_lines.specs.DebugRequests.{debug_opens_block}
 use Rattle.debug_session.specs.DebugScript.{line_opens}
 use Rattle.debug_session.specs.DebugState.{DebugAnswered}
@@ -44,7 +45,8 @@ returns g c =
     let command = c.steps_of-command.result in
     let taken : c.steps_taken-taken.result ≡ steps =
     taken_is meant read command c.steps_taken-taken.result debug after is_read c.steps_of-command.ensures
-    (c.steps_taken-taken.ensures c.answer_line.new.images) now in
+    (c.steps_taken-taken.ensures ∙ ap (λ (n : ℕ). if is_some command then n else 0) (c.steps.ensures c.answer_line.new.images))
+    now in
     let most : c.limit_after-self.result ≡ limit_after asked own.limit =
     subst (λ (ws : List ℕ). c.limit_after-self.result ≡ limit_after (request_meant ws) own.limit) is_read
     c.limit_after-self.ensures in

@@ -1,6 +1,6 @@
 use Rattle.trace_json.specs.GuestState.{state_of}
 use Rattle.debug_records.specs.Moments.{IsSet}
-use Rattle.debug_records.proofs.taking.settle.Given as goal
+use Rattle.debug_records.proofs.taking.settle_last.Given as goal
 
 -- no more than registers was set so far
 abbrev pub invariant-loop-place : goal.invariant-loop-place
