@@ -5,7 +5,6 @@ pub mod IncludingLemmas
 pub mod ReadLemmas
 pub mod ResultLemmas
 pub mod ScriptLemmas
-pub mod ShownLemmas
 pub mod SpellingLemmas
 pub mod TakenLemmas
 pub mod TalkLemmas

@@ -1,12 +1,8 @@
 //! The lines of a debugging script, answered one after another, each once.
 
-ghost use Rattle.std.specs.Prelude.{◌≡◌, ◌+◌, ◌⊎◌, List, [], Some, true, IfOk, OnOk, IfNone, IfSome};
+ghost use Rattle.std.specs.Prelude.{◌≡◌, ◌⊎◌, [], true, IfOk, OnOk, IfNone, IfSome};
 ghost use Rattle.std.specs.Str.Lines.{lines};
-ghost use Rattle.command_shell_lines.specs.Blocks.{lines_after, lines_taken};
-ghost use Rattle.debug_session.specs.DebugScript.{line_opens};
-ghost use Rattle.debug_session.specs.DebugState.{IsDebugged};
-ghost use Rattle.debug_session.specs.Session.{debug_state};
-ghost use Rattle.debug_program.specs.Answering.{place_of_answering, shown_with_block, IsNextAnswered};
+ghost use Rattle.debug_program.specs.Answering.{place_of_answering, IsNextAnswered};
 
 use crate::front_lines::cut_lines;
 use debug_session::DebugSession;
@@ -90,32 +86,17 @@ impl<'a> ScriptAnswering<'a> {
         let Some(line) = self.place.next_line() else {
             return Ok(None);
         };
-        let answer = self.answer_to(alloc, line)?;
-        let (lines, rest) = cut_lines(self.rest, self.place.number() - number);
-        self.rest = rest;
-        Ok(Some(AnsweredLine { lines, answer }))
-    }
-
-    // What a line is answered, with its block of the lines that are left where it opens one.
-    fn answer_to(&mut self, alloc: Global, line: &[u8]) -> Result<Vec<u8>, AllocError>
-        ensures reported { IfOk result (λ answer. IsDebugged (Some []) (Some answer.items)
-            (debug_state self.new.session self.new.images) (shown_with_block self.old.session.setting
-            (debug_state self.old.session self.old.images) self.old.place.number line.now
-            self.old.place.left)) }
-        ensures left { OnOk result (self.new.place.left
-            ≡ lines_after (line_opens line.now) self.old.place.left) }
-        ensures number { OnOk result (self.new.place.number
-            ≡ self.old.place.number + lines_taken (line_opens line.now) self.old.place.left) }
-        ensures rest { self.new.rest.now ≡ self.old.rest.now }
-        ensures setting { self.new.session.setting ≡ self.old.session.setting }
-    {
         let mut answer = TextSink::new(alloc);
         match self
             .session
             .answer_line(&mut self.images, &mut answer, line, &mut self.place)
         {
-            Ok(()) => Ok(answer.into_bytes()),
-            Err(_) => Err(AllocError),
+            Ok(()) => {}
+            Err(_) => return Err(AllocError),
         }
+        let (lines, rest) = cut_lines(self.rest, self.place.number() - number);
+        self.rest = rest;
+        let answer = answer.into_bytes();
+        Ok(Some(AnsweredLine { lines, answer }))
     }
 }

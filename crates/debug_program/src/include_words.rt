@@ -3,7 +3,7 @@
 ghost use Rattle.std.specs.Prelude.{◌≡◌, ◌++◌, IfOk, option_map, string_bytes};
 ghost use Rattle.std.specs.Str.Lines.{strip_carriage_return};
 ghost use Rattle.debug_lines.specs.WholeDebugRequests.{is_debug_block_open_after};
-ghost use Rattle.debug_program.specs.Including.{is_path, note_text, path_beside, saved_line, text_of_word, words_of_line};
+ghost use Rattle.debug_program.specs.Including.{note_text, path_beside, saved_line, words_of_line};
 
 use crate::typing::joined;
 use command_shell_lines::debug_words::text_behind;
@@ -32,19 +32,12 @@ pub(crate) fn words_of_line(
         return Ok(None);
     }
     let tidy = tidied(alloc, line)?;
-    match text_of_word(word, opening, &tidy) {
+    if tidy.eq_ignore_ascii_case(word) {
+        return Ok(Some(Vec::new(alloc)));
+    }
+    match text_behind(opening, &tidy) {
         Some(text) => Ok(Some(Vec::from_slice(alloc, text)?)),
         None => Ok(None),
-    }
-}
-
-fn text_of_word<'a>(word: &[u8], opening: &[u8], tidy: &'a [u8]) -> Option<&'a [u8]>
-    ensures { option_map (λ text. text.now) result ≡ text_of_word word.now opening.now tidy.now }
-{
-    if tidy.eq_ignore_ascii_case(word) {
-        Some(&[])
-    } else {
-        text_behind(opening, tidy)
     }
 }
 
@@ -96,13 +89,6 @@ pub(crate) fn without_return(line: &[u8]) -> &[u8]
         [front @ .., b'\r'] => front,
         _ => line,
     }
-}
-
-/// Whether a text is one word.
-pub(crate) fn is_path(text: &[u8]) -> bool
-    ensures { result ≡ is_path text.now }
-{
-    !text.is_empty() && !text.contains(&b' ')
 }
 
 /// The path of a file that a script names: from the folder of the script.

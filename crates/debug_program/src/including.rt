@@ -3,7 +3,7 @@
 ghost use Rattle.std.specs.Prelude.{◌≡◌, ℕ, true, List, Option, option_map, IfOk, IfNone, IfSome, IsSome, OnErr, OnOk, string_bytes};
 
 use crate::include_words::{
-    is_block_open_after, is_path, note_text, path_beside, saved_line, without_return, words_of_line,
+    is_block_open_after, note_text, path_beside, saved_line, without_return, words_of_line,
 };
 use debug_session::DebugSession;
 use profile::images::Images;
@@ -258,20 +258,6 @@ impl GivenText {
         Ok(())
     }
 
-    /// The line about a file that the last line asked for, or why it isn't written.
-    pub(crate) fn saved(
-        &self,
-        alloc: Global,
-        script: &str,
-        written: Result<String, FileFault>,
-    ) -> Result<String, IncludeRefusal> {
-        match written {
-            Ok(line) => Ok(line),
-            Err(FileFault::Memory) => Err(IncludeRefusal::Memory),
-            Err(FileFault::Reason(reason)) => Err(self.refused_save(alloc, script, &reason)),
-        }
-    }
-
     /// The last line can't save anything, for this reason.
     pub(crate) fn refused_save(&self, alloc: Global, script: &str, reason: &str) -> IncludeRefusal {
         let number = self.own_number;
@@ -319,7 +305,7 @@ impl IncludingLine<'_> {
         ensures path { IfOk result (λ path. string_bytes path ≡ path_beside self.now.script.now wanted.now) }
         ensures refused { IfErr result (λ refusal. (refusal ≡ Memory) ⊎ NamesNoFile depth wanted.now) }
     {
-        if !is_path(wanted) {
+        if wanted.is_empty() || wanted.contains(&b' ') {
             return Err(self.refused_line(alloc, NO_FILE));
         }
         let Ok(path) = str::from_utf8(wanted) else {

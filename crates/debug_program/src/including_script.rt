@@ -2,7 +2,7 @@
 
 ghost use Rattle.std.specs.Prelude.{◌≡◌, true, IfErr, OnErr, OnOk};
 
-use crate::including::{DEPTH, GivenText, IncludeRefusal, ScriptFiles};
+use crate::including::{DEPTH, FileFault, GivenText, IncludeRefusal, ScriptFiles};
 use crate::whole_lines::WholeLines;
 use debug_session::{DebugSession, RunError};
 use profile::images::Images;
@@ -37,8 +37,7 @@ pub struct IncludingScript<'a, D, S> {
 }
 
 impl<'a, D: ScriptFiles, S: Source> IncludingScript<'a, D, S> {
-    ghost use Rattle.std.specs.Prelude.{◌≤◌, ◌<◌, ◌+◌, take, length, true, is_some, vec_len, [], IfOk, OnOk, OnErr};
-    ghost use Rattle.std.specs.Io.KnownBytes.{Consumes};
+    ghost use Rattle.std.specs.Prelude.{◌≤◌, true, is_some, vec_len, [], IfOk, OnOk, OnErr};
     ghost use Rattle.debug_program.specs.Including.{PlainTextStays, file_given, given_none, script_left};
     ghost use Rattle.debug_program.specs.GoingOn.{known_unless};
     ghost use Rattle.debug_program.specs.IncludingScript.{IsAllGiven, IsStillLeft, given_left};
@@ -81,23 +80,6 @@ impl<'a, D: ScriptFiles, S: Source> IncludingScript<'a, D, S> {
         self.refusal.take()
     }
 
-    // Puts what is given into a buffer, as far as there is room.
-    fn put(&mut self, buffer: &mut [u8]) -> usize
-        ensures count { result ≤ length buffer.new }
-        ensures bytes { Consumes (given_left D.text_of S.remaining self.old)
-            (given_left D.text_of S.remaining self.new) (take result buffer.new) }
-        ensures some { 0 < length buffer.old → self.old.pulled < length self.old.given.text.items
-            → 0 < result }
-        ensures refusal { self.new.refusal ≡ self.old.refusal }
-    {
-        let from = self.pulled.min(self.given.text.len());
-        let left = &self.given.text[from..];
-        let count = left.len().min(buffer.len());
-        buffer[..count].copy_from_slice(&left[..count]);
-        self.pulled = from + count;
-        count
-    }
-
     // Reads on: gives lines, if any, or keeps why not; and whether it is at the end.
     fn read_on(&mut self) -> Result<bool, ReadFault>
         requires { vec_len self.old.given.text ≤ self.old.pulled }
@@ -123,8 +105,8 @@ impl<'a, D: ScriptFiles, S: Source> IncludingScript<'a, D, S> {
         }
     }
 
-    // Takes what was read, as far as there is room for it, or reads more, and answers whether it is at the
-    // end.
+    // Takes what was read byte by byte, as far as there is room for it, and where a line INCLUDE ends there
+    // its file, or reads more; and answers whether it is at the end.
     fn take_lines(&mut self) -> Result<bool, IncludeRefusal>
         requires { self.old.pulled ≡ 0 }
         ensures kept { IsStillLeft D.text_of S.remaining self.old self.new }
@@ -138,29 +120,15 @@ impl<'a, D: ScriptFiles, S: Source> IncludingScript<'a, D, S> {
             && self.given.text.len() < PIECE
             && self.given.save.is_none()
         {
-            self.take_next()?;
+            let Some(byte) = self.piece.get(self.taken) else {
+                return Err(IncludeRefusal::ReadFault);
+            };
+            let wanted = self.given.take_byte(self.alloc, *byte)?;
+            self.given
+                .include(self.alloc, self.files, self.script, DEPTH, wanted)?;
+            self.taken += 1;
         }
         Ok(false)
-    }
-
-    // Takes the next byte of what was read, and where a line INCLUDE ends there its file.
-    fn take_next(&mut self) -> Result<(), IncludeRefusal>
-        requires none { self.old.pulled ≡ 0 }
-        requires some { self.old.taken < self.old.length }
-        ensures kept { IsStillLeft D.text_of S.remaining self.old self.new }
-        ensures none { self.new.pulled ≡ 0 }
-        ensures same { (self.new.refusal ≡ self.old.refusal) × (self.new.is_terminal ≡ self.old.is_terminal) }
-        ensures next { OnOk result
-            ((self.new.taken ≡ self.old.taken + 1) × (self.new.length ≡ self.old.length)) }
-    {
-        let Some(byte) = self.piece.get(self.taken) else {
-            return Err(IncludeRefusal::ReadFault);
-        };
-        let wanted = self.given.take_byte(self.alloc, *byte)?;
-        self.given
-            .include(self.alloc, self.files, self.script, DEPTH, wanted)?;
-        self.taken += 1;
-        Ok(())
     }
 
     // Reads the next piece, or takes the last line where there is none.
@@ -203,7 +171,11 @@ impl<D: ScriptFiles, S: Source> Source for IncludingScript<'_, D, S> {
         }
         for _pulls in 0..u64::MAX {
             if self.pulled < self.given.text.len() {
-                return Ok(self.put(buffer));
+                let left = &self.given.text[self.pulled..];
+                let count = left.len().min(buffer.len());
+                buffer[..count].copy_from_slice(&left[..count]);
+                self.pulled += count;
+                return Ok(count);
             }
             if self.given.save.is_some() {
                 self.refusal = Some(self.given.refused_save(self.alloc, self.script, NOT_SAVED));
@@ -245,16 +217,24 @@ impl<D: ScriptFiles, S: Source> SavingSource for IncludingScript<'_, D, S> {
             return Ok(());
         };
         let (alloc, files, script) = (self.alloc, self.files, self.script);
-        let written = files.write_saved(alloc, session, images, script, &words);
-        match self.given.saved(alloc, script, written) {
-            Ok(line) => files.show(line.as_str()),
-            Err(IncludeRefusal::Line(line)) if self.is_terminal => files.show(line.as_str()),
-            Err(refusal) => {
+        let refusal = match files.write_saved(alloc, session, images, script, &words) {
+            Ok(line) => {
+                files.show(line.as_str());
+                return Ok(());
+            }
+            Err(FileFault::Memory) => IncludeRefusal::Memory,
+            Err(FileFault::Reason(reason)) => self.given.refused_save(alloc, script, &reason),
+        };
+        match refusal {
+            IncludeRefusal::Line(line) if self.is_terminal => {
+                files.show(line.as_str());
+                Ok(())
+            }
+            refusal => {
                 self.refusal = Some(refusal);
-                return Err(RunError::ReadFault);
+                Err(RunError::ReadFault)
             }
         }
-        Ok(())
     }
 }
 

@@ -25,8 +25,6 @@ pub struct PromptedLines<S> {
 }
 
 impl<S: Source> PromptedLines<S> {
-    ghost use Rattle.std.specs.Prelude.{◌≡◌, ◌≤◌, length};
-
     /// What a source gives from here on, which may be a terminal.
     pub fn new(inner: S, is_terminal: bool) -> PromptedLines<S>
         ensures inner { result.inner ≡ inner }
@@ -40,28 +38,16 @@ impl<S: Source> PromptedLines<S> {
         }
     }
 
-    // Puts the line STEP that was typed last into a buffer again, and answers how many bytes it has: 0
-    // where none was.
-    fn put_again(&self, buffer: &mut [u8]) -> usize
-        ensures { result ≤ length buffer.new }
-    {
-        let (Some(line), Some(room)) = (
-            self.again.get(..self.length),
-            buffer.get_mut(..self.length),
-        ) else {
-            return 0;
-        };
-        room.copy_from_slice(line);
-        self.length
-    }
-
-    // Keeps a line, where it may be typed again.
+    // Keeps a line, where it may be typed again: a tidy one with its end that asks for steps by their number.
     fn keep(&mut self, line: &[u8])
         ensures inner { self.new.inner ≡ self.old.inner }
         ensures terminal { self.new.is_terminal ≡ self.old.is_terminal }
     {
         self.length = 0;
-        if !is_step_line(line) {
+        let (tidy, Some([])) = cut(line, b'\n') else {
+            return;
+        };
+        if !is_step(tidy) {
             return;
         }
         if let Some(room) = self.again.get_mut(..line.len()) {
@@ -84,20 +70,18 @@ impl<S: Source> Source for PromptedLines<S> {
         if !self.is_terminal {
             return Ok(count);
         }
-        if count == 1 && buffer[0] == b'\n' {
-            let again = self.put_again(buffer);
-            return Ok(if again > 0 { again } else { count });
+        if count != 1 || buffer[0] != b'\n' {
+            self.keep(&buffer[..count]);
+            return Ok(count);
         }
-        self.keep(&buffer[..count]);
-        Ok(count)
-    }
-}
-
-// Whether a text is one tidy line with its end that asks for steps by their number.
-fn is_step_line(text: &[u8]) -> bool {
-    match cut(text, b'\n') {
-        (line, Some([])) => is_step(line),
-        _ => false,
+        // An empty line stands for the line STEP that was typed last, where one was.
+        match (self.again.get(..self.length), buffer.get_mut(..self.length)) {
+            (Some(line), Some(room)) if self.length > 0 => {
+                room.copy_from_slice(line);
+                Ok(self.length)
+            }
+            _ => Ok(count),
+        }
     }
 }
 

@@ -3,7 +3,7 @@
 ghost use Rattle.std.specs.Prelude.{◌≡◌, OnOk};
 ghost use Rattle.std.specs.Io.KnownBytes.{Appends};
 ghost use Rattle.debug_program.specs.GoingOn.{is_open_behind as is_open_behind_shown};
-ghost use Rattle.debug_program.specs.Shown.{is_ending_line, shown_piece};
+ghost use Rattle.debug_program.specs.Shown.{shown_piece};
 
 use crate::whole_lines::is_open_behind;
 use debug_session::begins_ending;
@@ -35,7 +35,7 @@ impl<W> ShownAnswers<W> {
 }
 
 impl<W: Write> ShownAnswers<W> {
-    // Writes a piece as a terminal shows it.
+    // Writes a piece as a terminal shows it: how steps ended is a whole line.
     fn show(&mut self, piece: &[u8]) -> io::Result<()>
         ensures text { OnOk result (Appends (W.contents self.old.inner) (W.contents self.new.inner)
             (shown_piece self.old.is_line_open piece.now)) }
@@ -43,7 +43,7 @@ impl<W: Write> ShownAnswers<W> {
             ≡ is_open_behind_shown self.old.is_line_open piece.now) }
         ensures terminal { self.new.is_terminal ≡ self.old.is_terminal }
     {
-        if self.is_line_open && is_ending_line(piece) {
+        if self.is_line_open && begins_ending(piece) && !is_open_behind(false, piece) {
             self.inner.write_all(b"\n")?;
         }
         self.inner.write_all(piece)?;
@@ -71,11 +71,4 @@ impl<W: Write> Write for ShownAnswers<W> {
         self.is_line_open = false;
         self.inner.flush()
     }
-}
-
-// Whether a piece is how steps ended, a whole line.
-fn is_ending_line(piece: &[u8]) -> bool
-    ensures { result ≡ is_ending_line piece.now }
-{
-    begins_ending(piece) && !is_open_behind(false, piece)
 }

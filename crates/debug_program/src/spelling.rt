@@ -4,7 +4,7 @@
 ghost use Rattle.std.specs.Prelude.{◌≡◌, ◌<◌, true};
 ghost use Rattle.profile.specs.Digits.{hex_digit};
 ghost use Rattle.profile.specs.Output.{Writes};
-ghost use Rattle.debug_program.specs.Spelling.{end_text, sign_of, spelt_byte, spelt_from, spelt_in};
+ghost use Rattle.debug_program.specs.Spelling.{sign_of, spelt_from, spelt_in};
 
 use profile::{Sink, WriteFault, push_all};
 
@@ -27,14 +27,25 @@ pub fn push_side<W: Sink>(sink: &mut W, side: Side, text: &[u8]) -> Result<(), W
         push_byte(sink, side, is_first, *byte)?;
         is_first = *byte == b'\n';
     }
-    push_end(sink, is_first)
+    if is_first {
+        return Ok(());
+    }
+    push_all(sink, b"\\\n")
 }
 
+// Writes a byte behind its sign as a transcript spells it: `\\`, `\r`, `\t`, and `\x1B` for an
+// unprintable byte. A line feed stays.
 fn push_byte<W: Sink>(sink: &mut W, side: Side, is_first: bool, byte: u8) -> Result<(), WriteFault>
     ensures { Writes W.contents W.has_failed sink.old sink.new result (spelt_in side is_first byte) }
 {
     push_all(sink, sign_of(side, is_first, byte))?;
-    push_spelt_byte(sink, byte)
+    match byte {
+        b'\\' => push_all(sink, b"\\\\"),
+        b'\r' => push_all(sink, b"\\r"),
+        b'\t' => push_all(sink, b"\\t"),
+        b'\n' | b' '..=b'~' => push_all(sink, &[byte]),
+        _ => push_all(sink, &[b'\\', b'x', digit(byte / 16), digit(byte % 16)]),
+    }
 }
 
 // What stands before a byte: where it is the first of its line, `> ` or `>` of what is typed, and
@@ -48,30 +59,6 @@ fn sign_of(side: Side, is_first: bool, byte: u8) -> &'static [u8]
         (Side::Typed, true, _) => b"> ",
         (Side::Reported, true, b'#' | b'$' | b'>' | b'=' | b'!') => b"\\",
         (Side::Reported, true, _) => b"",
-    }
-}
-
-fn push_end<W: Sink>(sink: &mut W, is_first: bool) -> Result<(), WriteFault>
-    ensures { Writes W.contents W.has_failed sink.old sink.new result (end_text is_first) }
-{
-    if is_first {
-        Ok(())
-    } else {
-        push_all(sink, b"\\\n")
-    }
-}
-
-// Writes a byte as a transcript spells it: `\\`, `\r`, `\t`, and `\x1B` for an unprintable byte.
-// A line feed stays.
-fn push_spelt_byte<W: Sink>(sink: &mut W, byte: u8) -> Result<(), WriteFault>
-    ensures { Writes W.contents W.has_failed sink.old sink.new result (spelt_byte byte) }
-{
-    match byte {
-        b'\\' => push_all(sink, b"\\\\"),
-        b'\r' => push_all(sink, b"\\r"),
-        b'\t' => push_all(sink, b"\\t"),
-        b'\n' | b' '..=b'~' => push_all(sink, &[byte]),
-        _ => push_all(sink, &[b'\\', b'x', digit(byte / 16), digit(byte % 16)]),
     }
 }
 
