@@ -156,13 +156,12 @@ pub acks_gone : (has now : Bool) (asked : GdbRequest) → has ≡ false → now 
 acks_gone has now asked is none = subst (λ (b : Bool). now ≡ acks_after b asked) (sym is) none
 
 -- a packet that was answered, with the answer as it was written
-pub packet_kept : (s : ServerState) (session : GdbState) (acks extended : Bool) (last begins written : List ℕ) (loads : LoadState) (answer : GdbAnswer)
+pub packet_kept : (s : ServerState) (session : GdbState) (acks extended : Bool) (last : List ℕ) (loads : LoadState) (answer : GdbAnswer)
     (asked : GdbRequest) (load : List (List ℕ)) → asked ≡ request_now s → loads ≡ loads_now s → load ≡ loads.kept
     → acks ≡ acks_after s.has_acks asked → extended ≡ extends s.is_extended asked → IsGdbAnswered session answer (request_answered s.lacks load s.session asked)
-    → last ≡ written → begins ≡ []
-    → Appends (Some begins) (Some written) (shown_packets answer.reported.items ++ reply_packet (option_map (λ reply. reply.items) answer.reply))
+    → last ≡ shown_packets answer.reported.items ++ reply_packet (option_map (λ reply. reply.items) answer.reply)
     → record s { session = session; has_acks = acks; is_extended = extended; last = last; loads = loads } ≡ (packet_served s).state
-packet_kept s session acks extended last begins written loads answer asked load of_packet noted held has extends_so reported written_so empty writes =
+packet_kept s session acks extended last loads answer asked load of_packet noted held has extends_so reported written =
     let request : GdbRequest = request_now s in
     let shown : GdbAnswered = request_answered s.lacks (loads_now s).kept s.session request in
     let kept : load ≡ (loads_now s).kept = held ∙ ap (λ (l : LoadState). l.kept) noted in
@@ -171,8 +170,7 @@ packet_kept s session acks extended last begins written loads answer asked load 
     (subst (λ (l : List (List ℕ)). IsGdbAnswered session answer (request_answered s.lacks l s.session asked)) kept reported) in
     let acks_now : acks ≡ acks_after s.has_acks request = has ∙ ap (λ (r : GdbRequest). acks_after s.has_acks r) of_packet in
     let mode : extended ≡ extends s.is_extended request = extends_so ∙ ap (λ (r : GdbRequest). extends s.is_extended r) of_packet in
-    let text : last ≡ answer_text shown = written_so ∙ writes
-    ∙ ap (λ (x : List ℕ). x ++ (shown_packets answer.reported.items ++ reply_packet (option_map (λ reply. reply.items) answer.reply))) empty
+    let text : last ≡ answer_text shown = written
     ∙ ap (λ (x : List ℕ). shown_packets x ++ reply_packet (option_map (λ reply. reply.items) answer.reply)) done.text
     ∙ ap (λ (o : Option (List ℕ)). shown_packets shown.reported ++ reply_packet o) done.reply in
     ap (λ (g : GdbState). record s { session = g; has_acks = acks; is_extended = extended; last = last; loads = loads }) done.state

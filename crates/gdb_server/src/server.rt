@@ -2,9 +2,9 @@
 
 ghost use Rattle.std.specs.Prelude.{◌≡◌, ◌++◌, true, [], List, IfErr, IfOk, OnOk, OnErr, codes, is_some};
 ghost use Rattle.debug_session.specs.Error.{IsLineError};
-ghost use Rattle.profile.specs.Output.{AddsFront, Writes};
+ghost use Rattle.profile.specs.Output.{AddsFront};
 ghost use Rattle.std.specs.Io.KnownBytes.{Appends};
-ghost use Rattle.gdb_server.specs.Serving.{ack_text, shown_packets, text_packet, reply_packet, spoilt_text};
+ghost use Rattle.gdb_server.specs.Serving.{ack_text, shown_packets, text_packet, reply_packet};
 ghost use Rattle.gdb_packets.specs.Fixed.{is_taken_so};
 ghost use Rattle.std.specs.Option.{option_map};
 
@@ -150,7 +150,8 @@ impl GdbServer {
         }
     }
 
-    // A packet that came spoilt is taken as it is where nobody asks for it again, unless it is too long.
+    // A packet that came spoilt is asked for again. Where nobody asks so, it is taken as it is, unless it
+    // is too long: that one is refused.
     fn take_spoilt<W: Sink>(&mut self, images: &mut Images, sink: &mut W) -> Result<(), RunError>
         ensures reported { OnOk result (IsServed (W.contents sink.old) (W.contents sink.new)
             (server_state self.new images.new)
@@ -164,8 +165,10 @@ impl GdbServer {
     {
         if is_taken_so(self.has_acks, self.reader.is_whole()) {
             self.take_packet(images, sink)
+        } else if self.has_acks {
+            Ok(push_all(sink, b"-")?)
         } else {
-            Ok(self.refuse(sink)?)
+            Ok(push_all(sink, b"$E16#ac")?)
         }
     }
 
@@ -196,9 +199,7 @@ impl GdbServer {
         ensures errors { IfErr result IsLineError }
     {
         let answer = self.session.ask_to_stop()?;
-        let mut text = TextSink::new(self.alloc);
-        push_answer(self.alloc, &mut text, &answer)?;
-        self.last = text.into_bytes();
+        self.last = packets_of(self.alloc, &answer)?;
         Ok(())
     }
 
@@ -244,44 +245,23 @@ impl GdbServer {
         let answer = self
             .session
             .answer_request(images, &request, self.loads.kept(), self.lacks)?;
-        let mut text = TextSink::new(self.alloc);
-        push_answer(self.alloc, &mut text, &answer)?;
-        self.last = text.into_bytes();
+        self.last = packets_of(self.alloc, &answer)?;
         Ok(())
-    }
-
-    // A packet that came spoilt: it is asked for again, or where nobody asks so, refused.
-    fn refuse<W: Sink>(&self, sink: &mut W) -> Result<(), WriteFault>
-        ensures reported { Writes W.contents W.has_failed sink.old sink.new result
-            (spoilt_text self.now.has_acks) }
-        ensures front { OnErr result
-            (AddsFront (W.contents sink.old) (W.contents sink.new) (spoilt_text self.now.has_acks)) }
-    {
-        if self.has_acks {
-            push_all(sink, b"-")
-        } else {
-            push_all(sink, b"$E16#ac")
-        }
     }
 }
 
-/// Writes an answer: the text for the user in packets, and then the packet.
-pub(crate) fn push_answer<W: Sink>(
-    alloc: Global,
-    sink: &mut W,
-    answer: &GdbAnswer,
-) -> Result<(), RunError>
-    ensures reported { OnOk result (Appends (W.contents sink.old) (W.contents sink.new)
-        (shown_packets answer.now.reported.items
-        ++ reply_packet (option_map (λ reply. reply.items) answer.now.reply))) }
-    ensures same_flag { OnOk result (W.has_failed sink.new ≡ W.has_failed sink.old) }
+// An answer as it is written: the text for the user in packets, and then the packet.
+fn packets_of(alloc: Global, answer: &GdbAnswer) -> Result<Vec<u8>, RunError>
+    ensures written { IfOk result (λ text. text.items ≡ shown_packets answer.now.reported.items
+        ++ reply_packet (option_map (λ reply. reply.items) answer.now.reply)) }
     ensures errors { IfErr result IsLineError }
 {
-    push_shown(alloc, sink, answer.reported.as_slice())?;
-    match &answer.reply {
-        Some(reply) => Ok(push_packet(sink, reply.as_slice())?),
-        None => Ok(()),
+    let mut text = TextSink::new(alloc);
+    push_shown(alloc, &mut text, answer.reported.as_slice())?;
+    if let Some(reply) = &answer.reply {
+        push_packet(&mut text, reply.as_slice())?;
     }
+    Ok(text.into_bytes())
 }
 
 // Text for the user, in packets that begin with `O`.

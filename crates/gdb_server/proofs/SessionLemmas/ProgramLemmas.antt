@@ -11,7 +11,8 @@ use Rattle.gdb_server.specs.session.Requests.{gdb_answered}
 use Rattle.gdb_server.specs.session.Session.{IsGdbAnswered}
 use Rattle.gdb_server.specs.session.State.{GdbAnswered, GdbState}
 use Rattle.gdb_server.specs.declared.session.session.GdbAnswer.{GdbAnswer}
-use Rattle.gdb_server.proofs.SessionLemmas.RunLemmas.{answered_as, replied}
+use Rattle.gdb_server.proofs.SessionLemmas.ChangeLemmas.{answer_known}
+use Rattle.gdb_server.proofs.SessionLemmas.RunLemmas.{answered_as}
 
 -- one more
 packets_more : {V : Type 0} (f : V → List ℕ) (packets : List V) (n : ℕ) (packet : V) (g : GdbState) → n < length packets
@@ -49,11 +50,12 @@ runs_anew load g begun there now r starts takes reported =
     (ap (λ (s : GdbState). gdb_answered s request.Reason) (takes ∙ ap (λ (s : GdbState). after_packets load s) starts)) reported
 
 -- a file can't be read, or all can
-pub lacks_program : (lacks : Bool) (load : List (List ℕ)) (g : GdbState) (answer : GdbAnswer) → lacks ≡ true
-    → answer.reported.items ≡ [] → option_map (λ reply. reply.items) answer.reply ≡ Some (codes "E02")
-    → IsGdbAnswered g answer (program_run_unless lacks load g)
-lacks_program lacks load g answer is none packet =
-    subst (λ (b : Bool). IsGdbAnswered g answer (program_run_unless b load g)) (sym is) (replied g answer (codes "E02") none packet)
+pub lacks_program : (lacks : Bool) (load : List (List ℕ)) (g : GdbState) (r : Result GdbAnswer RunError) → lacks ≡ true
+    → IfOk r (λ answer. answer.reported.items ≡ []) → IfOk r (λ answer. option_map (λ reply. reply.items) answer.reply ≡ Some (codes "E02"))
+    → IfOk r (λ answer. IsGdbAnswered g answer (program_run_unless lacks load g))
+lacks_program lacks load g r is none packet =
+    answer_known g r (Some (codes "E02")) (program_run_unless lacks load g) none packet
+    (sym (ap (λ (b : Bool). program_run_unless b load g) is))
 
 pub has_program : (lacks : Bool) (load : List (List ℕ)) (g now : GdbState) (r : Result GdbAnswer RunError) → lacks ≡ false
     → IfOk r (λ answer. IsGdbAnswered now answer (run_answered load g))

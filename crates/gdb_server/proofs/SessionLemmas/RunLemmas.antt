@@ -212,7 +212,3 @@ begun_so g later now reported libraries same state none =
     ap (λ (u : DebugSettings). record g { setting = u; debug = now; libraries = libraries }) same
     ∙ ap (λ (d : DebugState). record g { debug = d; libraries = libraries }) state
     ∙ ap (λ (x : List ℕ). record g { debug = reported.state; libraries = x }) none
-
-pub replied : (g : GdbState) (answer : GdbAnswer) (text : List ℕ) → answer.reported.items ≡ []
-    → option_map (λ reply. reply.items) answer.reply ≡ Some text → IsGdbAnswered g answer (packet_reply g text)
-replied g answer text none packet = record { state = refl; text = none; reply = packet }

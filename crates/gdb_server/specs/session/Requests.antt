@@ -8,6 +8,7 @@ use Rattle.gdb_packets.specs.declared.requests.PointKind.TheVariants as point
 use Rattle.gdb_machine.specs.declared.back_ends.UnderWay.{UnderWay}
 use Rattle.gdb_machine.specs.declared.back_ends.UnderWay.TheVariants as under
 use Rattle.gdb_machine.specs.declared.stops.GdbStop.TheVariants as reason
+use Rattle.gdb_machine.specs.declared.watches.WatchKind.{WatchKind}
 use Rattle.gdb_machine.specs.declared.watches.WatchKind.TheVariants as kind
 use Rattle.gdb_packets.specs.declared.going.Going.TheVariants as going
 use Rattle.gdb_server.specs.session.Back as back
@@ -16,6 +17,13 @@ use Rattle.gdb_server.specs.session.Looks.{look_reply}
 use Rattle.gdb_server.specs.session.Runs as runs
 use Rattle.gdb_server.specs.session.State.{GdbState, GdbAnswered, packet_reply, no_reply}
 use Rattle.gdb_server.specs.session.Stores.{store_shown}
+
+-- what a watch looks for; a break is none
+abbrev pub watch_kind : PointKind → Option WatchKind
+watch_kind point.Break = None
+watch_kind point.StoreWatch = Some kind.Store
+watch_kind point.LoadWatch = Some kind.Load
+watch_kind point.AccessWatch = Some kind.Access
 
 abbrev pub add_point_shown : GdbState → PointKind → ByteRange → GdbAnswered
 add_point_shown g point.Break range = changes.add_break_shown g range

@@ -10,7 +10,7 @@ use gdb_machine::{GdbStop, UnderWay};
 use gdb_packets::{Going, Request};
 use profile::Stop;
 use profile::images::Images;
-use profile::text_sink::TextSink;
+use std::alloc::AllocError;
 
 impl GdbSession {
     ghost use Rattle.profile.specs.images.Entries.{Entry};
@@ -40,10 +40,7 @@ impl GdbSession {
             Request::Line(pairs) => self.answer_line(images, pairs),
             Request::RunProgram => self.run_program(images),
             Request::Restart => self.restart(images),
-            _ => {
-                let reply = self.change(request)?;
-                self.shown_change(reply)
-            }
+            _ => self.change(request),
         }
     }
 
@@ -57,7 +54,7 @@ impl GdbSession {
             return Ok(self.without_reply());
         };
         if asks {
-            return self.stopped(TextSink::new(self.alloc), GdbStop::Asked);
+            return self.stand(GdbStop::Asked);
         }
         match going {
             UnderWay::Run(going) => self.slice(images, going),
@@ -65,50 +62,36 @@ impl GdbSession {
         }
     }
 
-    // The packet that reports a change, if one does.
-    fn shown_change(&self, reply: Option<&'static [u8]>) -> Result<GdbAnswer, RunError>
-        ensures reported { IfOk result (λ answer. answer.reported.items ≡ []) }
-        ensures reply { IfOk result (λ answer. option_map (λ packet. packet.items) answer.reply
-            ≡ option_map (λ text. text.now) reply.entry) }
+    // Changes what stands, without a step.
+    fn change(&mut self, request: &Request<'_>) -> Result<GdbAnswer, RunError>
+        ensures reported { (images : List Entry) → IfOk result (λ answer.
+            IsGdbAnswered (gdb_state self.new images) answer
+            (gdb_change_shown (gdb_state self.old images) (gdb_request request.now))) }
         ensures errors { IfErr result IsLineError }
     {
-        match reply {
-            Some(reply) => Ok(self.with_reply(Vec::from_slice(self.alloc, reply)?)),
-            None => Ok(self.without_reply()),
-        }
-    }
-
-    // Changes what stands, without a step, and gives the packet that reports it.
-    fn change(&mut self, request: &Request<'_>) -> Result<Option<&'static [u8]>, RunError>
-        ensures reported { (images : List Entry) → IfOk result (λ reply. record {
-          state = gdb_state self.new images;
-          reported = [];
-          reply = option_map (λ text. text.now) reply;
-        } ≡ gdb_change_shown (gdb_state self.old images) (gdb_request request.now)) }
-        ensures errors { IfErr result IsLineError }
-    {
-        match request {
-            Request::SetRegister(number, pairs) => Ok(Some(self.set_register(*number, pairs)?)),
-            Request::StorePairs(range, pairs) => Ok(Some(self.store_pairs(*range, pairs)?)),
-            Request::StoreBytes(range, bytes) => Ok(Some(self.store(*range, bytes)?)),
-            Request::AddPoint(kind, range) => Ok(Some(self.add_point(*kind, *range))),
+        let reply: Result<&[u8], AllocError> = match request {
+            Request::SetRegister(number, pairs) => self.set_register(*number, pairs),
+            Request::StorePairs(range, pairs) => self.store_pairs(*range, pairs),
+            Request::StoreBytes(range, bytes) => self.store(*range, bytes),
+            Request::AddPoint(kind, range) => Ok(self.add_point(*kind, *range)),
             Request::RemovePoint(kind, range) => {
                 self.remove_point(*kind, *range);
-                Ok(Some(b"OK"))
+                Ok(b"OK")
             }
             Request::KillProgram => {
                 self.going = None;
                 self.stop = GdbStop::Ran(Stop::Exit);
-                Ok(Some(b"OK"))
+                Ok(b"OK")
             }
             Request::Detach => {
                 self.has_ended = true;
-                Ok(Some(b"OK"))
+                Ok(b"OK")
             }
             _ => {
                 self.has_ended = true;
-                Ok(None)
+                return Ok(self.without_reply());
             }
-        }
+        };
+        self.with_reply(reply?)
     }
 }

@@ -32,12 +32,12 @@ impl GdbSession {
         match self.stop {
             GdbStop::WatchedBack(_) => {
                 let stop = self.stop_here();
-                self.stopped(TextSink::new(self.alloc), stop)
+                self.stand(stop)
             }
             _ => {
                 let steps = self.steps_back();
                 if steps == 0 {
-                    return self.stopped(TextSink::new(self.alloc), GdbStop::Begin);
+                    return self.stand(GdbStop::Begin);
                 }
                 self.step_back_to(images, steps - 1)
             }
@@ -82,7 +82,7 @@ impl GdbSession {
         let seen = self.watches.seen_bytes(self.alloc, map)?;
         self.go_back(images, step)?;
         let stop = self.stop_after(seen.as_slice());
-        self.stopped(TextSink::new(self.alloc), stop)
+        self.stand(stop)
     }
 
     // Why the program stands where a step back led, before which these bytes were seen.
@@ -105,11 +105,11 @@ impl GdbSession {
     {
         let is_other = self.has_other_list()?;
         if is_other {
-            return self.stopped(TextSink::new(self.alloc), GdbStop::Library);
+            return self.stand(GdbStop::Library);
         }
         let steps = self.steps_back();
         if steps == 0 {
-            return self.stopped(TextSink::new(self.alloc), GdbStop::Begin);
+            return self.stand(GdbStop::Begin);
         }
         let so_far = BackSearch::begin(self.debug.past.acts().len());
         self.search_on(images, so_far)
@@ -129,7 +129,7 @@ impl GdbSession {
         let goals = self.back_goals()?;
         if so_far.goal >= goals.len() {
             self.go_back(images, so_far.end.step)?;
-            return self.stopped(TextSink::new(self.alloc), so_far.end.why);
+            return self.stand(so_far.end.why);
         }
         let further = self.search_further(images, so_far, goals[so_far.goal])?;
         self.ask(TextSink::new(self.alloc), UnderWay::Search(further))

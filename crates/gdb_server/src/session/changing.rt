@@ -1,12 +1,12 @@
 //! Requests that change what stands, without a step.
 
-ghost use Rattle.std.specs.Prelude.{◌≡◌, List, IfErr, IfOk, OnOk, codes};
+ghost use Rattle.std.specs.Prelude.{◌≡◌, List, IfOk, OnOk, codes};
 ghost use Rattle.gdb_machine.specs.Changes.{CanBeMade};
-ghost use Rattle.debug_session.specs.Error.{IsLineError};
+ghost use Rattle.gdb_server.specs.session.Requests.{watch_kind};
 
 use crate::session::session::{GDB_LINE, GdbSession};
 use command_shell_lines::{Origin, RegisterNumber};
-use debug_session::{PastDeed, RunError};
+use debug_session::PastDeed;
 use gdb_machine::{
     RegisterWrite, Watch, WatchKind, break_refusal, decoded, wanted_write, watch_refusal,
 };
@@ -15,7 +15,7 @@ use std::alloc::AllocError;
 
 impl GdbSession {
     ghost use Rattle.profile.specs.images.Entries.{Entry};
-    ghost use Rattle.gdb_server.specs.session.Changes.{add_break_shown, add_watch_shown, remove_break_shown, remove_watch_shown, with_change};
+    ghost use Rattle.gdb_server.specs.session.Changes.{add_break_shown, with_change};
     ghost use Rattle.gdb_server.specs.session.Changes.{set_register_shown, store_pairs_shown};
     ghost use Rattle.gdb_server.specs.session.Requests.{add_point_shown, remove_point_shown};
     ghost use Rattle.gdb_server.specs.session.Session.{gdb_state};
@@ -47,30 +47,29 @@ impl GdbSession {
     {
         match change {
             RegisterWrite::Present(number, value) => {
+                self.debug.session.set_register(number, value);
                 let register = RegisterNumber::new(number);
                 let deed = PastDeed::Register(register, value);
-                self.debug.past.put(GDB_LINE, deed)?;
-                self.debug.session.set_register(number, value);
+                self.debug.past.put(GDB_LINE, deed)
             }
             RegisterWrite::Place(address) => {
-                let at = Origin::new(address);
-                self.debug.past.put(GDB_LINE, PastDeed::Place(at))?;
-                self.debug.past.put(GDB_LINE, PastDeed::Woken)?;
                 self.debug.session.set_pc(address);
                 self.debug.session.wake();
+                let at = Origin::new(address);
+                self.debug.past.put(GDB_LINE, PastDeed::Place(at))?;
+                self.debug.past.put(GDB_LINE, PastDeed::Woken)
             }
             RegisterWrite::Status(status) => {
-                self.debug.past.put(GDB_LINE, PastDeed::Status(status))?;
                 self.debug.session.set_psr(status);
+                self.debug.past.put(GDB_LINE, PastDeed::Status(status))
             }
             RegisterWrite::Banked(mode, number, value) => {
+                self.debug.session.set_register_in(mode, number, value);
                 let register = RegisterNumber::new(number);
                 let deed = PastDeed::Banked(mode, register, value);
-                self.debug.past.put(GDB_LINE, deed)?;
-                self.debug.session.set_register_in(mode, number, value);
+                self.debug.past.put(GDB_LINE, deed)
             }
         }
-        Ok(())
     }
 
     /// Stores bytes that come as pairs of digits.
@@ -78,14 +77,13 @@ impl GdbSession {
         &mut self,
         range: ByteRange,
         pairs: &[u8],
-    ) -> Result<&'static [u8], RunError>
+    ) -> Result<&'static [u8], AllocError>
         ensures reported { (images : List Entry) → IfOk result (λ reply.
             packet_reply (gdb_state self.new images) reply.now
             ≡ store_pairs_shown (gdb_state self.old images) range pairs.now) }
-        ensures errors { IfErr result IsLineError }
     {
         match decoded(self.alloc, pairs)? {
-            Some(bytes) => Ok(self.store(range, bytes.as_slice())?),
+            Some(bytes) => self.store(range, bytes.as_slice()),
             None => Ok(b"E16"),
         }
     }
@@ -95,11 +93,12 @@ impl GdbSession {
         ensures reported { (images : List Entry) → packet_reply (gdb_state self.new images) result.now
             ≡ add_point_shown (gdb_state self.old images) kind range }
     {
-        match kind {
-            PointKind::Break => self.add_break(range),
-            PointKind::StoreWatch => self.add_watch(WatchKind::Store, range),
-            PointKind::LoadWatch => self.add_watch(WatchKind::Load, range),
-            PointKind::AccessWatch => self.add_watch(WatchKind::Access, range),
+        let Some(kind) = watch_kind(kind) else {
+            return self.add_break(range);
+        };
+        match self.watches.add(Watch { kind, range }) {
+            Ok(()) => b"OK",
+            Err(error) => watch_refusal(error),
         }
     }
 
@@ -116,40 +115,26 @@ impl GdbSession {
         }
     }
 
-    fn add_watch(&mut self, kind: WatchKind, range: ByteRange) -> &'static [u8]
-        ensures reported { (images : List Entry) → packet_reply (gdb_state self.new images) result.now
-            ≡ add_watch_shown (gdb_state self.old images) (record { kind = kind; range = range }) }
-    {
-        match self.watches.add(Watch { kind, range }) {
-            Ok(()) => b"OK",
-            Err(error) => watch_refusal(error),
-        }
-    }
-
     /// Takes a break or a watch away.
     pub(crate) fn remove_point(&mut self, kind: PointKind, range: ByteRange)
         ensures reported { (images : List Entry) → packet_reply (gdb_state self.new images) (codes "OK")
             ≡ remove_point_shown (gdb_state self.old images) kind range }
     {
-        match kind {
-            PointKind::Break => self.remove_break(range),
-            PointKind::StoreWatch => self.remove_watch(WatchKind::Store, range),
-            PointKind::LoadWatch => self.remove_watch(WatchKind::Load, range),
-            PointKind::AccessWatch => self.remove_watch(WatchKind::Access, range),
+        match watch_kind(kind) {
+            Some(kind) => self.watches.remove(Watch { kind, range }),
+            None => self.breaks.remove(range.start),
         }
     }
+}
 
-    fn remove_watch(&mut self, kind: WatchKind, range: ByteRange)
-        ensures reported { (images : List Entry) → packet_reply (gdb_state self.new images) (codes "OK")
-            ≡ remove_watch_shown (gdb_state self.old images) (record { kind = kind; range = range }) }
-    {
-        self.watches.remove(Watch { kind, range });
-    }
-
-    fn remove_break(&mut self, range: ByteRange)
-        ensures reported { (images : List Entry) → packet_reply (gdb_state self.new images) (codes "OK")
-            ≡ remove_break_shown (gdb_state self.old images) range }
-    {
-        self.breaks.remove(range.start);
+// What a watch looks for; a break is none.
+fn watch_kind(kind: PointKind) -> Option<WatchKind>
+    ensures { result ≡ watch_kind kind }
+{
+    match kind {
+        PointKind::Break => None,
+        PointKind::StoreWatch => Some(WatchKind::Store),
+        PointKind::LoadWatch => Some(WatchKind::Load),
+        PointKind::AccessWatch => Some(WatchKind::Access),
     }
 }

@@ -7,16 +7,17 @@ use crate::session::session::{GdbAnswer, GdbSession};
 use debug_session::RunError;
 use gdb_machine::{GdbStop, is_own_signal, last_stop, push_halted};
 use gdb_packets::Going;
+use profile::Stop;
 use profile::images::Images;
 use profile::text_sink::TextSink;
-use profile::{Fault, Stop};
 
 impl GdbSession {
     ghost use Rattle.profile.specs.images.Entries.{Entry};
-    ghost use Rattle.gdb_server.specs.session.Runs.{unhalted_answer, fault_shown, going_shown, halt_shown, step_taken, stop_here, unless_stepped, with_whole_budget};
+    ghost use Rattle.gdb_server.specs.session.Runs.{unhalted_answer, going_shown, halt_shown, step_taken, stop_here};
     ghost use Rattle.gdb_server.specs.session.Session.{gdb_state, IsGdbAnswered};
 
-    /// Begins a run or takes a step, with a signal or without. A program that is no more takes none.
+    /// Begins a run or takes a step, with a signal or without: as many steps come next as a run may take. A
+    /// program that is no more takes none.
     pub(crate) fn go(
         &mut self,
         images: &Images,
@@ -27,9 +28,9 @@ impl GdbSession {
             (going_shown (gdb_state self.old images.now) going signal)) }
         ensures errors { IfErr result IsLineError }
     {
-        self.renew_budget();
+        self.debug.session.set_budget(self.most);
         if self.stop.is_gone() {
-            return self.stopped(TextSink::new(self.alloc), self.stop);
+            return self.stand(self.stop);
         }
         match self.debug.session.machine().stop() {
             Some(stop) => self.stand_halted(stop, signal),
@@ -37,38 +38,21 @@ impl GdbSession {
         }
     }
 
-    // The steps that come next may be as many as a run may take.
-    fn renew_budget(&mut self)
-        ensures reported { (images : List Entry) → gdb_state self.new images
-            ≡ with_whole_budget (gdb_state self.old images) }
-    {
-        self.debug.session.set_budget(self.most);
-    }
-
-    // A machine that is halted for this reason takes no step.
+    // A machine that is halted for this reason takes no step. The signal of a fault is given back to it, or
+    // not.
     fn stand_halted(&mut self, stop: Stop, signal: Option<u32>) -> Result<GdbAnswer, RunError>
         ensures reported { (images : List Entry) → IfOk result (λ answer.
             IsGdbAnswered (gdb_state self.new images) answer
             (halt_shown (gdb_state self.old images) signal stop)) }
         ensures errors { IfErr result IsLineError }
     {
-        match stop {
-            Stop::Fault(fault) => self.stand_at_fault(fault, is_own_signal(signal, fault)),
-            _ => self.stopped(TextSink::new(self.alloc), GdbStop::Ran(stop)),
+        let Stop::Fault(fault) = stop else {
+            return self.stand(GdbStop::Ran(stop));
+        };
+        if is_own_signal(signal, fault) {
+            return self.stand(GdbStop::Killed(fault));
         }
-    }
-
-    // A fault has halted the machine; its signal is given back to it, or not.
-    fn stand_at_fault(&mut self, fault: Fault, is_own: bool) -> Result<GdbAnswer, RunError>
-        ensures reported { (images : List Entry) → IfOk result (λ answer.
-            IsGdbAnswered (gdb_state self.new images) answer
-            (fault_shown (gdb_state self.old images) is_own fault)) }
-        ensures errors { IfErr result IsLineError }
-    {
         let mut reported = TextSink::new(self.alloc);
-        if is_own {
-            return self.stopped(reported, GdbStop::Killed(fault));
-        }
         push_halted(&mut reported, fault, self.pc())?;
         self.stopped_with(reported, GdbStop::Ran(Stop::Fault(fault)))
     }
@@ -82,11 +66,11 @@ impl GdbSession {
         match going {
             Going::On => self.first_slice(images),
             Going::Once => match self.step_taken() {
-                Some(stop) => self.stopped(TextSink::new(self.alloc), stop),
+                Some(stop) => self.stand(stop),
                 None => self.step(images),
             },
             Going::Within(_) => match self.step_taken() {
-                Some(stop) => self.stopped(TextSink::new(self.alloc), stop),
+                Some(stop) => self.stand(stop),
                 None => self.slice(images, going),
             },
         }
@@ -98,17 +82,11 @@ impl GdbSession {
         ensures { (images : List Entry) → result ≡ step_taken (gdb_state self.now images) }
     {
         match self.stop {
-            GdbStop::Watched(_) => Some(self.unless_stepped(last_stop(self.debug.session.last()))),
+            GdbStop::Watched(_) => match last_stop(self.debug.session.last()) {
+                GdbStop::Stepped => Some(self.stop_here()),
+                stop => Some(stop),
+            },
             _ => None,
-        }
-    }
-
-    fn unless_stepped(&self, stop: GdbStop) -> GdbStop
-        ensures { (images : List Entry) → result ≡ unless_stepped (gdb_state self.now images) stop }
-    {
-        match stop {
-            GdbStop::Stepped => self.stop_here(),
-            _ => stop,
         }
     }
 
@@ -117,7 +95,7 @@ impl GdbSession {
         ensures { (images : List Entry) → result ≡ stop_here (gdb_state self.now images) }
     {
         if self.stands_at_break() {
-            GdbStop::Ran(Stop::Break(self.debug.session.machine().cpu().pc()))
+            GdbStop::Ran(Stop::Break(self.pc()))
         } else {
             GdbStop::Stepped
         }

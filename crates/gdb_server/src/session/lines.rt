@@ -29,7 +29,7 @@ impl GdbSession {
     {
         match decoded(self.alloc, pairs)? {
             Some(line) => self.answer_decoded(images, line.as_slice()),
-            None => Ok(self.with_reply(Vec::from_slice(self.alloc, b"E16")?)),
+            None => self.with_reply(b"E16"),
         }
     }
 
@@ -94,8 +94,8 @@ impl GdbSession {
             (run_program_shown (gdb_state self.old images.old))) }
         ensures errors { IfErr result IsLineError }
     {
-        let _shown = self.begin_anew(images)?;
-        self.stopped(TextSink::new(self.alloc), GdbStop::Stepped)
+        self.begin_anew(images)?;
+        self.stand(GdbStop::Stepped)
     }
 
     /// Begins anew without a packet.
@@ -104,7 +104,7 @@ impl GdbSession {
             (restart_shown (gdb_state self.old images.old))) }
         ensures errors { IfErr result IsLineError }
     {
-        let _shown = self.begin(images)?;
+        self.begin(images)?;
         Ok(self.without_reply())
     }
 }

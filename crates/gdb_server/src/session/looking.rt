@@ -21,21 +21,17 @@ impl GdbSession {
             ≡ look_reply (gdb_state self.now images) (gdb_request request.now)) }
     {
         let machine = self.debug.session.machine();
-        match request {
-            Request::Reason => Ok(Some(stop_packet(self.alloc, machine.cpu(), self.stop)?)),
-            Request::Registers => Ok(Some(all_registers(self.alloc, machine.cpu())?)),
-            Request::Register(number) => {
-                Ok(Some(one_register(self.alloc, machine.cpu(), *number)?))
-            }
-            Request::Memory(range) => Ok(Some(memory_shown(self.alloc, machine.memory(), *range)?)),
-            Request::Description(range) => Ok(Some(description_part(self.alloc, *range)?)),
-            Request::Libraries(range) => {
-                let part = libraries_part(self.alloc, machine.instances(), *range)?;
-                Ok(Some(part))
-            }
-            Request::FirstThreads => self.fixed(Some(threads(self.stop.is_gone()))),
-            _ => self.fixed(fixed_reply(request)),
-        }
+        let reply = match request {
+            Request::Reason => stop_packet(self.alloc, machine.cpu(), self.stop),
+            Request::Registers => all_registers(self.alloc, machine.cpu()),
+            Request::Register(number) => one_register(self.alloc, machine.cpu(), *number),
+            Request::Memory(range) => memory_shown(self.alloc, machine.memory(), *range),
+            Request::Description(range) => description_part(self.alloc, *range),
+            Request::Libraries(range) => libraries_part(self.alloc, machine.instances(), *range),
+            Request::FirstThreads => Vec::from_slice(self.alloc, threads(self.stop.is_gone())),
+            _ => return self.fixed(fixed_reply(request)),
+        };
+        Ok(Some(reply?))
     }
 
     fn fixed(&self, reply: Option<&'static [u8]>) -> Result<Option<Vec<u8>>, AllocError>

@@ -11,7 +11,7 @@ use profile::images::Images;
 
 impl GdbSession {
     ghost use Rattle.profile.specs.images.Entries.{Entry};
-    ghost use Rattle.gdb_server.specs.session.Programs.{after_packets, request_answered, run_answered, program_run_unless};
+    ghost use Rattle.gdb_server.specs.session.Programs.{after_packets, request_answered, run_answered};
     ghost use Rattle.gdb_server.specs.session.Session.{gdb_state, IsGdbAnswered};
 
     /// The program counter.
@@ -39,28 +39,13 @@ impl GdbSession {
             (gdb_request request.now))) }
         ensures errors { IfErr result IsLineError }
     {
-        if is_run_request(request) {
-            self.program_run_unless(images, load, lacks)
-        } else {
-            self.answer(images, request)
+        if !is_run_request(request) {
+            return self.answer(images, request);
         }
-    }
-
-    fn program_run_unless(
-        &mut self,
-        images: &mut Images,
-        load: &[Vec<u8>],
-        lacks: bool,
-    ) -> Result<GdbAnswer, RunError>
-        ensures reported { IfOk result (λ answer. IsGdbAnswered (gdb_state self.new images.new) answer
-            (program_run_unless lacks (map (λ p. p.items) load.now) (gdb_state self.old images.old))) }
-        ensures errors { IfErr result IsLineError }
-    {
         if lacks {
-            Ok(self.with_reply(Vec::from_slice(self.alloc, b"E02")?))
-        } else {
-            self.run(images, load)
+            return self.with_reply(b"E02");
         }
+        self.run(images, load)
     }
 
     // Begins the program anew, takes the packets of a load once more, and shows why it stands.
@@ -69,7 +54,7 @@ impl GdbSession {
             (run_answered (map (λ p. p.items) load.now) (gdb_state self.old images.old))) }
         ensures errors { IfErr result IsLineError }
     {
-        let _begun = self.answer(images, &Request::RunProgram)?;
+        self.answer(images, &Request::RunProgram)?;
         self.take_packets(images, load)?;
         self.answer(images, &Request::Reason)
     }
@@ -81,7 +66,7 @@ impl GdbSession {
         ensures errors { IfErr result IsLineError }
     {
         for packet in packets {
-            let _shown = self.answer(images, &request_of(packet.as_slice()))?;
+            self.answer(images, &request_of(packet.as_slice()))?;
         }
         Ok(())
     }

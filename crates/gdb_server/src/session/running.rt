@@ -1,7 +1,7 @@
 //! Requests that take steps. A run goes in slices: after each the other side is asked whether the user
 //! wants the program to stop, by a call of GDB's that any GDB answers at once.
 
-ghost use Rattle.std.specs.Prelude.{◌≡◌, ◌++◌, List, IfErr, IfOk, codes};
+ghost use Rattle.std.specs.Prelude.{◌≡◌, ◌++◌, [], List, IfErr, IfOk, codes};
 ghost use Rattle.debug_session.specs.Answers.{stop_text};
 ghost use Rattle.debug_session.specs.Error.{IsLineError};
 ghost use Rattle.profile.specs.Output.{Writes};
@@ -35,11 +35,10 @@ impl GdbSession {
     {
         let is_other = self.has_other_list()?;
         if is_other {
-            return self.stopped(TextSink::new(self.alloc), GdbStop::Library);
+            return self.stand(GdbStop::Library);
         }
         if self.has_break_due() {
-            let at = self.debug.session.machine().cpu().pc();
-            return self.stopped(TextSink::new(self.alloc), GdbStop::Ran(Stop::Break(at)));
+            return self.stand(GdbStop::Ran(Stop::Break(self.pc())));
         }
         self.slice(images, Going::On)
     }
@@ -69,7 +68,7 @@ impl GdbSession {
         let Some(_) = self.going else {
             return Ok(self.without_reply());
         };
-        self.stopped(TextSink::new(self.alloc), GdbStop::Asked)
+        self.stand(GdbStop::Asked)
     }
 
     /// The steps of a slice.
@@ -113,19 +112,24 @@ impl GdbSession {
         self.stopped(reported, stepped(stop))
     }
 
-    /// The program stands, after it printed so much.
-    pub(crate) fn stopped(
-        &mut self,
-        printed: TextSink,
-        stop: GdbStop,
-    ) -> Result<GdbAnswer, RunError>
+    /// The program stands, and has printed nothing.
+    pub(crate) fn stand(&mut self, stop: GdbStop) -> Result<GdbAnswer, RunError>
         ensures reported { (images : List Entry) → IfOk result (λ answer.
             IsGdbAnswered (gdb_state self.new images) answer
-            (gdb_stop_shown (gdb_state self.old images) (sink_text_of printed) stop)) }
+            (gdb_stop_shown (gdb_state self.old images) [] stop)) }
         ensures errors { IfErr result IsLineError }
     {
-        let mut reported = printed;
-        push_stop(&mut reported, stop, self.debug.session.machine().cpu().pc())?;
+        self.stopped(TextSink::new(self.alloc), stop)
+    }
+
+    // The program stands, after it printed so much.
+    fn stopped(&mut self, mut reported: TextSink, stop: GdbStop) -> Result<GdbAnswer, RunError>
+        ensures reported { (images : List Entry) → IfOk result (λ answer.
+            IsGdbAnswered (gdb_state self.new images) answer
+            (gdb_stop_shown (gdb_state self.old images) (sink_text_of reported) stop)) }
+        ensures errors { IfErr result IsLineError }
+    {
+        push_stop(&mut reported, stop, self.pc())?;
         self.stopped_with(reported, stop)
     }
 

@@ -1,6 +1,6 @@
 //! A session with GDB, and how one of its requests is answered.
 
-ghost use Rattle.std.specs.Prelude.{◌≡◌, [], None, Some, List, IfOk, IfErr, is_some};
+ghost use Rattle.std.specs.Prelude.{◌≡◌, [], None, Some, List, IfOk, IfErr, is_some, option_map};
 ghost use Rattle.debug_session.specs.Error.{IsLineError};
 ghost use Rattle.gdb_server.specs.session.State.{debug_settings, gdb_start};
 
@@ -127,20 +127,26 @@ impl GdbSession {
         ensures errors { IfErr result IsLineError }
     {
         match self.look(request)? {
-            Some(reply) => Ok(self.with_reply(reply)),
+            Some(reply) => Ok(GdbAnswer {
+                reported: Vec::new(self.alloc),
+                reply: Some(reply),
+            }),
             None => self.act(images, request),
         }
     }
 
     // A packet without text for the user.
-    pub(crate) fn with_reply(&self, reply: Vec<u8>) -> GdbAnswer
-        ensures reported { result.reported.items ≡ [] }
-        ensures reply { result.reply ≡ Some reply }
+    pub(crate) fn with_reply(&self, reply: &[u8]) -> Result<GdbAnswer, RunError>
+        ensures reported { IfOk result (λ answer. answer.reported.items ≡ []) }
+        ensures reply { IfOk result (λ answer. option_map (λ packet. packet.items) answer.reply
+            ≡ Some reply.now) }
+        ensures errors { IfErr result IsLineError }
     {
-        GdbAnswer {
+        let reply = Vec::from_slice(self.alloc, reply)?;
+        Ok(GdbAnswer {
             reported: Vec::new(self.alloc),
             reply: Some(reply),
-        }
+        })
     }
 
     // Neither text nor a packet.

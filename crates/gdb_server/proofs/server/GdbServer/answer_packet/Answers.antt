@@ -19,8 +19,8 @@ returns-clause-state c =
       | then-self w ↦ acks_kept _ _ _ w.if-self.true (w.self-is ∙ w.keeps_acks-self.ensures)
       | else-self w ↦ acks_gone _ _ _ w.if-self.false (w.self-is ∙ w.if-self.false)
     ] in
-    packet_kept s _ _ _ _ _ _ _ c.in_ok-answer.answer asked _ of_packet
+    packet_kept s _ _ _ _ _ c.in_ok-answer.answer asked _ of_packet
     (c.in_ok-note.ensures
     ∙ ap (λ (packet : List ℕ). after_packet s.loads packet c.pc.result) c.packet-2.ensures
     ∙ ap (λ (pc : ℕ). after_packet s.loads s.reading.packet pc) (c.pc.ensures c.args.images.now))
-    c.kept.ensures acks c.extends-self.ensures c.in_ok-answer.ensures.reported c.into_bytes.ensures c.new-text.ensures c.in_ok-push_answer.ensures.reported
+    c.kept.ensures acks c.extends-self.ensures c.in_ok-answer.ensures.reported c.in_ok-packets_of.ensures.written

@@ -1,14 +1,13 @@
-use Rattle.std.proofs.Common.{◌∙◌}
 use Rattle.gdb_server.specs.session.Session.{gdb_state}
-use Rattle.gdb_server.proofs.SessionLemmas.ChangeLemmas.{answer_known, other_act}
+use Rattle.gdb_server.proofs.SessionLemmas.ChangeLemmas.{other_act}
+use Rattle.gdb_server.proofs.SessionLemmas.RunLemmas.{answered_as}
 use Rattle.gdb_server.proofs.session.session.GdbSession.act.Goals as goal
 
-pub returns-in_ok-reply-in_default-clause-reported : goal.returns-in_ok-reply-in_default-clause-reported
-returns-in_ok-reply-in_default-clause-reported c =
+pub returns-in_default-clause-reported : goal.returns-in_default-clause-reported
+returns-in_default-clause-reported c =
     let images = c.args.images.now in
-    answer_known (gdb_state c.change.new.self images) c.shown_change.result _ _ c.shown_change.ensures.reported c.shown_change.ensures.reply
-    (c.in_ok-reply-in_default.ensures.reported images
-    ∙ other_act (gdb_state c.args.self.now images) c.args.request.now
+    answered_as _ _ _ _ (other_act (gdb_state c.args.self.now images) c.args.request.now
     c.in_default.not-Continue c.in_default.not-ContinueWith c.in_default.not-Step c.in_default.not-StepWith c.in_default.not-StepRange
     c.in_default.not-HostAnswer c.in_default.not-Line c.in_default.not-RunProgram c.in_default.not-Restart
     c.in_default.not-StepBack c.in_default.not-ContinueBack)
+    (c.change.ensures.reported images)

@@ -9,5 +9,5 @@ use Rattle.gdb_server.proofs.session.session.GdbSession.ask_to_stop.Goals as goa
 pub returns-clause-reported : goal.returns-clause-reported
 returns-clause-reported c images =
     let g : GdbState = gdb_state c.args.self.now images in
-    answered_as _ _ _ _ (ap (λ (x : List ℕ). gdb_stop_shown g x reason.Asked) c.new.ensures ∙ asked_stops g c.in-Some.field-0 c.in-Some.is)
-    (c.stopped.ensures.reported images)
+    answered_as _ _ _ _ (asked_stops g c.in-Some.field-0 c.in-Some.is)
+    (c.stand.ensures.reported images)

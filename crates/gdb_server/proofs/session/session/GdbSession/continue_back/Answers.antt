@@ -13,18 +13,16 @@ pub returns-then-is_other-clause-reported : goal.returns-then-is_other-clause-re
 returns-then-is_other-clause-reported c =
     let images = c.args.images.now in
     let g : GdbState = gdb_state c.args.self.now images in
-    answered_as _ _ _ _ (ap (λ (x : List ℕ). gdb_stop_shown g x reason.Library) c.new.ensures
-    ∙ back_library g (sym (c.in_ok-is_other.ensures images) ∙ c.if-is_other.true))
-    (c.stopped.ensures.reported images)
+    answered_as _ _ _ _ (back_library g (sym (c.in_ok-is_other.ensures images) ∙ c.if-is_other.true))
+    (c.stand.ensures.reported images)
 
 pub returns-then-steps-eq0-clause-reported : goal.returns-then-steps-eq0-clause-reported
 returns-then-steps-eq0-clause-reported c =
     let images = c.args.images.now in
     let g : GdbState = gdb_state c.args.self.now images in
-    answered_as _ _ _ _ (ap (λ (x : List ℕ). gdb_stop_shown g x reason.Begin) c.new-then-steps-eq0.ensures
-    ∙ begins_there g c.steps_back-steps.result (sym (c.in_ok-is_other.ensures images) ∙ c.if-is_other.false)
+    answered_as _ _ _ _ (begins_there g c.steps_back-steps.result (sym (c.in_ok-is_other.ensures images) ∙ c.if-is_other.false)
     (c.steps_back-steps.ensures images) (omega (arith, c.if-steps-eq0.true)))
-    (c.stopped-then-steps-eq0.ensures.reported images)
+    (c.stand-then-steps-eq0.ensures.reported images)
 
 pub returns-clause-reported : goal.returns-clause-reported
 returns-clause-reported c =

@@ -11,10 +11,9 @@ pub returns-in-Some-clause-reported : goal.returns-in-Some-clause-reported
 returns-in-Some-clause-reported c =
     let images = c.args.images.now in
     let g : GdbState = gdb_state c.args.self.now images in
-    answered_as _ _ _ _ (ap (λ (x : List ℕ). gdb_stop_shown g x c.in-Some.stop) c.new.ensures
-    ∙ step_was_taken g c.in-Some.stop (gdb_step_shown g) (sym (c.step_taken.ensures images) ∙ c.in-Some.is)
+    answered_as _ _ _ _ (step_was_taken g c.in-Some.stop (gdb_step_shown g) (sym (c.step_taken.ensures images) ∙ c.in-Some.is)
     ∙ ap (λ (w : Going). unhalted_answer g w) (sym c.in-Once.is))
-    (c.stopped.ensures.reported images)
+    (c.stand.ensures.reported images)
 
 pub returns-in-None-clause-reported : goal.returns-in-None-clause-reported
 returns-in-None-clause-reported c =
@@ -28,11 +27,10 @@ pub returns-in-Some-step_taken-clause-reported : goal.returns-in-Some-step_taken
 returns-in-Some-step_taken-clause-reported c =
     let images = c.args.images.now in
     let g : GdbState = gdb_state c.args.self.now images in
-    answered_as _ _ _ _ (ap (λ (x : List ℕ). gdb_stop_shown g x c.in-Some-step_taken.stop) c.new-in-Some-step_taken.ensures
-    ∙ step_was_taken g c.in-Some-step_taken.stop (slice_shown g (going.Within c.in-Within.field-0))
+    answered_as _ _ _ _ (step_was_taken g c.in-Some-step_taken.stop (slice_shown g (going.Within c.in-Within.field-0))
     (sym (c.step_taken-in-Within.ensures images) ∙ c.in-Some-step_taken.is)
     ∙ ap (λ (w : Going). unhalted_answer g w) (sym c.in-Within.is))
-    (c.stopped-in-Some-step_taken.ensures.reported images)
+    (c.stand-in-Some-step_taken.ensures.reported images)
 
 pub returns-in-None-step_taken-clause-reported : goal.returns-in-None-step_taken-clause-reported
 returns-in-None-step_taken-clause-reported c =

@@ -11,9 +11,8 @@ pub returns-then-asks-clause-reported : goal.returns-then-asks-clause-reported
 returns-then-asks-clause-reported c =
     let images = c.args.images.now in
     let g : GdbState = gdb_state c.args.self.now images in
-    answered_as _ _ _ _ (ap (λ (x : List ℕ). gdb_stop_shown g x reason.Asked) c.new.ensures
-    ∙ stops_asked g c.args.asks c.in-Some.going c.in-Some.is c.if-asks.true)
-    (c.stopped.ensures.reported images)
+    answered_as _ _ _ _ (stops_asked g c.args.asks c.in-Some.going c.in-Some.is c.if-asks.true)
+    (c.stand.ensures.reported images)
 
 pub returns-in-Run-clause-reported : goal.returns-in-Run-clause-reported
 returns-in-Run-clause-reported c =

@@ -1,35 +1,21 @@
--- What is asked for is one of the four kinds.
-use Rattle.std.proofs.Common.{List, sym, ap, ◌∙◌}
+-- What is asked for is a watch or a break.
+use Rattle.std.proofs.Common.{◌≡◌, List, sym, ap, ◌∙◌}
+use Rattle.std.specs.Prelude.{codes, Some, None}
 use Rattle.profile.specs.images.Entries.{Entry}
-use Rattle.gdb_packets.specs.declared.requests.PointKind.{PointKind}
-use Rattle.gdb_server.specs.session.Requests.{remove_point_shown}
+use Rattle.gdb_machine.specs.declared.watches.Watch.{Watch}
 use Rattle.gdb_server.specs.session.Session.{gdb_state}
+use Rattle.gdb_server.specs.session.State.{GdbState, packet_reply}
+use Rattle.gdb_server.proofs.SessionLemmas.ChangeLemmas.{break_removed, watch_removed}
 use Rattle.gdb_server.proofs.session.session.GdbSession.remove_point.Goals as goal
 
-pub returns-in-Break : goal.returns-in-Break
-returns-in-Break c = record {
+pub returns-in-Some : goal.returns-in-Some
+returns-in-Some c = record {
   reported = λ (images : List Entry).
-      c.remove_break.ensures.reported images
-      ∙ ap (λ (k : PointKind). remove_point_shown (gdb_state c.args.self.now images) k c.args.range) (sym c.in-Break.is);
+      watch_removed (gdb_state c.args.self.now images) c.args.kind c.args.range c.in-Some.kind _ c.remove.ensures (sym c.in-Some.is ∙ c.watch_kind.ensures);
 }
 
-pub returns-in-StoreWatch : goal.returns-in-StoreWatch
-returns-in-StoreWatch c = record {
+pub returns-in-None : goal.returns-in-None
+returns-in-None c = record {
   reported = λ (images : List Entry).
-      c.remove_watch.ensures.reported images
-      ∙ ap (λ (k : PointKind). remove_point_shown (gdb_state c.args.self.now images) k c.args.range) (sym c.in-StoreWatch.is);
-}
-
-pub returns-in-LoadWatch : goal.returns-in-LoadWatch
-returns-in-LoadWatch c = record {
-  reported = λ (images : List Entry).
-      c.remove_watch-in-LoadWatch.ensures.reported images
-      ∙ ap (λ (k : PointKind). remove_point_shown (gdb_state c.args.self.now images) k c.args.range) (sym c.in-LoadWatch.is);
-}
-
-pub returns-in-AccessWatch : goal.returns-in-AccessWatch
-returns-in-AccessWatch c = record {
-  reported = λ (images : List Entry).
-      c.remove_watch-in-AccessWatch.ensures.reported images
-      ∙ ap (λ (k : PointKind). remove_point_shown (gdb_state c.args.self.now images) k c.args.range) (sym c.in-AccessWatch.is);
+      break_removed (gdb_state c.args.self.now images) c.args.kind c.args.range _ c.remove-in-None.ensures (sym c.in-None.is ∙ c.watch_kind.ensures);
 }

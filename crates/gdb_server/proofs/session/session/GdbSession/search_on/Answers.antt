@@ -19,10 +19,9 @@ returns-then-so_far-len-clause-reported c =
     let b : BackSearch = c.args.so_far in
     let over : length c.in_ok-goals.goals.items ≤ b.goal = omega (arith, c.if-so_far-len.true) in
     let all = subst (λ (xs : List BackGoal). length xs ≤ b.goal) (c.in_ok-goals.ensures images) over in
-    answered_as _ _ _ _ (ap (λ (x : List ℕ). gdb_stop_shown (gdb_state c.go_back.new.self after) x b.end.why) c.new.ensures
-    ∙ ap (λ (s : GdbState). gdb_stop_shown s [] b.end.why) c.in_ok-go_back.ensures.reported
+    answered_as _ _ _ _ (ap (λ (s : GdbState). gdb_stop_shown s [] b.end.why) c.in_ok-go_back.ensures.reported
     ∙ goals_sought g b all)
-    (c.stopped.ensures.reported after)
+    (c.stand.ensures.reported after)
 
 pub returns-clause-reported : goal.returns-clause-reported
 returns-clause-reported c =
@@ -35,7 +34,7 @@ returns-clause-reported c =
     let within : b.goal < length c.in_ok-goals.goals.items = omega (arith, c.if-so_far-len.false) in
     let below = subst (λ (xs : List BackGoal). b.goal < length xs) (c.in_ok-goals.ensures images) within in
     let is : x ≡ get_or (back_goals g) b.goal x = c.index.ensures ∙ ap (λ (xs : List BackGoal). get_or xs b.goal x) (c.in_ok-goals.ensures images) in
-    answered_as _ _ _ _ (ap (λ (t : List ℕ). asking (gdb_state self after) (under.Search c.in_ok-further.further) t) c.new-2.ensures
+    answered_as _ _ _ _ (ap (λ (t : List ℕ). asking (gdb_state self after) (under.Search c.in_ok-further.further) t) c.new.ensures
     ∙ ap (λ (xs : List Entry). asking (gdb_state self xs) (under.Search c.in_ok-further.further) []) c.in_ok-further.ensures.images
     ∙ ap (λ (s : BackSearch). asking g (under.Search s) []) c.in_ok-further.ensures.found
     ∙ goal_sought g b x below is)

@@ -13,19 +13,17 @@ pub returns-in-WatchedBack-clause-reported : goal.returns-in-WatchedBack-clause-
 returns-in-WatchedBack-clause-reported c =
     let images = c.args.images.now in
     let g : GdbState = gdb_state c.args.self.now images in
-    answered_as _ _ _ _ (ap (λ (x : List ℕ). gdb_stop_shown g x c.stop_here-stop.result) c.new.ensures
-    ∙ ap (λ (w : GdbStop). gdb_stop_shown g [] w) (c.stop_here-stop.ensures images)
+    answered_as _ _ _ _ (ap (λ (w : GdbStop). gdb_stop_shown g [] w) (c.stop_here-stop.ensures images)
     ∙ sym (ap (λ (w : GdbStop). step_back_after w g) c.in-WatchedBack.is))
-    (c.stopped.ensures.reported images)
+    (c.stand.ensures.reported images)
 
 pub returns-then-steps-eq0-clause-reported : goal.returns-then-steps-eq0-clause-reported
 returns-then-steps-eq0-clause-reported c =
     let images = c.args.images.now in
     let g : GdbState = gdb_state c.args.self.now images in
-    answered_as _ _ _ _ (ap (λ (x : List ℕ). gdb_stop_shown g x reason.Begin) c.new-then-steps-eq0.ensures
-    ∙ stays_at_begin g c.steps_back-steps.result c.in_default.not-WatchedBack (c.steps_back-steps.ensures images)
+    answered_as _ _ _ _ (stays_at_begin g c.steps_back-steps.result c.in_default.not-WatchedBack (c.steps_back-steps.ensures images)
     (omega (arith, c.if-steps-eq0.true)))
-    (c.stopped-then-steps-eq0.ensures.reported images)
+    (c.stand-then-steps-eq0.ensures.reported images)
 
 pub returns-else-steps-eq0-clause-reported : goal.returns-else-steps-eq0-clause-reported
 returns-else-steps-eq0-clause-reported c =

@@ -20,8 +20,7 @@ returns-clause-reported c =
     c.as_slice.ensures.value ∙ c.in_ok-seen.ensures
     ∙ ap (λ (b : Bytes). watched_bytes b g.watches)
     (c.memory-map.ensures.bytes ∙ ap (λ (m : MachineValue). (state_of m.guest).store.bytes) c.machine.ensures) in
-    answered_as _ _ _ _ (ap (λ (x : List ℕ). gdb_stop_shown there x c.stop_after-stop.result) c.new.ensures
-    ∙ ap (λ (w : GdbStop). gdb_stop_shown there [] w) (c.stop_after-stop.ensures c.go_back.new.images)
+    answered_as _ _ _ _ (ap (λ (w : GdbStop). gdb_stop_shown there [] w) (c.stop_after-stop.ensures c.go_back.new.images)
     ∙ ap (λ (xs : List SeenByte). gdb_stop_shown there [] (changed_or (first_changed there.debug.script.machine.store.bytes xs) (stop_here there))) seen
     ∙ ap (stepped_back g) c.in_ok-go_back.ensures.reported)
-    (c.stopped.ensures.reported c.go_back.new.images)
+    (c.stand.ensures.reported c.go_back.new.images)

@@ -1,7 +1,4 @@
-use Rattle.std.proofs.Common.{◌≡◌, ℕ, ap, sym, ◌∙◌}
-use Rattle.arm_core.specs.State.{State}
-use Rattle.gdb_machine.specs.GuestState.{state_of}
-use Rattle.gdb_machine.specs.Value.{MachineValue}
+use Rattle.std.proofs.Common.{ℕ, ap, sym, ◌∙◌}
 use Rattle.gdb_machine.specs.declared.stops.GdbStop.TheVariants as reason
 use Rattle.profile.specs.declared.stop.Stop.TheVariants as stop
 use Rattle.gdb_server.specs.session.Session.{gdb_state}
@@ -12,9 +9,7 @@ use Rattle.gdb_server.proofs.session.session.GdbSession.stop_here.Goals as goal
 pub returns-then-stands_at_break : goal.returns-then-stands_at_break
 returns-then-stands_at_break c images =
     let g : GdbState = gdb_state c.args.self.now images in
-    let at : c.pc.result ≡ g.debug.script.machine.cpu.pc =
-    c.pc.ensures.value ∙ ap (λ (s : State). s.pc) c.cpu.ensures ∙ ap (λ (m : MachineValue). (state_of m.guest).cpu.pc) c.machine.ensures in
-    ap (λ (n : ℕ). reason.Ran (stop.Break n)) at ∙ breaks_here g (sym (c.stands_at_break.ensures images) ∙ c.if-stands_at_break.true)
+    ap (λ (n : ℕ). reason.Ran (stop.Break n)) (c.pc.ensures images) ∙ breaks_here g (sym (c.stands_at_break.ensures images) ∙ c.if-stands_at_break.true)
 
 pub returns-else-stands_at_break : goal.returns-else-stands_at_break
 returns-else-stands_at_break c images =

@@ -6,7 +6,7 @@ use Rattle.gdb_server.proofs.session.session.GdbSession.take_packets.Goals as go
 pub loop-packet-preserved : goal.loop-packet-preserved
 loop-packet-preserved c =
     packets_on _ _ _ _ _ _ _ _ c.loop-packet-test.true c.packet-item.is (c.request_of.ensures ∙ ap packet_request c.as_slice.ensures.value)
-    c.in_ok-_shown.ensures.reported.state c.loop-packet.invariant
+    c.in_ok-answer.ensures.reported.state c.loop-packet.invariant
 
 pub returns-clause-reported : goal.returns-clause-reported
 returns-clause-reported c =
