@@ -47,29 +47,30 @@ impl GdbSession {
     {
         match change {
             RegisterWrite::Present(number, value) => {
-                self.debug.session.set_register(number, value);
                 let register = RegisterNumber::new(number);
                 let deed = PastDeed::Register(register, value);
-                self.debug.past.put(GDB_LINE, deed)
+                self.debug.past.put(GDB_LINE, deed)?;
+                self.debug.session.set_register(number, value);
             }
             RegisterWrite::Place(address) => {
-                self.debug.session.set_pc(address);
-                self.debug.session.wake();
                 let at = Origin::new(address);
                 self.debug.past.put(GDB_LINE, PastDeed::Place(at))?;
-                self.debug.past.put(GDB_LINE, PastDeed::Woken)
+                self.debug.past.put(GDB_LINE, PastDeed::Woken)?;
+                self.debug.session.set_pc(address);
+                self.debug.session.wake();
             }
             RegisterWrite::Status(status) => {
+                self.debug.past.put(GDB_LINE, PastDeed::Status(status))?;
                 self.debug.session.set_psr(status);
-                self.debug.past.put(GDB_LINE, PastDeed::Status(status))
             }
             RegisterWrite::Banked(mode, number, value) => {
-                self.debug.session.set_register_in(mode, number, value);
                 let register = RegisterNumber::new(number);
                 let deed = PastDeed::Banked(mode, register, value);
-                self.debug.past.put(GDB_LINE, deed)
+                self.debug.past.put(GDB_LINE, deed)?;
+                self.debug.session.set_register_in(mode, number, value);
             }
         }
+        Ok(())
     }
 
     /// Stores bytes that come as pairs of digits.
