@@ -1,6 +1,6 @@
 -- What requests come to that change what stands.
 use Rattle.std.proofs.Common.{◌≡◌, ℕ, Bool, true, Bor, List, [], length, refl, ap, subst, sym, ◌∙◌, arith}
-use Rattle.std.specs.Prelude.{Option, Some, None, Result, Ok, Err, IfOk, OnOk, ◌==◌, codes, option_map, if◌then◌else◌}
+use Rattle.std.specs.Prelude.{Option, Some, None, Result, Ok, Err, IfOk, ◌==◌, codes, option_map, if◌then◌else◌}
 use Rattle.std.proofs.lemmas.Bool.Decides.{nat_tests}
 use Rattle.debug_session.specs.RunError.{RunError}
 use Rattle.gdb_packets.specs.Requests.{gdb_request}
@@ -39,12 +39,10 @@ answer_known now (Ok answer) reply reported none packet is = record {
 answer_known now (Err e) reply reported none packet is = tt
 
 -- a change of the machine, and what is kept of it
-pub changed_so : {U E : Type 0} (g : GdbState) (s : ScriptState) (p q : PastState) (change : RegisterWrite) (r : Result U E)
-    → s ≡ script_with_change g.debug.script change → OnOk r (p ≡ q) → q ≡ past_after_write g.debug.past change
-    → OnOk r (with_past (with_script g s) p ≡ with_change g change)
-changed_so g s p q change (Ok u) script kept past = ap (λ (x : ScriptState). with_past (with_script g x) p) script
-    ∙ ap (λ (q : PastState). with_past (with_script g (script_with_change g.debug.script change)) q) (kept ∙ past)
-changed_so g s p q change (Err e) script kept past = tt
+pub changed_so : (g : GdbState) (s : ScriptState) (p : PastState) (change : RegisterWrite) → s ≡ script_with_change g.debug.script change
+    → p ≡ past_after_write g.debug.past change → with_past (with_script g s) p ≡ with_change g change
+changed_so g s p change script past = ap (λ (x : ScriptState). with_past (with_script g x) p) script
+    ∙ ap (λ (q : PastState). with_past (with_script g (script_with_change g.debug.script change)) q) past
 
 -- a point that is taken away
 abbrev removed_by : GdbState → ByteRange → Option WatchKind → GdbAnswered
