@@ -21,7 +21,7 @@ use Rattle.gdb_packets.specs.declared.going.Going.TheVariants as going
 use Rattle.gdb_server.specs.session.Requests.{goes_further, goes_on_if, host_answered}
 use Rattle.gdb_server.specs.session.Runs.{after_begin, asking, unhalted_answer, begin_shown, break_here, debug_anew, fault_shown, first_slice_shown, gdb_step_shown, gdb_stop_shown, going_shown, halt_shown, has_break_due, line_decoded, slice_steps, slice_shown, step_taken, stop_asked, stop_shown_with, stops_if, unless_gone, unless_halted_before, unless_taken, with_debug, with_whole_budget, without_quit}
 use Rattle.gdb_server.specs.session.Session.{IsAfterSteps, IsGdbAnswered}
-use Rattle.gdb_server.specs.session.State.{GdbAnswered, GdbState, no_reply, packet_reply, with_steps_noted}
+use Rattle.gdb_server.specs.session.State.{GdbAnswered, GdbState, no_reply, with_steps_noted}
 use Rattle.gdb_server.specs.session.Steps.{StepsTaken, gdb_steps, is_other_list}
 use Rattle.gdb_server.specs.declared.session.session.GdbAnswer.{GdbAnswer}
 

@@ -1,4 +1,4 @@
-use Rattle.std.proofs.Common.{◌≡◌, Bor, List, ℕ, refl, ap, sym}
+use Rattle.std.proofs.Common.{◌≡◌, refl, ap, sym}
 use Rattle.std.specs.Prelude.{IfOk, Some}
 use Rattle.gdb_packets.specs.Requests.{gdb_request}
 use Rattle.gdb_packets.specs.declared.requests.Request.{Request}

@@ -1,8 +1,6 @@
-use Rattle.std.proofs.Common.{◌≡◌, ℕ, List, [], length, ap, sym, ◌∙◌, arith}
+use Rattle.std.proofs.Common.{length, ap, sym, ◌∙◌, arith}
 use Rattle.gdb_machine.specs.BackEnds.{search_begin}
-use Rattle.gdb_machine.specs.declared.stops.GdbStop.TheVariants as reason
 use Rattle.gdb_server.specs.session.Back.{search_shown}
-use Rattle.gdb_server.specs.session.Runs.{gdb_stop_shown}
 use Rattle.gdb_server.specs.session.Session.{gdb_state}
 use Rattle.gdb_server.specs.session.State.{GdbState}
 use Rattle.gdb_server.proofs.SessionLemmas.BackLemmas.{back_library, begins_there, searches_back}

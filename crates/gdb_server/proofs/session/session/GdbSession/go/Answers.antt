@@ -1,4 +1,4 @@
-use Rattle.std.proofs.Common.{◌≡◌, ℕ, List, Bool, false, ap, sym, ◌∙◌}
+use Rattle.std.proofs.Common.{◌≡◌, false, ap, sym, ◌∙◌}
 use Rattle.std.specs.Prelude.{None, Option, Some, option_map}
 use Rattle.debug_session.specs.CommandShellSession.{script_state}
 use Rattle.gdb_machine.specs.MachineState.{stop_of}

@@ -1,7 +1,7 @@
-use Rattle.std.proofs.Common.{ℕ, List, ap, sym, ◌∙◌}
+use Rattle.std.proofs.Common.{ap, sym, ◌∙◌}
 use Rattle.gdb_packets.specs.declared.going.Going.{Going}
 use Rattle.gdb_packets.specs.declared.going.Going.TheVariants as going
-use Rattle.gdb_server.specs.session.Runs.{unhalted_answer, gdb_step_shown, gdb_stop_shown, slice_shown}
+use Rattle.gdb_server.specs.session.Runs.{unhalted_answer, gdb_step_shown, slice_shown}
 use Rattle.gdb_server.specs.session.Session.{gdb_state}
 use Rattle.gdb_server.specs.session.State.{GdbState}
 use Rattle.gdb_server.proofs.SessionLemmas.RunLemmas.{answered_as, step_to_take, step_was_taken}

@@ -1,7 +1,4 @@
-use Rattle.std.proofs.Common.{ℕ, List, ap, ◌∙◌}
 use Rattle.gdb_machine.specs.declared.back_ends.UnderWay.TheVariants as under
-use Rattle.gdb_machine.specs.declared.stops.GdbStop.TheVariants as reason
-use Rattle.gdb_server.specs.session.Runs.{gdb_stop_shown}
 use Rattle.gdb_server.specs.session.Session.{gdb_state}
 use Rattle.gdb_server.specs.session.State.{GdbState}
 use Rattle.gdb_server.proofs.SessionLemmas.RunLemmas.{answered_as, goes_so, stops_asked}

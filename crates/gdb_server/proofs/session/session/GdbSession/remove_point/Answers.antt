@@ -1,10 +1,8 @@
 -- What is asked for is a watch or a break.
-use Rattle.std.proofs.Common.{◌≡◌, List, sym, ap, ◌∙◌}
-use Rattle.std.specs.Prelude.{codes, Some, None}
+use Rattle.std.proofs.Common.{List, sym, ◌∙◌}
+use Rattle.std.specs.Prelude.{Some, None}
 use Rattle.profile.specs.images.Entries.{Entry}
-use Rattle.gdb_machine.specs.declared.watches.Watch.{Watch}
 use Rattle.gdb_server.specs.session.Session.{gdb_state}
-use Rattle.gdb_server.specs.session.State.{GdbState, packet_reply}
 use Rattle.gdb_server.proofs.SessionLemmas.ChangeLemmas.{break_removed, watch_removed}
 use Rattle.gdb_server.proofs.session.session.GdbSession.remove_point.Goals as goal
 

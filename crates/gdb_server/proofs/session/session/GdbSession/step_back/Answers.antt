@@ -1,6 +1,5 @@
-use Rattle.std.proofs.Common.{ℕ, List, [], ap, sym, ◌∙◌, arith}
+use Rattle.std.proofs.Common.{[], ap, sym, ◌∙◌, arith}
 use Rattle.gdb_machine.specs.declared.stops.GdbStop.{GdbStop}
-use Rattle.gdb_machine.specs.declared.stops.GdbStop.TheVariants as reason
 use Rattle.gdb_server.specs.session.Back.{step_back_after}
 use Rattle.gdb_server.specs.session.Runs.{gdb_stop_shown}
 use Rattle.gdb_server.specs.session.Session.{gdb_state}

@@ -1,4 +1,4 @@
-use Rattle.std.proofs.Common.{◌≡◌, ℕ, List, [], ap, ◌∙◌}
+use Rattle.std.proofs.Common.{◌≡◌, List, [], ap, ◌∙◌}
 use Rattle.address_map.specs.Bytes.{Bytes}
 use Rattle.gdb_machine.specs.GuestState.{state_of}
 use Rattle.gdb_machine.specs.Value.{MachineValue}

@@ -1,4 +1,4 @@
-use Rattle.std.proofs.Common.{◌≡◌, ap, sym, ◌∙◌}
+use Rattle.std.proofs.Common.{ap, sym, ◌∙◌}
 use Rattle.std.specs.Prelude.{Some}
 use Rattle.gdb_machine.specs.StepEnds.{last_stop}
 use Rattle.gdb_machine.specs.declared.stops.GdbStop.{GdbStop}
