@@ -23,4 +23,4 @@ returns-clause-state c =
     (c.in_ok-note.ensures
     ∙ ap (λ (packet : List ℕ). after_packet s.loads packet c.pc.result) c.packet-2.ensures
     ∙ ap (λ (pc : ℕ). after_packet s.loads s.reading.packet pc) (c.pc.ensures c.args.images.now))
-    c.kept.ensures acks c.extends-self.ensures c.in_ok-answer.ensures.reported c.in_ok-packets_of.ensures.written
+    c.kept.ensures acks c.extends-self.ensures c.in_ok-answer.ensures.reported c.in_ok-self.ensures.written

@@ -1,4 +1,7 @@
 use Rattle.std.proofs.Common.{◌≡◌, false, true, sym, ◌∙◌, arith}
+use Rattle.std.specs.Prelude.{map}
+use Rattle.gdb_server.specs.session.Session.{gdb_state}
+use Rattle.gdb_server.specs.session.State.{GdbState}
 use Rattle.gdb_server.proofs.SessionLemmas.ProgramLemmas.{has_program, lacks_program, other_asked, run_asked}
 use Rattle.gdb_server.proofs.session.session.GdbSession.answer_request.Goals as goal
 
@@ -10,10 +13,14 @@ returns-then-not-is_run_request-clause-reported c =
 pub returns-then-lacks-clause-reported : goal.returns-then-lacks-clause-reported
 returns-then-lacks-clause-reported c =
     let runs : c.is_run_request.result ≡ true = grind arith in
-    run_asked _ _ _ _ _ _ (sym c.is_run_request.ensures ∙ runs)
-    (lacks_program _ _ _ _ c.if-lacks.true c.with_reply.ensures.reported c.with_reply.ensures.reply)
+    let load = map (λ p. p.items) c.args.load.now in
+    let g : GdbState = gdb_state c.args.self.now c.args.images.now in
+    run_asked c.args.lacks load g _ _ _ (sym c.is_run_request.ensures ∙ runs)
+    (lacks_program c.args.lacks load _ _ c.if-lacks.true c.with_reply.ensures.reported c.with_reply.ensures.reply)
 
 pub returns-clause-reported : goal.returns-clause-reported
 returns-clause-reported c =
     let runs : c.is_run_request.result ≡ true = grind arith in
-    run_asked _ _ _ _ _ _ (sym c.is_run_request.ensures ∙ runs) (has_program _ _ _ _ _ c.if-lacks.false c.run.ensures.reported)
+    let load = map (λ p. p.items) c.args.load.now in
+    let g : GdbState = gdb_state c.args.self.now c.args.images.now in
+    run_asked c.args.lacks load g _ _ _ (sym c.is_run_request.ensures ∙ runs) (has_program c.args.lacks load g _ _ c.if-lacks.false c.run.ensures.reported)
