@@ -14,8 +14,8 @@ use debug_lines::{
     repeated_line, repeated_text, simple_command, tidied,
 };
 use debug_modules::{form_line, line_on, view_text};
-use debug_tables::byte_writes::find_text;
 use debug_tables::RunError;
+use debug_tables::byte_writes::find_text;
 use profile::Sink;
 use profile::images::Images;
 use profile::text_lines::Lines;

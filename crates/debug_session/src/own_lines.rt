@@ -12,8 +12,8 @@ use debug_modules::{
     PastDeed, SeenMachine, check, forget_text, halting_fault, push_answer, push_fail, push_halted,
     push_pass, put_text, refused_line, status_with, text_of,
 };
-use debug_tables::byte_writes::put_bytes;
 use debug_tables::RunError;
+use debug_tables::byte_writes::put_bytes;
 use profile::Sink;
 use profile::images::Images;
 use profile::text_sink::TextSink;

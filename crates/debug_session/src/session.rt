@@ -5,9 +5,7 @@ ghost use Rattle.debug_tables.specs.Error.{IsLineError};
 ghost use Rattle.profile.specs.Output.{AddsFront, Writes};
 
 use command_shell_lines::FailedBlocks;
-use debug_modules::{
-    CheckTally, DebugModes, LabelTable, Past, ReportForm, RunMeter, push_summary,
-};
+use debug_modules::{CheckTally, DebugModes, LabelTable, Past, ReportForm, RunMeter, push_summary};
 use debug_tables::{RunError, Session};
 use profile::images::Images;
 use profile::stop::stop_status;
